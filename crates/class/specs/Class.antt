@@ -1,0 +1,66 @@
+-- The classes (document 01, "The job" and "Level two"): accepted, kind, blank sides, depth.
+use mathlib.Core.Bool.{Bool, true, false, cond, not, _&&_, _||_}
+use Prim.Native.Nat.{ℕ, _*_, _/_, min}
+use lib.Dec.{leb, eqb}
+use Rattle.class.specs.declared.Kind.{Kind}
+use Rattle.class.specs.declared.Kind.the-variants.{KanaLike, Western, Space, Outside}
+use Rattle.class.specs.declared.Row.{Row}
+
+-- a to b
+abbrev pub within : ℕ → ℕ → ℕ → Bool
+within a b c = leb a c && leb c b
+
+-- "Accepted classes are 1 to 19 and 24 to 27."
+unfoldable pub accepted : ℕ → Bool
+accepted c = within 1 19 c || within 24 27 c
+
+-- "Western means classes 24, 25 and 27."
+unfoldable pub western : ℕ → Bool
+western c = eqb c 24 || (eqb c 25 || eqb c 27)
+
+-- "Kana-like means every accepted class but 24 to 27."
+unfoldable pub kanaLike : ℕ → Bool
+unfolding accepted
+kanaLike c = accepted c && not (within 24 27 c)
+
+unfoldable pub kindOf : ℕ → Kind
+unfolding western kanaLike
+kindOf c = cond (western c) Western (cond (kanaLike c) KanaLike (cond (eqb c 26) Space Outside))
+
+-- "Class 1 may have a blank before; 2, 6 and 7 a blank after; 5 both; all others neither."
+unfoldable pub blankBefore : ℕ → Bool
+blankBefore c = eqb c 1 || eqb c 5
+
+unfoldable pub blankAfter : ℕ → Bool
+blankAfter c = eqb c 2 || (eqb c 6 || (eqb c 7 || eqb c 5))
+
+-- "In class 14 both fields are 0 and the whole width is blank."
+unfoldable pub blankWhole : ℕ → Bool
+blankWhole c = eqb c 14
+
+-- "at most half an em; for class 5 a quarter em", in quarter ems, for each class that has a blank
+unfoldable pub quarters : ℕ → ℕ
+unfolding blankBefore blankAfter blankWhole
+quarters c = cond (eqb c 5) 1 (cond (blankBefore c || (blankAfter c || blankWhole c)) 2 0)
+
+-- the table's entry: "whether it is accepted, its kind, and the sides on which it may carry a blank", and the depth
+unfoldable pub rowOf : ℕ → Row
+unfolding accepted kindOf blankBefore blankAfter blankWhole quarters
+rowOf c = record { accepted = accepted c; kind = kindOf c; before = blankBefore c; after = blankAfter c; whole = blankWhole c; quarters = quarters c }
+
+-- the blank on a side, in units: the field as given where the class may carry one there, in class 14 the whole width
+abbrev pub blankOn : Bool → ℕ → ℕ → ℕ → ℕ
+blankOn side c width blank = cond (blankWhole c) width (cond side blank 0)
+
+-- in half units, of which an em has twice its units: half an em, for class 5 a quarter em
+abbrev pub deepest : ℕ → ℕ → ℕ
+deepest c em = cond (eqb c 5) (em / 2) em
+
+-- "The depth is at most the blank as given, and at most half an em; for class 5 a quarter em": in half units, before and after a P character
+unfoldable pub depthBefore : ℕ → ℕ → ℕ → ℕ → ℕ
+unfolding blankBefore blankWhole
+depthBefore c width blank em = min (2 * blankOn (blankBefore c) c width blank) (deepest c em)
+
+unfoldable pub depthAfter : ℕ → ℕ → ℕ → ℕ → ℕ
+unfolding blankAfter blankWhole
+depthAfter c width blank em = min (2 * blankOn (blankAfter c) c width blank) (deepest c em)

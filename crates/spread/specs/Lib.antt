@@ -1,0 +1,4 @@
+pub mod Worded
+pub mod Gap
+pub mod Running
+pub mod Laws

@@ -1,0 +1,74 @@
+-- A word by its numbers, as the engine carries it: block, ruby, and the space within each string. `Joined` shows that these are the places of `Alone`.
+use mathlib.Core.Bool.{Bool, true, false, cond}
+use mathlib.Core.List.{List, [], _∷_, _++_, map}
+use Prim.Native.Nat.{ℕ, _+_, _-_, _*_, max}
+use lib.Dec.{leb}
+use lib.ListN.{length, getD}
+use Rattle.basics.specs.Lists.{sum, lastOr}
+use Rattle.spread.specs.declared.Way.{Way}
+use Rattle.spread.specs.declared.Way.the-variants.{Solid}
+use Rattle.spread.specs.Gap.{gap, inner, starts}
+use Rattle.word.specs.declared.Script.{Script}
+use Rattle.word.specs.declared.Script.the-variants.{Kana, Western}
+use Rattle.word.specs.declared.Form.{Form}
+use Rattle.word.specs.declared.Form.the-variants.{P, M, G, J}
+use Rattle.word.specs.declared.Word.{Word}
+use Rattle.word.specs.Given.{Given}
+use Rattle.word.specs.Alone.{script, rubyWay, baseWay, split, anyLonger}
+
+-- the word whose ruby is no longer than its base, its gap in front g; and the word whose base is the shorter
+unfoldable pub shortRuby : ℕ → ℕ → ℕ → Word
+shortRuby B R g = record { front = 0; len = 2 * B; ruby = true; from = g; upto = g + 2 * R + inner (B - R) g; inbase = 0; inruby = inner (B - R) g; runs = false }
+
+unfoldable pub shortBase : ℕ → ℕ → ℕ → Word
+shortBase B R g = record { front = g; len = 2 * B + inner (R - B) g; ruby = true; from = 0; upto = 2 * R; inbase = inner (R - B) g; inruby = 0; runs = false }
+
+unfoldable pub wordBy : Way → Way → ℕ → List ℕ → List ℕ → Word
+unfolding shortRuby shortBase
+wordBy r b em bs rs =
+    cond (leb (sum rs) (sum bs))
+    (shortRuby (sum bs) (sum rs) (gap r em (sum bs - sum rs) (length rs)))
+    (shortBase (sum bs) (sum rs) (gap b em (sum rs - sum bs) (length bs)))
+
+-- a word without ruby
+unfoldable pub plain : ℕ → Word
+plain B = record { front = 0; len = 2 * B; ruby = false; from = 0; upto = 0; inbase = 0; inruby = 0; runs = false }
+
+unfoldable pub groupWord : Script → Script → ℕ → List ℕ → List ℕ → Word
+unfolding wordBy
+groupWord r b em bs rs = wordBy (rubyWay r b) (baseWay r b) em bs rs
+
+-- each run over its own character of one em: the ruby lies within the block, from the first run's start to the last run's end; lengths are those of the runs
+unfoldable pub overEach : ℕ → ℕ → List ℕ → Word
+overEach em B lengths =
+    record { front = 0; len = 2 * B; ruby = true; from = em - getD lengths 0 0; upto = 2 * B - (em - lastOr 0 lengths); inbase = 0; inruby = 0; runs = true }
+
+unfoldable pub jukugoWord : Script → ℕ → List ℕ → List ℕ → List ℕ → Word
+unfolding groupWord overEach
+jukugoWord r em bs runs rs = cond (anyLonger em (split runs rs)) (groupWord r Kana em bs rs) (overEach em (sum bs) (map sum (split runs rs)))
+
+unfoldable pub wordOf : Form → Given → Word
+unfolding plain wordBy groupWord jukugoWord
+wordOf P w = plain (sum (w .width))
+wordOf M w = wordBy Solid Solid (w .em) (w .width) (w .rubyWidth)
+wordOf G w = groupWord (script (w .rubyClass)) (script (w .class)) (w .em) (w .width) (w .rubyWidth)
+wordOf J w = jukugoWord (script (w .rubyClass)) (w .em) (w .width) (w .run) (w .rubyWidth)
+
+-- from the start of the longer string to its end
+abbrev pub total : Word → ℕ
+total w = max (w .front + w .len) (w .upto)
+
+-- each run solid over its own character, the first of which starts at `at`
+unfoldable pub runStarts : ℕ → ℕ → List (List ℕ) → List ℕ
+unfolding starts
+runStarts em at [] = []
+runStarts em at (run ∷ runs) = starts 0 (at + (em - sum run)) run ++ runStarts em (at + 2 * em) runs
+
+-- the positions of a word's characters, its origin at x
+unfoldable pub baseStarts : Word → ℕ → List ℕ → List ℕ
+unfolding starts
+baseStarts w x bs = starts (w .inbase) (x + w .front) bs
+
+unfoldable pub rubyStarts : Word → ℕ → ℕ → List ℕ → List ℕ → List ℕ
+unfolding starts runStarts
+rubyStarts w em x runs rs = cond (w .runs) (runStarts em x (split runs rs)) (starts (w .inruby) (x + w .from) rs)

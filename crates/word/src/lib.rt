@@ -1,0 +1,462 @@
+// Level one: the word alone (document 01, "Level one"). `measure` answers a word's record by value and writes nothing; `put_base` and
+// `put_ruby` write the places of its characters at a given origin into lent parts. A word is set in its own coordinates, in
+// half units from the start of its longer string. Nothing but the word comes in (em, form, its own characters), so no neighbour
+// can alter what it decides. It relies on `class` for kinds, on `spread` for one string, on `refusal` and on `basics`.
+ghost use mathlib.Core.Path.{_≡_};
+ghost use mathlib.Core.Bool.{true, false, _&&_, _||_};
+ghost use Prim.Native.Nat.{_+_, _-_, _^_, _≤_, _<_};
+ghost use lib.ListN.{length, getD};
+ghost use mathlib.Core.List.{[], map};
+ghost use Rattle.basics.specs.Lists.{sum, any, other};
+ghost use Rattle.spread.specs.Gap.{starts};
+ghost use Rattle.spread.specs.Running.{Ready};
+ghost use Rattle.word.specs.Alone.{rubyWay, baseWay, split};
+ghost use Rattle.word.specs.Word.{plain, wordBy, groupWord, jukugoWord, runStarts, baseStarts, rubyStarts};
+ghost use Rattle.word.specs.Answer.{answer};
+ghost use Rattle.word.specs.Sized.{Small, Sized, RunsReady};
+ghost use Rattle.word.specs.Kinds.{mixOf, mixedBy, scriptBy, notKanaBy, with};
+ghost use Rattle.word.specs.Runs.{runsOf};
+
+// The kinds of element (document 01, "The job").
+pub enum Form {
+    P,
+    M,
+    G,
+    J,
+}
+
+// A word: its block is [front, front + len), its ruby, if it has one, [from, upto). inbase and inruby are the half units of
+// space within each string; with runs, each ruby run stands solid over its own character instead.
+pub struct Word {
+    pub front: u32,
+    pub len: u32,
+    pub ruby: bool,
+    pub from: u32,
+    pub upto: u32,
+    pub inbase: u32,
+    pub inruby: u32,
+    pub runs: bool,
+}
+
+// An element set within itself, or its refusal with the element's place.
+pub enum Answer {
+    Set(Word),
+    Refused(refusal::Refusal),
+}
+
+// What a string is made of, once number 9 has let it pass.
+pub enum Script {
+    Kana,
+    Western,
+}
+
+// The kinds that a string has; `outside` are those that no job may have.
+pub struct Mix {
+    pub kana: bool,
+    pub western: bool,
+    pub space: bool,
+    pub outside: bool,
+}
+
+// The runs of a J: the length in units of the last, where none is longer than one em.
+pub enum Runs {
+    Fit(u32),
+    Longer,
+}
+
+// What is found once one more character of the kind k is.
+fn with_kind(m: Mix, k: class::Kind) -> Mix
+    ensures { λ r. ⌜ r ≡ with m k ⌝ }
+{
+    match k {
+        class::Kind::KanaLike => Mix {
+            kana: true,
+            western: m.western,
+            space: m.space,
+            outside: m.outside,
+        },
+        class::Kind::Western => Mix {
+            kana: m.kana,
+            western: true,
+            space: m.space,
+            outside: m.outside,
+        },
+        class::Kind::Space => Mix {
+            kana: m.kana,
+            western: m.western,
+            space: true,
+            outside: m.outside,
+        },
+        class::Kind::Outside => Mix {
+            kana: m.kana,
+            western: m.western,
+            space: m.space,
+            outside: true,
+        },
+    }
+}
+
+// The kinds of a string's characters, in one pass.
+fn mix_of(cs: &[u32]) -> Mix
+    ensures { λ r. ⌜ r ≡ mixOf (now (cs .entry)) ⌝ }
+{
+    let mut m = Mix {
+        kana: false,
+        western: false,
+        space: false,
+        outside: false,
+    };
+    let mut i: usize = 0;
+    while i < cs.len() {
+        m = with_kind(m, class::kind_of(cs[i]));
+        i += 1;
+    }
+    m
+}
+
+// Number 9 of one string.
+fn is_mixed(m: Mix) -> bool
+    ensures { λ r. ⌜ r ≡ mixedBy m ⌝ }
+{
+    let space = m.space;
+    let western = m.western;
+    if space {
+        return true;
+    }
+    if western { m.kana } else { false }
+}
+
+// Some character is not kana-like.
+fn not_kana(m: Mix) -> bool
+    ensures { λ r. ⌜ r ≡ notKanaBy m ⌝ }
+{
+    let western = m.western;
+    let space = m.space;
+    if western {
+        return true;
+    }
+    if space { true } else { m.outside }
+}
+
+fn script_of(m: Mix) -> Script
+    ensures { λ r. ⌜ r ≡ scriptBy m ⌝ }
+{
+    let western = m.western;
+    if western {
+        Script::Western
+    } else {
+        Script::Kana
+    }
+}
+
+// How the ruby of a G is set where it is the shorter.
+fn ruby_way(r: Script, b: Script) -> spread::Way
+    ensures { λ w. ⌜ w ≡ rubyWay r b ⌝ }
+{
+    match r {
+        Script::Kana => match b {
+            Script::Kana => spread::Way::Limited,
+            Script::Western => spread::Way::Spread,
+        },
+        Script::Western => match b {
+            Script::Kana => spread::Way::Solid,
+            Script::Western => spread::Way::Solid,
+        },
+    }
+}
+
+// How the base of a G is set where it is the shorter.
+fn base_way(r: Script, b: Script) -> spread::Way
+    ensures { λ w. ⌜ w ≡ baseWay r b ⌝ }
+{
+    match r {
+        Script::Kana => match b {
+            Script::Kana => spread::Way::Spread,
+            Script::Western => spread::Way::Solid,
+        },
+        Script::Western => match b {
+            Script::Kana => spread::Way::Spread,
+            Script::Western => spread::Way::Solid,
+        },
+    }
+}
+
+// A word without ruby, of the width b in units.
+fn plain_of(b: u32) -> Word
+    requires { ⌜ b ≤ 131072 ⌝ }
+    ensures { λ w. ⌜ w ≡ plain b ⌝ }
+{
+    Word {
+        front: 0,
+        len: 2 * b,
+        ruby: false,
+        from: 0,
+        upto: 0,
+        inbase: 0,
+        inruby: 0,
+        runs: false,
+    }
+}
+
+// The word of two strings, by the way of each where it is the shorter.
+fn word_by(ruby: spread::Way, base: spread::Way, em: u32, bs: &[u32], rs: &[u32]) -> Word
+    requires { ⌜ Small (now bs) (now rs) ⌝ }
+    ensures { λ r. ⌜ r ≡ wordBy ruby base em (now (bs .entry)) (now (rs .entry)) ⌝ }
+{
+    let b = basics::sum_of(bs);
+    let r = basics::sum_of(rs);
+    if r <= b {
+        let n = rs.len() as u32;
+        let g = spread::gap_of(ruby, em, b - r, n);
+        let within = 2 * (b - r) - 2 * g;
+        return Word {
+            front: 0,
+            len: 2 * b,
+            ruby: true,
+            from: g,
+            upto: g + 2 * r + within,
+            inbase: 0,
+            inruby: within,
+            runs: false,
+        };
+    }
+    let n = bs.len() as u32;
+    let g = spread::gap_of(base, em, r - b, n);
+    let within = 2 * (r - b) - 2 * g;
+    Word {
+        front: g,
+        len: 2 * b + within,
+        ruby: true,
+        from: 0,
+        upto: 2 * r,
+        inbase: within,
+        inruby: 0,
+        runs: false,
+    }
+}
+
+fn group_of(r: Script, b: Script, em: u32, bs: &[u32], rs: &[u32]) -> Word
+    requires { ⌜ Small (now bs) (now rs) ⌝ }
+    ensures { λ w. ⌜ w ≡ groupWord r b em (now (bs .entry)) (now (rs .entry)) ⌝ }
+{
+    let ruby = ruby_way(r, b);
+    let base = base_way(r, b);
+    word_by(ruby, base, em, bs, rs)
+}
+
+// A J's runs against one em.
+fn runs_in(em: u32, runs: &[u32], ws: &[u32]) -> Runs
+    requires { ⌜ (sum (now runs) ≤ length (now ws)) × (sum (now ws) < 2 ^ 32) ⌝ }
+    ensures { λ r. ⌜ r ≡ runsOf em (now (runs .entry)) (now (ws .entry)) ⌝ }
+{
+    let mut last: u32 = 0;
+    let mut a: usize = 0;
+    let mut k: usize = 0;
+    while k < runs.len() {
+        let e = a + runs[k] as usize;
+        last = basics::sum_of(&ws[a..e]);
+        if em < last {
+            return Runs::Longer;
+        }
+        a = e;
+        k += 1;
+    }
+    Runs::Fit(last)
+}
+
+// The length of a J's first run.
+fn first_run(runs: &[u32], ws: &[u32]) -> u32
+    requires { ⌜ (sum (now runs) ≤ length (now ws)) × (sum (now ws) < 2 ^ 32) ⌝ }
+    ensures { λ r. ⌜ r ≡ getD (map sum (split (now (runs .entry)) (now (ws .entry)))) 0 0 ⌝ }
+{
+    if runs.len() == 0 {
+        return 0;
+    }
+    let n = runs[0] as usize;
+    basics::sum_of(&ws[0..n])
+}
+
+fn jukugo_of(r: Script, em: u32, bs: &[u32], runs: &[u32], rs: &[u32]) -> Word
+    requires { ⌜ (Small (now bs) (now rs)) × (sum (now runs) ≤ length (now rs)) × (em ≤ sum (now bs)) ⌝ }
+    ensures { λ w. ⌜ w ≡ jukugoWord r em (now (bs .entry)) (now (runs .entry)) (now (rs .entry)) ⌝ }
+{
+    match runs_in(em, runs, rs) {
+        Runs::Longer => group_of(r, Script::Kana, em, bs, rs),
+        Runs::Fit(last) => {
+            let b = basics::sum_of(bs);
+            let first = first_run(runs, rs);
+            Word {
+                front: 0,
+                len: 2 * b,
+                ruby: true,
+                from: em - first,
+                upto: 2 * b - (em - last),
+                inbase: 0,
+                inruby: 0,
+                runs: true,
+            }
+        }
+    }
+}
+
+// Number 7 of an element with ruby.
+fn blank_inside(before: &[u32], after: &[u32]) -> bool
+    ensures { λ r. ⌜ r ≡ (any (other 0) (now (before .entry)) || any (other 0) (now (after .entry))) ⌝ }
+{
+    if basics::any_but(0, before) {
+        return true;
+    }
+    basics::any_but(0, after)
+}
+
+// Number 10, by the kinds of ruby and base.
+fn western_over(r: Mix, b: Mix) -> bool
+    ensures { λ t. ⌜ t ≡ (r .western && b .western) ⌝ }
+{
+    let over = r.western;
+    if over { b.western } else { false }
+}
+
+// An M: number 7, or its word.
+fn mono_answer(place: u32, em: u32, bs: &[u32], before: &[u32], after: &[u32], rs: &[u32]) -> Answer
+    requires { ⌜ Small (now bs) (now rs) ⌝ }
+    ensures { λ a. ⌜ a ≡ answer Form.M place (record { em = em; class = []; width = now (bs .entry); before = now (before .entry); after = now (after .entry); rubyClass = []; rubyWidth = now (rs .entry); run = [] }) ⌝ }
+{
+    if blank_inside(before, after) {
+        return Answer::Refused(refusal::Refusal::BlankInside(place));
+    }
+    Answer::Set(word_by(spread::Way::Solid, spread::Way::Solid, em, bs, rs))
+}
+
+// A G: numbers 7, 9 and 10, or its word.
+fn group_answer(
+    place: u32,
+    em: u32,
+    bc: &[u32],
+    bs: &[u32],
+    before: &[u32],
+    after: &[u32],
+    rc: &[u32],
+    rs: &[u32],
+) -> Answer
+    requires { ⌜ Small (now bs) (now rs) ⌝ }
+    ensures { λ a. ⌜ a ≡ answer Form.G place (record { em = em; class = now (bc .entry); width = now (bs .entry); before = now (before .entry); after = now (after .entry); rubyClass = now (rc .entry); rubyWidth = now (rs .entry); run = [] }) ⌝ }
+{
+    if blank_inside(before, after) {
+        return Answer::Refused(refusal::Refusal::BlankInside(place));
+    }
+    let b = mix_of(bc);
+    if is_mixed(b) {
+        return Answer::Refused(refusal::Refusal::Mixed(place));
+    }
+    let r = mix_of(rc);
+    if is_mixed(r) {
+        return Answer::Refused(refusal::Refusal::Mixed(place));
+    }
+    if western_over(r, b) {
+        return Answer::Refused(refusal::Refusal::WesternOver(place));
+    }
+    Answer::Set(group_of(script_of(r), script_of(b), em, bs, rs))
+}
+
+// A J: numbers 7, 8 and 9, or its word. Once 8 has passed its base is kana-like throughout, so 9 is about its ruby alone.
+fn jukugo_answer(
+    place: u32,
+    em: u32,
+    bc: &[u32],
+    bs: &[u32],
+    before: &[u32],
+    after: &[u32],
+    rc: &[u32],
+    rs: &[u32],
+    runs: &[u32],
+) -> Answer
+    requires { ⌜ (Small (now bs) (now rs)) × (sum (now runs) ≤ length (now rs)) ⌝ }
+    ensures { λ a. ⌜ a ≡ answer Form.J place (record { em = em; class = now (bc .entry); width = now (bs .entry); before = now (before .entry); after = now (after .entry); rubyClass = now (rc .entry); rubyWidth = now (rs .entry); run = now (runs .entry) }) ⌝ }
+{
+    if blank_inside(before, after) {
+        return Answer::Refused(refusal::Refusal::BlankInside(place));
+    }
+    if not_kana(mix_of(bc)) {
+        return Answer::Refused(refusal::Refusal::JukugoBase(place));
+    }
+    if basics::any_but(em, bs) {
+        return Answer::Refused(refusal::Refusal::JukugoBase(place));
+    }
+    let r = mix_of(rc);
+    if is_mixed(r) {
+        return Answer::Refused(refusal::Refusal::Mixed(place));
+    }
+    Answer::Set(jukugo_of(script_of(r), em, bs, runs, rs))
+}
+
+// An element set within itself, or the first refusal that holds of it. What its form does not have is not read: ruby and blanks of a P, runs but a J's.
+pub fn measure(
+    form: Form,
+    place: u32,
+    em: u32,
+    bc: &[u32],
+    bs: &[u32],
+    before: &[u32],
+    after: &[u32],
+    rc: &[u32],
+    rs: &[u32],
+    runs: &[u32],
+) -> Answer
+    requires { ⌜ Sized form (now bs) (now rs) (now runs) ⌝ }
+    ensures { λ a. ⌜ a ≡ answer form place (record { em = em; class = now (bc .entry); width = now (bs .entry); before = now (before .entry); after = now (after .entry); rubyClass = now (rc .entry); rubyWidth = now (rs .entry); run = now (runs .entry) }) ⌝ }
+{
+    match form {
+        Form::P => Answer::Set(plain_of(basics::sum_of(bs))),
+        Form::M => mono_answer(place, em, bs, before, after, rs),
+        Form::G => group_answer(place, em, bc, bs, before, after, rc, rs),
+        Form::J => jukugo_answer(place, em, bc, bs, before, after, rc, rs, runs),
+    }
+}
+
+// The starts of one run, solid over its character of one em, which starts at `at`.
+fn put_run(em: u32, at: u32, ws: &[u32], out: &mut [u32])
+    requires { ⌜ (length (now ws) ≡ length (now out)) × (length (now ws) ≤ 64) × (em ≤ 4096) × (sum (now ws) ≤ em) × (at < 3221225472) ⌝ }
+    ensures { λ _. ⌜ now (out .exit) ≡ starts 0 (at + (em - sum (now (ws .entry)))) (now (ws .entry)) ⌝ }
+{
+    let s = basics::sum_of(ws);
+    spread::put_starts(ws, at + (em - s), 0, out);
+}
+
+// The starts of a J's ruby where no run is longer than one em.
+fn put_runs(em: u32, at: u32, runs: &[u32], ws: &[u32], out: &mut [u32])
+    requires { ⌜ RunsReady em at (now runs) (now ws) (now out) ⌝ }
+    ensures { λ _. ⌜ now (out .exit) ≡ runStarts em at (split (now (runs .entry)) (now (ws .entry))) ⌝ }
+{
+    let mut a: usize = 0;
+    let mut x = at;
+    let mut k: usize = 0;
+    while k < runs.len() {
+        let e = a + runs[k] as usize;
+        put_run(em, x, &ws[a..e], &mut out[a..e]);
+        a = e;
+        x += 2 * em;
+        k += 1;
+    }
+}
+
+// The positions of a word's base characters, the word's origin at `at`.
+pub fn put_base(w: Word, at: u32, bs: &[u32], out: &mut [u32])
+    requires { ⌜ Ready (w .inbase) (at + w .front) (now bs) (now out) ⌝ }
+    ensures { λ _. ⌜ now (out .exit) ≡ baseStarts w at (now (bs .entry)) ⌝ }
+{
+    spread::put_starts(bs, at + w.front, w.inbase, out);
+}
+
+// The positions of its ruby characters.
+pub fn put_ruby(w: Word, em: u32, at: u32, runs: &[u32], rs: &[u32], out: &mut [u32])
+    requires { ⌜ (w .runs ≡ true → RunsReady em at (now runs) (now rs) (now out)) × (w .runs ≡ false → Ready (w .inruby) (at + w .from) (now rs) (now out)) ⌝ }
+    ensures { λ _. ⌜ now (out .exit) ≡ rubyStarts w em at (now (runs .entry)) (now (rs .entry)) ⌝ }
+{
+    let each = w.runs;
+    if each {
+        put_runs(em, at, runs, rs, out);
+        return;
+    }
+    spread::put_starts(rs, at + w.from, w.inruby, out);
+}

@@ -1,0 +1,154 @@
+"""Compares an engine with the second program, byte for byte.
+
+    python3 compare.py --engine CMD --seed S --count N
+
+CMD reads framed sheets on standard input (`sheet LENGTH`, then the bytes) and
+writes for each of them `answer LENGTH` and the answer's bytes.  Every sheet
+in kept/ is compared first, then the first N sheets of the seed.  A sheet that
+shows a difference is printed with both answers and put into kept/.
+
+The last line is `compared N sheets, D differences`; the exit status is 0 only
+if D is 0.
+"""
+
+import argparse
+import hashlib
+import io
+import os
+import shlex
+import subprocess
+import sys
+
+HERE = os.path.dirname(os.path.abspath(__file__))
+sys.path.insert(0, HERE)
+
+import generate     # noqa: E402  (found through the path set above)
+import second       # noqa: E402
+
+BATCH = 200     # sheets for one run of the engine
+
+
+def kept_sheets(folder):
+    """The sheets of earlier differences, by name."""
+    if not os.path.isdir(folder):
+        return
+    for name in sorted(os.listdir(folder)):
+        if name.endswith('.sheet'):
+            with open(os.path.join(folder, name), 'rb') as file:
+                yield file.read()
+
+
+def keep(folder, sheet):
+    """Writes a sheet to the folder under a short hash of its bytes."""
+    os.makedirs(folder, exist_ok=True)
+    name = hashlib.sha256(sheet).hexdigest()[:12] + '.sheet'
+    path = os.path.join(folder, name)
+    with open(path, 'wb') as file:
+        file.write(sheet)
+    return path
+
+
+def all_sheets(folder, seed, count):
+    yield from kept_sheets(folder)
+    yield from generate.sheets(seed, count)
+
+
+def batches(sheets):
+    batch = []
+    for sheet in sheets:
+        batch.append(sheet)
+        if len(batch) == BATCH:
+            yield batch
+            batch = []
+    if batch:
+        yield batch
+
+
+def run_engine(command, batch):
+    """One run of the engine: the whole frames it wrote, and what was odd."""
+    frames = io.BytesIO()
+    for sheet in batch:
+        second.write_frame(frames, b'sheet', sheet)
+    done = subprocess.run(command, input=frames.getvalue(),
+                          stdout=subprocess.PIPE)
+    answers, odd = [], ''
+    output = io.BytesIO(done.stdout)
+    try:
+        answer = second.read_frame(output, b'answer')
+        while answer is not None:
+            answers.append(answer)
+            answer = second.read_frame(output, b'answer')
+    except ValueError as error:
+        odd = str(error)
+    if done.returncode != 0:
+        odd = (odd + '; ' if odd else '') + 'status %d' % done.returncode
+    return answers, odd
+
+
+def engine_answers(command, batch):
+    """An answer for each sheet; None where the engine gave none.
+
+    After a sheet without an answer the engine is started anew behind it, so
+    that one bad sheet is one difference.
+    """
+    answers = []
+    while len(answers) < len(batch):
+        rest = batch[len(answers):]
+        some, odd = run_engine(command, rest)
+        if len(some) > len(rest):
+            some, odd = [], 'more answers than sheets'
+        answers += some
+        if len(some) < len(rest):
+            print('the engine gave no answer to a sheet: %s' % (odd or 'end'))
+            answers.append(None)
+        elif odd:
+            # Every sheet has its answer, but the run did not end well.
+            print('after a batch: %s' % odd)
+            answers[-1] = None
+    return answers
+
+
+def readable(content):
+    """Bytes as text in which every odd byte can be seen."""
+    if content is None:
+        return '(no answer)\n'
+    text = content.decode('ascii', 'backslashreplace')
+    text = ''.join(c if c == '\n' or ' ' <= c <= '~' else '\\x%02x' % ord(c)
+                   for c in text)
+    return text if text.endswith('\n') else text + '(no LF)\n'
+
+
+def show_difference(path, sheet, engine, expected):
+    print('difference: %s' % path)
+    print('--- sheet\n%s--- engine\n%s--- second program\n%s---'
+          % (readable(sheet), readable(engine), readable(expected)))
+
+
+def compare(command, folder, seed, count):
+    """(sheets compared, differences)"""
+    compared = differences = 0
+    for batch in batches(all_sheets(folder, seed, count)):
+        for sheet, engine in zip(batch, engine_answers(command, batch)):
+            expected = second.answer(sheet)
+            compared += 1
+            if engine != expected:
+                differences += 1
+                show_difference(keep(folder, sheet), sheet, engine, expected)
+    return compared, differences
+
+
+def main():
+    parser = argparse.ArgumentParser()
+    parser.add_argument('--engine', required=True)
+    parser.add_argument('--seed', type=int, required=True)
+    parser.add_argument('--count', type=int, required=True)
+    chosen = parser.parse_args()
+    compared, differences = compare(
+        shlex.split(chosen.engine), os.path.join(HERE, 'kept'),
+        chosen.seed, chosen.count)
+    print('compared %d sheets, %d differences' % (compared, differences))
+    sys.exit(0 if differences == 0 else 1)
+
+
+if __name__ == '__main__':
+    main()

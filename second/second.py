@@ -1,0 +1,1020 @@
+"""The second program of Bolyverit: document 01, read plainly.
+
+It reads a job sheet on standard input and writes what the setting program
+writes.  It states the rules of document 01 one by one and looks for nothing
+clever; it exists to be compared, byte for byte, with the proved engine.
+
+    python3 second.py < sheet              one sheet, one answer
+    python3 second.py --framed < sheets    many sheets (see README.md)
+
+Widths are whole units.  Positions are in half units.
+Section names in comments are those of document 01.
+"""
+
+import sys
+
+LARGEST_NUMBER = 4294967295
+LARGEST_SHEET = 65535
+
+MOST_BASE = 1024
+MOST_RUBY = 2048
+MOST_ELEMENTS = 1024
+
+# How a kind is written in a list: the byte of the sheet's letter.
+P, M, G, J = 80, 77, 71, 74
+
+
+class Refused(Exception):
+    """Refusal list: "Each returns its number and a place." """
+
+    def __init__(self, number, place):
+        super().__init__(number, place)
+        self.number = number
+        self.place = place
+
+
+# ---------------------------------------------------------------------------
+# Classes
+# ---------------------------------------------------------------------------
+
+def is_accepted(cls):
+    # The job: "Accepted classes are 1 to 19 and 24 to 27."
+    return 1 <= cls <= 19 or 24 <= cls <= 27
+
+
+def is_western(cls):
+    # The job: "Western means classes 24, 25 and 27."
+    return cls in (24, 25, 27)
+
+
+def is_kana_like(cls):
+    # The job: "Kana-like means every accepted class but 24 to 27."
+    return is_accepted(cls) and not 24 <= cls <= 27
+
+
+def may_have_blank_before(cls):
+    # The job: "Class 1 may have a blank before; ... 5 both; all others
+    # neither."  (The fields; class 14 has 0 in both.)
+    return cls in (1, 5)
+
+
+def may_have_blank_after(cls):
+    # The job: "2, 6 and 7 a blank after; 5 both; all others neither."
+    return cls in (2, 5, 6, 7)
+
+
+# ---------------------------------------------------------------------------
+# The job, as lists
+# ---------------------------------------------------------------------------
+
+class Element:
+    """One element with the characters it takes, by index in the job."""
+
+    def __init__(self, kind, base_first, base_end, ruby_first, ruby_end, runs):
+        self.kind = kind
+        self.base_first = base_first    # its first base character
+        self.base_end = base_end        # one past its last base character
+        self.ruby_first = ruby_first
+        self.ruby_end = ruby_end
+        self.runs = runs                # J: ruby count of each base character
+
+
+class Job:
+    """The lists of a job and, once they are known, its elements."""
+
+    def __init__(self, em, measure, base_class, base_width, blank_before,
+                 blank_after, flag, ruby_class, ruby_width, kind, elem_base,
+                 elem_ruby, runs):
+        self.em = em
+        self.measure = measure
+        self.base_class = base_class
+        self.base_width = base_width
+        self.blank_before = blank_before
+        self.blank_after = blank_after
+        self.flag = flag
+        self.ruby_class = ruby_class
+        self.ruby_width = ruby_width
+        self.kind = kind
+        self.elem_base = elem_base
+        self.elem_ruby = elem_ruby
+        self.runs = runs
+        # The job: "Where a kind's fields come in several lists, its count is
+        # the shortest list's length."  The run list is not one of these.
+        self.base_count = min(len(base_class), len(base_width),
+                              len(blank_before), len(blank_after), len(flag))
+        self.ruby_count = min(len(ruby_class), len(ruby_width))
+        self.element_count = min(len(kind), len(elem_base), len(elem_ruby))
+        self.elements = []
+        self.words = {}     # level one's answers, by element part
+
+
+# ---------------------------------------------------------------------------
+# Refusals 1, 2, 12
+# ---------------------------------------------------------------------------
+
+def check_sizes(job):
+    # Refusal 1: "em odd, or em or measure out of range"; place 0 em, 1
+    # measure.  The job: "em: even, 2 to 4,096. Measure: 1 to 4,000,000."
+    if job.em % 2 != 0 or not 2 <= job.em <= 4096:
+        raise Refused(1, 0)
+    if not 1 <= job.measure <= 4000000:
+        raise Refused(1, 1)
+
+
+def check_counts(job):
+    # Refusal 2: "a count over its maximum"; 0 base, 1 ruby, 2 elements.
+    if job.base_count > MOST_BASE:
+        raise Refused(2, 0)
+    if job.ruby_count > MOST_RUBY:
+        raise Refused(2, 1)
+    if job.element_count > MOST_ELEMENTS:
+        raise Refused(2, 2)
+
+
+def check_room(job, base_out, ruby_out, line_out):
+    # Refusal 12: "a result list too short: base list or line list below the
+    # base count, ruby list below the ruby count"; place 0.
+    if len(base_out) < job.base_count:
+        raise Refused(12, 0)
+    if len(line_out) < job.base_count:
+        raise Refused(12, 0)
+    if len(ruby_out) < job.ruby_count:
+        raise Refused(12, 0)
+
+
+# ---------------------------------------------------------------------------
+# Refusals 3 and 4
+# ---------------------------------------------------------------------------
+
+def check_characters(job):
+    # Order: "then base characters and then ruby characters in turn, 3 before
+    # 4": character by character, and 3 before 4 within a character.
+    for index in range(job.base_count):
+        check_base_character(job, index)
+        check_blanks(job, index)
+    for index in range(job.ruby_count):
+        check_ruby_character(job, index)
+
+
+def check_base_character(job, index):
+    # Refusal 3: "class, width or flag not accepted"; place the character.
+    if not is_accepted(job.base_class[index]):
+        raise Refused(3, index)
+    if not 1 <= job.base_width[index] <= 4096:
+        raise Refused(3, index)
+    if job.flag[index] not in (0, 1):
+        raise Refused(3, index)
+
+
+def check_ruby_character(job, index):
+    # Refusal 3 for ruby: place "ruby ones 1,024 + index".
+    if not is_accepted(job.ruby_class[index]):
+        raise Refused(3, 1024 + index)
+    if not 1 <= job.ruby_width[index] <= 4096:
+        raise Refused(3, 1024 + index)
+
+
+def check_blanks(job, index):
+    # Refusal 4: "blanks against the class or over the width".
+    cls = job.base_class[index]
+    before = job.blank_before[index]
+    after = job.blank_after[index]
+    if before != 0 and not may_have_blank_before(cls):
+        raise Refused(4, index)
+    if after != 0 and not may_have_blank_after(cls):
+        raise Refused(4, index)
+    # The job: the blanks "together don't exceed" the width.
+    if before + after > job.base_width[index]:
+        raise Refused(4, index)
+
+
+# ---------------------------------------------------------------------------
+# Refusals 5 to 10
+# ---------------------------------------------------------------------------
+
+def take_elements(job):
+    # Order: "then elements in turn, in the table's order from 5; then
+    # leftover characters".
+    base_taken = ruby_taken = runs_taken = 0
+    for place in range(job.element_count):
+        base, ruby, runs = element_counts(job, place, runs_taken)
+        # Refusal 6: "characters run out"; place the element.
+        if base_taken + base > job.base_count:
+            raise Refused(6, place)
+        if ruby_taken + ruby > job.ruby_count:
+            raise Refused(6, place)
+        element = Element(job.kind[place], base_taken, base_taken + base,
+                          ruby_taken, ruby_taken + ruby, runs)
+        check_blanks_inside(job, element, place)
+        check_jukugo_base(job, element, place)
+        check_mixture(job, element, place)
+        check_western_over_western(job, element, place)
+        job.elements.append(element)
+        base_taken = element.base_end
+        ruby_taken = element.ruby_end
+        runs_taken += len(runs)
+    # Refusal 6: "or some are left over"; place "the element count".
+    if base_taken < job.base_count or ruby_taken < job.ruby_count:
+        raise Refused(6, job.element_count)
+
+
+def element_counts(job, place, runs_taken):
+    # Refusal 5: "unknown kind, or element counts out of range".
+    # "Nor are counts a kind doesn't show on the sheet [read]: both of P, the
+    # base count of M, the ruby count of J."
+    kind = job.kind[place]
+    if kind == P:
+        # "P: one base character, no ruby."
+        return 1, 0, []
+    if kind == M:
+        # "M: one base character, 1 to 64 ruby characters."
+        if not 1 <= job.elem_ruby[place] <= 64:
+            raise Refused(5, place)
+        return 1, job.elem_ruby[place], []
+    if kind == G:
+        # "G: 1 to 32 base characters, 1 to 64 ruby characters."
+        if not 1 <= job.elem_base[place] <= 32:
+            raise Refused(5, place)
+        if not 1 <= job.elem_ruby[place] <= 64:
+            raise Refused(5, place)
+        return job.elem_base[place], job.elem_ruby[place], []
+    if kind == J:
+        # "J: 1 to 32 base characters, each with its own run of at least 1
+        # ruby character, 64 in all at most."
+        if not 1 <= job.elem_base[place] <= 32:
+            raise Refused(5, place)
+        runs = [run_at(job, runs_taken + i)
+                for i in range(job.elem_base[place])]
+        if 0 in runs or sum(runs) > 64:
+            raise Refused(5, place)
+        return job.elem_base[place], sum(runs), runs
+    raise Refused(5, place)
+
+
+def run_at(job, index):
+    # The job: "a J run past the end of its list reads as 0".
+    return job.runs[index] if index < len(job.runs) else 0
+
+
+def check_blanks_inside(job, element, place):
+    # Refusal 7: "a blank field not 0 inside M, G or J (class 14 passes)".
+    # Class 14 passes by itself: its fields are 0, or it was a 4.
+    if element.kind == P:
+        return
+    for index in range(element.base_first, element.base_end):
+        if job.blank_before[index] != 0 or job.blank_after[index] != 0:
+            raise Refused(7, place)
+
+
+def check_jukugo_base(job, element, place):
+    # Refusal 8: "a J base character not kana-like or not one em wide".
+    if element.kind != J:
+        return
+    for index in range(element.base_first, element.base_end):
+        if not is_kana_like(job.base_class[index]):
+            raise Refused(8, place)
+        if job.base_width[index] != job.em:
+            raise Refused(8, place)
+
+
+def check_mixture(job, element, place):
+    # Refusal 9: "class 26, or Western and kana-like mixed, within the base
+    # or the ruby of G or J".
+    if element.kind not in (G, J):
+        return
+    base = job.base_class[element.base_first:element.base_end]
+    ruby = job.ruby_class[element.ruby_first:element.ruby_end]
+    for classes in (base, ruby):
+        if 26 in classes:
+            raise Refused(9, place)
+        if any(map(is_western, classes)) and any(map(is_kana_like, classes)):
+            raise Refused(9, place)
+
+
+def check_western_over_western(job, element, place):
+    # Refusal 10: "Western ruby over Western base in G, at any lengths".
+    # Neither string is mixed here, so its first character speaks for it.
+    if element.kind != G:
+        return
+    if (is_western(job.base_class[element.base_first])
+            and is_western(job.ruby_class[element.ruby_first])):
+        raise Refused(10, place)
+
+
+# ---------------------------------------------------------------------------
+# Level one: the word alone
+# ---------------------------------------------------------------------------
+# Every function here gives (base positions, ruby positions) in half units,
+# counted from the start of the longer string.
+
+def one_after_another(start, widths):
+    # No space within the string: each starts where the one before it ends.
+    return [start + 2 * sum(widths[:i]) for i in range(len(widths))]
+
+
+def solid(base_widths, ruby_widths):
+    # "Solid: no space within either string; the shorter starts at D half
+    # units."
+    base, ruby = sum(base_widths), sum(ruby_widths)
+    difference = abs(base - ruby)
+    base_start = difference if base < ruby else 0
+    ruby_start = difference if ruby < base else 0
+    return (one_after_another(base_start, base_widths),
+            one_after_another(ruby_start, ruby_widths))
+
+
+def spread(widths, difference, limit):
+    # "Spread: the shorter string gets equal end gaps g = floor(D/n).
+    # Character i (from 0) starts at g + twice the widths before it +
+    # floor((2D - 2g) * i / (n - 1)). With n = 1 it starts at D."
+    # limit is the em where g = min(floor(D/n), em) applies, None elsewhere.
+    n = len(widths)
+    if n == 1:
+        return [difference]
+    g = difference // n
+    if limit is not None:
+        g = min(g, limit)
+    return [g + 2 * sum(widths[:i])
+            + (2 * difference - 2 * g) * i // (n - 1) for i in range(n)]
+
+
+def spread_ruby(base_widths, ruby_widths, limit):
+    # The ruby is the shorter string, so positions count from the base.
+    difference = sum(base_widths) - sum(ruby_widths)
+    return (one_after_another(0, base_widths),
+            spread(ruby_widths, difference, limit))
+
+
+def spread_base(base_widths, ruby_widths):
+    # The base is the shorter string, so positions count from the ruby.
+    difference = sum(ruby_widths) - sum(base_widths)
+    return (spread(base_widths, difference, None),
+            one_after_another(0, ruby_widths))
+
+
+def set_mono(base_widths, ruby_widths):
+    # "M: always solid."
+    return solid(base_widths, ruby_widths)
+
+
+def set_group(em, base_western, base_widths, ruby_western, ruby_widths):
+    base, ruby = sum(base_widths), sum(ruby_widths)
+    if base == ruby:
+        # "G, equal sums: solid."
+        return solid(base_widths, ruby_widths)
+    if not base_western and not ruby_western:
+        # "G, kana-like over kana-like: the shorter string is spread. Where
+        # the ruby is shorter and n is at least 2, g = min(floor(D/n), em)."
+        if ruby < base:
+            return spread_ruby(base_widths, ruby_widths, em)
+        return spread_base(base_widths, ruby_widths)
+    if base_western and not ruby_western:
+        # "G, kana-like ruby over Western base: shorter ruby is spread,
+        # without that limit; longer ruby is solid."
+        if ruby < base:
+            return spread_ruby(base_widths, ruby_widths, None)
+        return solid(base_widths, ruby_widths)
+    # "G, Western ruby over kana-like base: shorter ruby is solid; longer
+    # ruby spreads the base, without that limit."  (Western over Western is
+    # refused, 10.)
+    if ruby < base:
+        return solid(base_widths, ruby_widths)
+    return spread_base(base_widths, ruby_widths)
+
+
+def set_jukugo(em, base_widths, runs, ruby_western, ruby_widths):
+    # "J: if no run is longer than one em, each run is solid over its own
+    # character. If any is longer, the whole is set as G."
+    run_widths = cut_into_runs(runs, ruby_widths)
+    if any(sum(widths) > em for widths in run_widths):
+        return set_group(em, False, base_widths, ruby_western, ruby_widths)
+    base_positions, ruby_positions = [], []
+    for i, widths in enumerate(run_widths):
+        # No run is longer than its character, so positions of the pair
+        # count from the character, which follows the ones before it.
+        start = 2 * sum(base_widths[:i])
+        own_base, own_ruby = solid([base_widths[i]], widths)
+        base_positions += [start + position for position in own_base]
+        ruby_positions += [start + position for position in own_ruby]
+    return base_positions, ruby_positions
+
+
+def cut_into_runs(runs, ruby_widths):
+    pieces, taken = [], 0
+    for run in runs:
+        pieces.append(ruby_widths[taken:taken + run])
+        taken += run
+    return pieces
+
+
+class Word:
+    """An element, or a part of a J, set within itself; only whole words move.
+
+    Everything is counted from the word's origin, the start of its longer
+    string.  A P has no ruby and tells how deep ruby may lie on its blanks.
+    """
+
+    def __init__(self, base_first, base_positions, block_end,
+                 ruby_first, ruby_positions, ruby_end):
+        self.base_first = base_first
+        self.base_positions = base_positions
+        # "The base block runs from the start of the first base character to
+        # the end of the last."
+        self.block_start = base_positions[0]
+        self.block_end = block_end
+        self.ruby_first = ruby_first
+        self.ruby_positions = ruby_positions
+        self.has_ruby = len(ruby_positions) > 0
+        self.ruby_start = ruby_positions[0] if self.has_ruby else None
+        self.ruby_end = ruby_end
+        self.end = block_end
+        if self.has_ruby:
+            self.end = max(block_end, ruby_end)
+        # Only a P lets ruby onto its blanks; see plain_word.
+        self.depth_before = 0
+        self.depth_after = 0
+
+
+def word_of_part(job, number, first, end):
+    """The word made of base characters first..end-1 of one element.
+
+    A word depends on its part alone ("the word alone"), so each is set once.
+    """
+    key = (number, first, end)
+    if key not in job.words:
+        element = job.elements[number]
+        if element.kind == P:
+            job.words[key] = plain_word(job, first)
+        else:
+            job.words[key] = ruby_word(job, element, first, end)
+    return job.words[key]
+
+
+def plain_word(job, index):
+    # Level two: "A P element is its own block."
+    width = job.base_width[index]
+    word = Word(index, [0], 2 * width, 0, [], None)
+    word.depth_before = depth_before(job, index)
+    word.depth_after = depth_after(job, index)
+    return word
+
+
+def ruby_word(job, element, first, end):
+    base_widths = job.base_width[first:end]
+    runs = element.runs[first - element.base_first:end - element.base_first]
+    ruby_first, ruby_end = element.ruby_first, element.ruby_end
+    if element.kind == J:
+        ruby_first += sum(element.runs[:first - element.base_first])
+        ruby_end = ruby_first + sum(runs)
+    ruby_widths = job.ruby_width[ruby_first:ruby_end]
+    ruby_western = is_western(job.ruby_class[ruby_first])
+    if element.kind == M:
+        base, ruby = set_mono(base_widths, ruby_widths)
+    elif element.kind == G:
+        base_western = is_western(job.base_class[first])
+        base, ruby = set_group(job.em, base_western, base_widths,
+                               ruby_western, ruby_widths)
+    elif is_cut(element, first, end) and end - first == 1:
+        # "A J cut by a line end is two words: a part of one character is
+        # set as M, a part of more as J."
+        base, ruby = set_mono(base_widths, ruby_widths)
+    else:
+        base, ruby = set_jukugo(job.em, base_widths, runs,
+                                ruby_western, ruby_widths)
+    return Word(first, base, base[-1] + 2 * base_widths[-1],
+                ruby_first, ruby, ruby[-1] + 2 * ruby_widths[-1])
+
+
+def is_cut(element, first, end):
+    return (first, end) != (element.base_first, element.base_end)
+
+
+# ---------------------------------------------------------------------------
+# Level two: the four rules of clearance
+# ---------------------------------------------------------------------------
+
+def greatest_depth(job, cls):
+    # Rule 2: "at most half an em; for class 5 a quarter em", in half units.
+    return job.em // 2 if cls == 5 else job.em
+
+
+def depth_after(job, index):
+    # Rule 2: "the blank after the P element ... (classes 2, 5, 6, 7, 14)";
+    # "The depth is at most the blank as given".  The job: "In class 14 ...
+    # the whole width is blank."
+    cls = job.base_class[index]
+    if cls == 14:
+        blank = job.base_width[index]
+    elif cls in (2, 5, 6, 7):
+        blank = job.blank_after[index]
+    else:
+        blank = 0
+    return min(2 * blank, greatest_depth(job, cls))
+
+
+def depth_before(job, index):
+    # Rule 2: "the blank before the P element ... (classes 1, 5, 14)".
+    cls = job.base_class[index]
+    if cls == 14:
+        blank = job.base_width[index]
+    elif cls in (1, 5):
+        blank = job.blank_before[index]
+    else:
+        blank = 0
+    return min(2 * blank, greatest_depth(job, cls))
+
+
+# The rules speak of two words of one line.  Each function below says how far
+# the later word has to be raised for the pair to keep the rule; 0 or less
+# means that the rule is kept.  earlier_at and later_at are their origins.
+
+def broken_1(earlier, earlier_at, later, later_at):
+    # "1. Each block starts at or after the end of the block before it."
+    return (earlier_at + earlier.block_end) - (later_at + later.block_start)
+
+
+def broken_2_forward(earlier, earlier_at, later, later_at, neighbours):
+    # "2. Ruby keeps off every other element's block, except that it may lie
+    # on ... the blank before the P element just after it."  Depth is how far
+    # the ruby reaches past the near edge of the P.
+    depth = later.depth_before if neighbours else 0
+    return ((earlier_at + earlier.ruby_end)
+            - (later_at + later.block_start + depth))
+
+
+def broken_2_backward(earlier, earlier_at, later, later_at, neighbours):
+    # "2. Ruby keeps off every other element's block, except that it may lie
+    # on the blank after the P element just before it."
+    depth = earlier.depth_after if neighbours else 0
+    return ((earlier_at + earlier.block_end - depth)
+            - (later_at + later.ruby_start))
+
+
+def broken_3(earlier, earlier_at, later, later_at):
+    # "3. No two rubies overlap. Touching is allowed."
+    return (earlier_at + earlier.ruby_end) - (later_at + later.ruby_start)
+
+
+def broken_between(earlier, earlier_at, later, later_at, neighbours):
+    """How far the later word has to be raised because of the earlier one."""
+    amount = broken_1(earlier, earlier_at, later, later_at)
+    if earlier.has_ruby:
+        amount = max(amount, broken_2_forward(
+            earlier, earlier_at, later, later_at, neighbours))
+    if later.has_ruby:
+        amount = max(amount, broken_2_backward(
+            earlier, earlier_at, later, later_at, neighbours))
+    if earlier.has_ruby and later.has_ruby:
+        amount = max(amount, broken_3(
+            earlier, earlier_at, later, later_at))
+    return amount
+
+
+def least_setting(words, limit):
+    """The least origins that keep the four rules, or None if there are none.
+
+    Every word starts at origin 0, so that nothing starts before the line's
+    start (rule 4).  Whatever breaks a rule is raised by the least amount that
+    mends it, until nothing breaks.  Each raise is forced, so the setting that
+    is left is the least one in every word at once; and a word that has passed
+    the measure (rule 4: "Nothing ... ends after the measure") stays past it.
+    """
+    origins = [0] * len(words)
+    if any(word.end > limit for word in words):
+        return None
+    settled = False
+    while not settled:
+        settled = True
+        for j in range(len(words)):
+            for i in range(j):
+                amount = broken_between(words[i], origins[i], words[j],
+                                        origins[j], j == i + 1)
+                if amount > 0:
+                    origins[j] += amount
+                    settled = False
+                    if origins[j] + words[j].end > limit:
+                        return None
+    return origins
+
+
+# ---------------------------------------------------------------------------
+# Breaks and lines
+# ---------------------------------------------------------------------------
+
+def permitted_breaks(job):
+    # The job: "A line may end after the last base character of an element
+    # whose flag is 1, between any two base characters of a J, and at the
+    # job's end. Other flags inside M, G and J elements are not consulted."
+    # A break is given as the count of base characters before it.
+    breaks = []
+    for element in job.elements:
+        if element.kind == J:
+            breaks += range(element.base_first + 1, element.base_end)
+        if job.flag[element.base_end - 1] == 1 or element is job.elements[-1]:
+            breaks.append(element.base_end)
+    return breaks
+
+
+def owners(job):
+    """For each base character the number of its element."""
+    return [number for number, element in enumerate(job.elements)
+            for _ in range(element.base_first, element.base_end)]
+
+
+def words_of_line(job, owner, first, end):
+    """The words of the line holding base characters first..end-1."""
+    words = []
+    while first < end:
+        part_end = min(end, job.elements[owner[first]].base_end)
+        words.append(word_of_part(job, owner[first], first, part_end))
+        first = part_end
+    return words
+
+
+def ruby_before(job, owner, index):
+    """How many ruby characters belong to base characters before this one.
+
+    Asked only where a line may begin or end.
+    """
+    if index == job.base_count:
+        return job.ruby_count
+    element = job.elements[owner[index]]
+    return element.ruby_first + sum(element.runs[:index - element.base_first])
+
+
+def plainly_too_long(job, owner, first, end):
+    # Blocks don't overlap (rule 1) and hold their characters side by side,
+    # nor do rubies overlap (rule 3); nothing starts before the line's start
+    # or ends after the measure (rule 4).  So a line with more base width, or
+    # more ruby width, than the measure cannot be set.  This only answers
+    # early what least_setting would answer late.
+    if sum(job.base_width[first:end]) > job.measure:
+        return True
+    ruby_first = ruby_before(job, owner, first)
+    ruby_end = ruby_before(job, owner, end)
+    return sum(job.ruby_width[ruby_first:ruby_end]) > job.measure
+
+
+def try_line(job, owner, first, end):
+    """(words, origins) of the line first..end-1, or None if it can't be set."""
+    if plainly_too_long(job, owner, first, end):
+        return None
+    words = words_of_line(job, owner, first, end)
+    origins = least_setting(words, 2 * job.measure)
+    if origins is None:
+        return None
+    return words, origins
+
+
+def fill_line(job, owner, breaks, first):
+    # Level two: "each [line] ends at the furthest permitted break whose line
+    # can be set. Every permitted break ahead is a try, also one past a try
+    # that failed."  Tried from the furthest; the first that can be set is
+    # the furthest.
+    for end in reversed(breaks):
+        if end <= first:
+            break
+        line = try_line(job, owner, first, end)
+        if line is not None:
+            return end, line
+    # Refusal 11: "after the lines so far, no permitted break gives a line
+    # that can be set"; place "first base character of the line".
+    raise Refused(11, first)
+
+
+def fill_lines(job):
+    # Level two: "Lines are filled from the first."
+    owner = owners(job)
+    breaks = permitted_breaks(job)
+    lines, first = [], 0
+    while first < job.base_count:
+        end, (words, origins) = fill_line(job, owner, breaks, first)
+        check_positions(words, origins, first)
+        lines.append((end, words, origins))
+        first = end
+    return lines
+
+
+def check_positions(words, origins, first):
+    # Refusal 14: "a position would pass 4,294,967,295"; place "first base
+    # character of the line".  The limits of a job keep every position far
+    # below it, so no job gets here.
+    for word, origin in zip(words, origins):
+        for position in word.base_positions + word.ruby_positions:
+            if origin + position > LARGEST_NUMBER:
+                raise Refused(14, first)
+
+
+# ---------------------------------------------------------------------------
+# The list-level call
+# ---------------------------------------------------------------------------
+
+def set_job(em, measure, base_class, base_width, blank_before, blank_after,
+            flag, ruby_class, ruby_width, kind, elem_base, elem_ruby, runs,
+            base_out, ruby_out, line_out):
+    """('set', number of lines) or ('refused', number, place).
+
+    The three result lists are written on success only.
+    """
+    job = Job(em, measure, base_class, base_width, blank_before, blank_after,
+              flag, ruby_class, ruby_width, kind, elem_base, elem_ruby, runs)
+    try:
+        # Order: "1, 2 and 12, each by lowest place; then base characters and
+        # then ruby characters in turn, 3 before 4; then elements in turn, in
+        # the table's order from 5; then leftover characters; then lines in
+        # turn."
+        check_sizes(job)
+        check_counts(job)
+        check_room(job, base_out, ruby_out, line_out)
+        check_characters(job)
+        take_elements(job)
+        lines = fill_lines(job)
+    except Refused as refusal:
+        # "None of them is altered by a refusal."
+        return ('refused', refusal.number, refusal.place)
+    write_results(lines, base_out, ruby_out, line_out)
+    # "Success returns the number of lines."
+    return ('set', len(lines))
+
+
+def write_results(lines, base_out, ruby_out, line_out):
+    # Refusal list: "a position for each base character, one for each ruby
+    # character, and for each line the count of base characters up to its
+    # end. ... On success, entries past those used stay as they were."
+    for number, (end, words, origins) in enumerate(lines):
+        line_out[number] = end
+        for word, origin in zip(words, origins):
+            for i, position in enumerate(word.base_positions):
+                base_out[word.base_first + i] = origin + position
+            for i, position in enumerate(word.ruby_positions):
+                ruby_out[word.ruby_first + i] = origin + position
+
+
+# ---------------------------------------------------------------------------
+# The job sheet
+# ---------------------------------------------------------------------------
+
+class Reader:
+    # "The reader of a sheet holds the sheet's bytes and its own place in
+    # them."  The number of the line last asked for goes with the place.
+
+    def __init__(self, sheet):
+        self.sheet = sheet
+        self.place = 0
+        self.line_number = 0
+
+    def fault(self):
+        # Refusal 13: "job sheet text breaks its form"; place "line from 1".
+        return Refused(13, self.line_number)
+
+    def fields(self):
+        # "Single spaces, ... each line ended by LF"; "a missing line has the
+        # next line's number".  Fields are what stands between single spaces.
+        self.line_number += 1
+        end = self.sheet.find(b'\n', self.place)
+        if end < 0:
+            raise self.fault()
+        line = self.sheet[self.place:end]
+        self.place = end + 1
+        return line.split(b' ')
+
+    def number(self, text):
+        # "decimal without leading zeros and at most 4,294,967,295"
+        if len(text) == 0 or len(text) > 10:
+            raise self.fault()
+        if any(byte not in b'0123456789' for byte in text):
+            raise self.fault()
+        if len(text) > 1 and text[:1] == b'0':
+            raise self.fault()
+        if int(text) > LARGEST_NUMBER:
+            raise self.fault()
+        return int(text)
+
+    def numbers(self, texts, count):
+        if len(texts) != count:
+            raise self.fault()
+        return [self.number(text) for text in texts]
+
+    def count(self, name, most, place):
+        # "Sections in a fixed order, each after its count"; "the first fault
+        # met, 13 or a count over its maximum (2)"; "within a line form comes
+        # before count".
+        fields = self.fields()
+        if fields[0] != name:
+            raise self.fault()
+        value = self.numbers(fields[1:], 1)[0]
+        if value > most:
+            raise Refused(2, place)
+        return value
+
+    def nothing_after(self):
+        # "nothing after"
+        if self.place < len(self.sheet):
+            self.line_number += 1
+            raise self.fault()
+
+
+def read_sheet(sheet):
+    """The thirteen arguments of a job (em to runs), or Refused."""
+    # "over-length comes before both"; place "0 if over 65,535 bytes".
+    if len(sheet) > LARGEST_SHEET:
+        raise Refused(13, 0)
+    reader = Reader(sheet)
+    em, measure = read_set(reader)
+    base = read_base(reader)
+    ruby = read_ruby(reader)
+    kind, elem_base, elem_ruby, runs = read_elem(reader)
+    reader.nothing_after()
+    return [em, measure] + base + ruby + [kind, elem_base, elem_ruby, runs]
+
+
+def read_set(reader):
+    # "`set 2` with em and measure, one a line"
+    if reader.fields() != [b'set', b'2']:
+        raise reader.fault()
+    em = reader.numbers(reader.fields(), 1)[0]
+    measure = reader.numbers(reader.fields(), 1)[0]
+    return em, measure
+
+
+def read_base(reader):
+    # "`base` (class, width, blank before, blank after, flag)"
+    lists = [[], [], [], [], []]
+    for _ in range(reader.count(b'base', MOST_BASE, 0)):
+        for values, value in zip(lists, reader.numbers(reader.fields(), 5)):
+            values.append(value)
+    return lists
+
+
+def read_ruby(reader):
+    # "`ruby` (class, width)"
+    lists = [[], []]
+    for _ in range(reader.count(b'ruby', MOST_RUBY, 1)):
+        for values, value in zip(lists, reader.numbers(reader.fields(), 2)):
+            values.append(value)
+    return lists
+
+
+def read_elem(reader):
+    # "`elem` (`P`, `M r`, `G b r`, `J b` and b run lengths, b from 1 to 32)"
+    # Counts that a kind doesn't show are not read; they are given as 0.
+    kind, elem_base, elem_ruby, runs = [], [], [], []
+    for _ in range(reader.count(b'elem', MOST_ELEMENTS, 2)):
+        letter, base, ruby, own_runs = read_element(reader)
+        kind.append(letter)
+        elem_base.append(base)
+        elem_ruby.append(ruby)
+        runs += own_runs
+    return kind, elem_base, elem_ruby, runs
+
+
+def read_element(reader):
+    fields = reader.fields()
+    letter, texts = fields[0], fields[1:]
+    if letter == b'P':
+        reader.numbers(texts, 0)
+        return P, 0, 0, []
+    if letter == b'M':
+        ruby, = reader.numbers(texts, 1)
+        return M, 0, ruby, []
+    if letter == b'G':
+        base, ruby = reader.numbers(texts, 2)
+        return G, base, ruby, []
+    if letter == b'J':
+        values = reader.numbers(texts, len(texts))
+        if len(values) == 0 or not 1 <= values[0] <= 32:
+            raise reader.fault()
+        if len(values) != 1 + values[0]:
+            raise reader.fault()
+        return J, values[0], 0, values[1:]
+    raise reader.fault()
+
+
+# ---------------------------------------------------------------------------
+# The setting program
+# ---------------------------------------------------------------------------
+
+def answer(sheet):
+    # "The setting program reads a sheet on standard input and writes
+    # `refused N P`, or a result."
+    try:
+        arguments = read_sheet(sheet)
+    except Refused as refusal:
+        return refused_text(refusal.number, refusal.place)
+    base_out = [0] * MOST_BASE
+    ruby_out = [0] * MOST_RUBY
+    line_out = [0] * MOST_BASE
+    result = set_job(*arguments, base_out, ruby_out, line_out)
+    if result[0] == 'refused':
+        return refused_text(result[1], result[2])
+    ends = line_out[:result[1]]
+    return result_text(arguments, base_out, ruby_out, ends)
+
+
+def refused_text(number, place):
+    return b'refused %d %d\n' % (number, place)
+
+
+def result_text(arguments, base_out, ruby_out, ends):
+    # "`lines` has the number of lines, `line` the extent; `b` and `r` have
+    # index and position, element by element, base before ruby."
+    base_width, ruby_width = arguments[3], arguments[8]
+    parts = printed_parts(*arguments[9:], ends)
+    text = [b'lines %d\n' % len(ends)]
+    for end in ends:
+        in_line = []
+        while len(parts) > 0 and parts[0][0][-1] < end:
+            in_line.append(parts.pop(0))
+        extent = line_extent(in_line, base_width, base_out,
+                             ruby_width, ruby_out)
+        text.append(b'line %d\n' % extent)
+        for bases, rubies in in_line:
+            text += [b'b %d %d\n' % (i, base_out[i]) for i in bases]
+            text += [b'r %d %d\n' % (i, ruby_out[i]) for i in rubies]
+    return b''.join(text)
+
+
+def printed_parts(kind, elem_base, elem_ruby, runs, ends):
+    """(base indices, ruby indices) of every element, cut at the lines' ends.
+
+    Asked of accepted jobs only.
+    """
+    parts, base_taken, ruby_taken, runs_taken = [], 0, 0, 0
+    for letter, base, ruby in zip(kind, elem_base, elem_ruby):
+        if letter == J:
+            own_runs = runs[runs_taken:runs_taken + base]
+            parts += jukugo_parts(base_taken, ruby_taken, own_runs, ends)
+            runs_taken += base
+            ruby = sum(own_runs)
+        else:
+            base = base if letter == G else 1
+            ruby = ruby if letter != P else 0
+            parts.append((list(range(base_taken, base_taken + base)),
+                          list(range(ruby_taken, ruby_taken + ruby))))
+        base_taken += base
+        ruby_taken += ruby
+    return parts
+
+
+def jukugo_parts(base_taken, ruby_taken, runs, ends):
+    # Level one: "A J cut by a line end is two words"; each part is printed
+    # in its own line.
+    parts = [([], [])]
+    for run in runs:
+        if base_taken in ends and parts[-1] != ([], []):
+            parts.append(([], []))
+        parts[-1][0].append(base_taken)
+        parts[-1][1].extend(range(ruby_taken, ruby_taken + run))
+        base_taken += 1
+        ruby_taken += run
+    return parts
+
+
+def line_extent(parts, base_width, base_out, ruby_width, ruby_out):
+    # Level two: "The line's extent is the furthest end of any block or ruby
+    # in it."
+    base_ends = [base_out[i] + 2 * base_width[i]
+                 for bases, _ in parts for i in bases]
+    ruby_ends = [ruby_out[i] + 2 * ruby_width[i]
+                 for _, rubies in parts for i in rubies]
+    return max(base_ends + ruby_ends)
+
+
+# ---------------------------------------------------------------------------
+# Many sheets in one run
+# ---------------------------------------------------------------------------
+
+def read_frame(stream, name):
+    """The bytes of the next `name LENGTH` frame, or None at the end."""
+    head = stream.readline()
+    if head == b'':
+        return None
+    fields = head.rstrip(b'\n').split(b' ')
+    if len(fields) != 2 or fields[0] != name or not fields[1].isdigit():
+        raise ValueError('not a frame: %r' % head[:80])
+    length = int(fields[1])
+    content = stream.read(length)
+    if len(content) != length:
+        raise ValueError('a frame is cut short')
+    return content
+
+
+def write_frame(stream, name, content):
+    stream.write(b'%s %d\n' % (name, len(content)))
+    stream.write(content)
+
+
+def main(arguments):
+    if arguments == []:
+        sys.stdout.buffer.write(answer(sys.stdin.buffer.read()))
+    elif arguments == ['--framed']:
+        sheet = read_frame(sys.stdin.buffer, b'sheet')
+        while sheet is not None:
+            write_frame(sys.stdout.buffer, b'answer', answer(sheet))
+            sheet = read_frame(sys.stdin.buffer, b'sheet')
+    else:
+        sys.exit('usage: second.py [--framed]')
+
+
+if __name__ == '__main__':
+    main(sys.argv[1:])
