@@ -446,9 +446,11 @@ def fault_4(rng, draft):
 def fault_5(rng, draft):
     elem = rng.choice(need(rng, draft, 'MGJ'))[0]
     if elem[0] == 'M':
-        elem[1] = rng.choice((0, 65, TOO_BIG))
+        elem[1] = rng.choice((0, 65, 65, TOO_BIG))
     elif elem[0] == 'G':
-        elem[rng.randrange(2) + 1] = rng.choice((0, 33, 65, 66, TOO_BIG))
+        which = 1 + rng.randrange(2)
+        elem[which] = rng.choice((0, 0, (33, 65)[which - 1],
+                                  (33, 65)[which - 1], TOO_BIG))
     else:
         at = 2 + rng.randrange(len(elem) - 2)
         rest = sum(elem[2:]) - elem[at]
@@ -551,13 +553,15 @@ def two_faults(rng):
     return text
 
 
-def group_of_faults(rng):
-    """Western over Western with a 26 or a mixture, or a J as bad as that."""
+def meeting_faults(rng):
+    """Faults of neighbouring numbers in a tiny job."""
     draft = tiny_draft(rng)
-    rng.choice((fault_8, fault_10, fault_10))(rng, draft)
-    fault_9(rng, draft)
-    if rng.randrange(3) == 0:
-        rng.choice((fault_6, fault_7))(rng, draft)
+    at = rng.randrange(len(FAULTS) - 1)
+    both = pick(rng, (4, (fault_4, fault_3)), (3, (fault_10, fault_9)),
+                (2, (fault_8, fault_7)), (3, FAULTS[at:at + 2]),
+                (3, FAULTS[at:at + 2][::-1]))
+    for fault in both:
+        fault(rng, draft)
     return draft.text()
 
 
@@ -819,9 +823,9 @@ def empty(rng):
 
 def one_sheet(rng):
     return pick(rng, (560, sound), (60, tight), (240, one_fault),
-                (120, two_faults), (20, group_of_faults), (130, damaged),
+                (100, two_faults), (50, meeting_faults), (130, damaged),
                 (8, spare), (3, great), (2, great_plain), (2, great_words),
-                (3, exact_length), (2, too_long), (4, empty))(rng)
+                (4, exact_length), (3, too_long), (4, empty))(rng)
 
 
 def sheets(seed, count):

@@ -427,9 +427,8 @@ class Word:
         self.has_ruby = len(ruby_positions) > 0
         self.ruby_start = ruby_positions[0] if self.has_ruby else None
         self.ruby_end = ruby_end
-        self.end = block_end
-        if self.has_ruby:
-            self.end = max(block_end, ruby_end)
+        # The furthest end of its block or ruby.
+        self.end = max(block_end, ruby_end) if self.has_ruby else block_end
         # Only a P lets ruby onto its blanks; see plain_word.
         self.depth_before = 0
         self.depth_after = 0
@@ -555,6 +554,13 @@ def broken_3(earlier, earlier_at, later, later_at):
     return (earlier_at + earlier.ruby_end) - (later_at + later.ruby_start)
 
 
+def broken_4(word, at, limit):
+    # "4. Nothing starts before the line's start or ends after the measure."
+    # A word starts at its origin, which is never below 0; so only its end
+    # can break the rule, and raising the word does not mend that.
+    return at + word.end > limit
+
+
 def broken_between(earlier, earlier_at, later, later_at, neighbours):
     """How far the later word has to be raised because of the earlier one."""
     amount = broken_1(earlier, earlier_at, later, later_at)
@@ -570,6 +576,19 @@ def broken_between(earlier, earlier_at, later, later_at, neighbours):
     return amount
 
 
+def pairs(count):
+    """All pairs of words, earlier first.
+
+    Neighbours are looked at ahead of the rest: they break rules most often,
+    so a line that is too long is mostly known from them.
+    """
+    for j in range(1, count):
+        yield j - 1, j
+    for j in range(count):
+        for i in range(j):
+            yield i, j
+
+
 def least_setting(words, limit):
     """The least origins that keep the four rules, or None if there are none.
 
@@ -577,23 +596,22 @@ def least_setting(words, limit):
     start (rule 4).  Whatever breaks a rule is raised by the least amount that
     mends it, until nothing breaks.  Each raise is forced, so the setting that
     is left is the least one in every word at once; and a word that has passed
-    the measure (rule 4: "Nothing ... ends after the measure") stays past it.
+    the measure stays past it.
     """
     origins = [0] * len(words)
-    if any(word.end > limit for word in words):
+    if any(broken_4(word, 0, limit) for word in words):
         return None
     settled = False
     while not settled:
         settled = True
-        for j in range(len(words)):
-            for i in range(j):
-                amount = broken_between(words[i], origins[i], words[j],
-                                        origins[j], j == i + 1)
-                if amount > 0:
-                    origins[j] += amount
-                    settled = False
-                    if origins[j] + words[j].end > limit:
-                        return None
+        for i, j in pairs(len(words)):
+            amount = broken_between(words[i], origins[i],
+                                    words[j], origins[j], j == i + 1)
+            if amount > 0:
+                origins[j] += amount
+                settled = False
+                if broken_4(words[j], origins[j], limit):
+                    return None
     return origins
 
 
@@ -656,7 +674,7 @@ def plainly_too_long(job, owner, first, end):
 
 
 def try_line(job, owner, first, end):
-    """(words, origins) of the line first..end-1, or None if it can't be set."""
+    """(words, origins) of the line first..end-1; None if it can't be set."""
     if plainly_too_long(job, owner, first, end):
         return None
     words = words_of_line(job, owner, first, end)

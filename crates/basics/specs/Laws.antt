@@ -138,3 +138,7 @@ all-drop P (suc n) (x ∷ xs) a = all-drop P n xs (a .1)
 pub all-least : (v : ℕ) (xs : List ℕ) → 0 < length xs → any (other v) xs ≡ false → v ≤ sum xs
 all-least v [] h e = absurd (not-suc-le-zero h)
 all-least v (x ∷ xs) h e = omega (arith, eqb-true v x (not-false (eqb v x) (or-none (other v x) (any (other v) xs) e .0)))
+
+-- Determinacy: any two results that meet a contract of the form r ≡ d are equal. Every public contract of the house has that form unless docs/CONTRACTS.md says otherwise.
+pub determined : {A : Type 0} (d p q : A) → p ≡ d → q ≡ d → p ≡ q
+determined d p q e f = e ∙ sym f

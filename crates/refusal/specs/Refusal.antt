@@ -1,5 +1,8 @@
 -- The number and the place of each refusal (document 01, "Refusal list": "Each returns its number and a place").
+use mathlib.Core.Path.{_≡_, refl, sym, ap₂, _∙_}
+use mathlib.Core.Bool.{cond}
 use Prim.Native.Nat.{ℕ}
+use lib.Dec.{eqb}
 use Rattle.refusal.specs.declared.Refusal.{Refusal}
 use Rattle.refusal.specs.declared.Refusal.the-variants.{Range, Count, Short, Character, Blanks, Element, Supply, BlankInside, JukugoBase, Mixed, WesternOver, Far, NoBreak, Form}
 
@@ -35,3 +38,40 @@ placeOf (WesternOver p) = p
 placeOf (Far p) = p
 placeOf (NoBreak p) = p
 placeOf (Form p) = p
+
+-- The paper's number and place determine the case: `byPaper` finds it again.
+byPaper : ℕ → ℕ → Refusal
+byPaper n p =
+    cond (eqb n 1) (Range p)
+    (cond (eqb n 2) (Count p)
+    (cond (eqb n 3) (Character p)
+    (cond (eqb n 4) (Blanks p)
+    (cond (eqb n 5) (Element p)
+    (cond (eqb n 6) (Supply p)
+    (cond (eqb n 7) (BlankInside p)
+    (cond (eqb n 8) (JukugoBase p)
+    (cond (eqb n 9) (Mixed p)
+    (cond (eqb n 10) (WesternOver p)
+    (cond (eqb n 11) (NoBreak p)
+    (cond (eqb n 13) (Form p)
+    (cond (eqb n 14) (Far p) Short))))))))))))
+
+back : (r : Refusal) → byPaper (numberOf r) (placeOf r) ≡ r
+unfolding byPaper
+back (Range p) = refl
+back (Count p) = refl
+back Short = refl
+back (Character p) = refl
+back (Blanks p) = refl
+back (Element p) = refl
+back (Supply p) = refl
+back (BlankInside p) = refl
+back (JukugoBase p) = refl
+back (Mixed p) = refl
+back (WesternOver p) = refl
+back (Far p) = refl
+back (NoBreak p) = refl
+back (Form p) = refl
+
+pub same-refusal : (r q : Refusal) → numberOf r ≡ numberOf q → placeOf r ≡ placeOf q → r ≡ q
+same-refusal r q n p = sym (back r) ∙ ap₂ byPaper n p ∙ back q

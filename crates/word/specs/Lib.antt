@@ -5,3 +5,9 @@ pub mod Answer
 pub mod Sized
 pub mod Kinds
 pub mod Runs
+pub mod Joined
+pub mod Promise
+pub mod Part
+pub mod Spans
+pub mod Theorems
+pub mod Cases

@@ -171,7 +171,7 @@ fn base_way(r: Script, b: Script) -> spread::Way
 {
     match r {
         Script::Kana => match b {
-            Script::Kana => spread::Way::Spread,
+            Script::Kana => spread::Way::Spread, // without the limit: that is for ruby alone
             Script::Western => spread::Way::Solid,
         },
         Script::Western => match b {
@@ -280,10 +280,10 @@ fn jukugo_of(r: Script, em: u32, bs: &[u32], runs: &[u32], rs: &[u32]) -> Word
     requires { ⌜ (Small (now bs) (now rs)) × (sum (now runs) ≤ length (now rs)) × (em ≤ sum (now bs)) ⌝ }
     ensures { λ w. ⌜ w ≡ jukugoWord r em (now (bs .entry)) (now (runs .entry)) (now (rs .entry)) ⌝ }
 {
+    let b = basics::sum_of(bs);
     match runs_in(em, runs, rs) {
         Runs::Longer => group_of(r, Script::Kana, em, bs, rs),
         Runs::Fit(last) => {
-            let b = basics::sum_of(bs);
             let first = first_run(runs, rs);
             Word {
                 front: 0,

@@ -66,7 +66,7 @@ group-of-requires c κs = search needs
 
 returns-5 : tie.Need-returns-5
 unfolding answer wordOf mixOf
-returns-5 c = 
+returns-5 c =
     rw (← c .before .before .before .before .before .before .before .before .before .before .before .before .blank-inside .ensures, c .before .before .before .before .before .before .before .before .before .before .before .if1 .left, base (c .before .before .before .before .before .before .before .before .before), c .before .before .before .before .before .before .before .before .if2 .left, ruby (c .before .before .before .before .before .before), c .before .before .before .before .before .if3 .left, ← over (c .before .before .before .before), c .before .before .before .if4 .left)
     (ap Set (c .group-of .ensures ∙ rw (c .before .before .script-of .ensures, c .before .script-of2 .ensures, c .before .before .before .before .before .before .before .mix-of2 .ensures, c .before .before .before .before .before .before .before .before .before .before .mix-of .ensures)))
 

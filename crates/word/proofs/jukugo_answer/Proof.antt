@@ -63,7 +63,7 @@ jukugo-of-requires c κs = (c .before .before .before .before .before .before .b
 
 returns-5 : tie.Need-returns-5
 unfolding answer wordOf mixOf
-returns-5 c = 
+returns-5 c =
     rw (← c .before .before .before .before .before .before .before .before .before .before .before .blank-inside .ensures, c .before .before .before .before .before .before .before .before .before .before .if1 .left, kana (c .before .before .before .before .before .before .before), ← c .before .before .before .before .before .before .any-but .ensures, c .before .before .before .before .before .if3 .left, base (c .before .before .before .before .before .before .before), ruby (c .before .before .before), c .before .before .if4 .left)
     (ap Set (c .jukugo-of .ensures ∙ rw (c .before .script-of .ensures, c .before .before .before .before .mix-of2 .ensures)))
 

@@ -14,8 +14,11 @@ use Rattle.word.proofs.jukugo_of.Tie as tie
 abbrev lengths : tie.After-first-run → List ℕ
 lengths c = map sum (split (c .before .before .before .before .before .before .before .before .before .args .runs .now) (c .before .before .before .before .before .before .before .before .before .args .rs .now))
 
-fit : (c : tie.After-first-run) → (anyLonger (c .before .before .before .before .before .before .before .before .before .args .em) (split (c .before .before .before .before .before .before .before .before .before .args .runs .now) (c .before .before .before .before .before .before .before .before .before .args .rs .now)) ≡ false) × (lastOr 0 (lengths c) ≡ c .before .before .before .last .given .0 .0)
-fit c = runs-fit (c .before .before .before .before .before .before .before .before .before .args .em) (c .before .before .before .before .before .before .before .before .before .args .runs .now) (c .before .before .before .before .before .before .before .before .before .args .rs .now) (sym (c .before .before .before .before .before .runs-in .ensures) ∙ c .before .before .before .last .given .1)
+fit : (c : tie.After-first-run) → (anyLonger (c .before .before .before .before .before .before .before .before .before .args .em) (split (c .before .before .before .before .before .before .before .before .before .args .runs .now) (c .before .before .before .before .before .before .before .before .before .args .rs .now)) ≡ false) × (lastOr 0 (lengths c) ≡ c .before .before .last .given .0 .0)
+fit c = runs-fit (c .before .before .before .before .before .before .before .before .before .args .em) (c .before .before .before .before .before .before .before .before .before .args .runs .now) (c .before .before .before .before .before .before .before .before .before .args .rs .now) (sym (c .before .before .before .before .runs-in .ensures) ∙ c .before .before .last .given .1)
+
+sum-of-requires : tie.Need-sum-of-requires
+sum-of-requires c κs = search needs
 
 runs-in-requires : tie.Need-runs-in-requires
 runs-in-requires c κs = search needs
@@ -28,9 +31,6 @@ group-of-requires c κs = search needs
 
 enum-known-last : tie.Need-enum-known-last
 enum-known-last c = search needs
-
-sum-of-requires : tie.Need-sum-of-requires
-sum-of-requires c κs = search needs
 
 first-run-requires : tie.Need-first-run-requires
 first-run-requires c κs = search needs
@@ -52,21 +52,21 @@ sub-t16 c = search needs
 
 returns : tie.Need-returns
 unfolding jukugoWord
-returns c = c .group-of .ensures ∙ rw (runs-longer (c .before .before .before .before .before .before .before .args .em) (c .before .before .before .before .before .before .before .args .runs .now) (c .before .before .before .before .before .before .before .args .rs .now) (sym (c .before .before .before .runs-in .ensures) ∙ c .before .enum-told .given .1))
+returns c = c .group-of .ensures ∙ rw (runs-longer (c .before .before .before .before .before .before .before .before .args .em) (c .before .before .before .before .before .before .before .before .args .runs .now) (c .before .before .before .before .before .before .before .before .args .rs .now) (sym (c .before .before .before .runs-in .ensures) ∙ c .before .enum-told .given .1))
 
 returns-2 : tie.Need-returns-2
 unfolding jukugoWord overEach
-returns-2 c = rw (fit c .0, fit c .1, ← c .before .sum-of .ensures, ← c .first-run .ensures)
+returns-2 c = rw (fit c .0, fit c .1, ← c .before .before .before .before .before .sum-of .ensures, ← c .first-run .ensures)
 
 pub jukugo-of-spec : {M : Type 1} → statement M
 jukugo-of-spec =
     tie.close
     (tie.spec
+    sum-of-requires
     runs-in-requires
     enum-told
     group-of-requires
     enum-known-last
-    sum-of-requires
     first-run-requires
     mul-t12
     sub-t13

@@ -1,0 +1,201 @@
+-- What level one promises of a word to those above: lengths, protrusions and limits. Lines and jobs use these laws and no definition of this crate.
+use mathlib.Core.Path.{_≡_, refl, sym, ap, _∙_, subst}
+use mathlib.Core.Bool.{Bool, true, false, cond, not, _&&_, _||_, false≢true, true≢false}
+use mathlib.Core.List.{List, [], _∷_, map}
+use mathlib.Core.Logic.{_⊎_, inl, inr}
+use Prim.Native.Nat.{ℕ, _+_, _-_, _*_, _≤_, _<_, max, zero-le}
+use native.Mathlib.Nat.{sub-self}
+use native.Mathlib.Omega.{arith}
+use borrow.Author.Tests.{leb-true, leb-false}
+use lib.Dec.{leb, ltb}
+use lib.ListN.{length, getD}
+use Rattle.basics.specs.Lists.{sum, any, other, lastOr}
+use Rattle.basics.specs.Laws.{or-none, sum-some, all-least}
+use Rattle.class.specs.Class.{kanaLike}
+use Rattle.refusal.specs.declared.Refusal.the-variants.{BlankInside, JukugoBase, Mixed, WesternOver}
+use Rattle.spread.specs.declared.Way.{Way}
+use Rattle.spread.specs.declared.Way.the-variants.{Solid}
+use Rattle.spread.specs.Gap.{gap, inner}
+use Rattle.spread.specs.Running.{Ready}
+use Rattle.spread.specs.Laws.{gap-le, gap-one}
+use Rattle.word.specs.declared.Script.{Script}
+use Rattle.word.specs.declared.Script.the-variants.{Kana}
+use Rattle.word.specs.declared.Form.{Form}
+use Rattle.word.specs.declared.Form.the-variants.{P, M, G, J}
+use Rattle.word.specs.declared.Word.{Word}
+use Rattle.word.specs.declared.Answer.{Answer}
+use Rattle.word.specs.declared.Answer.the-variants.{Set, Refused}
+use Rattle.word.specs.Given.{Given, hasRuby, isG, isJ}
+use Rattle.word.specs.Alone.{script, rubyWay, baseWay, split, anyLonger}
+use Rattle.word.specs.Word.{shortRuby, shortBase, wordBy, plain, groupWord, overEach, jukugoWord, wordOf, total}
+use Rattle.word.specs.Answer.{blankInside, jukugoBase, mixedIn, westernOver, answer}
+use Rattle.word.specs.Sized.{Small, Sized, RunsReady, small}
+use Rattle.word.specs.Runs.{first-fits, last-fits}
+
+-- ruby lies within its block, or around it
+pub record Inside (v : Word) : Type 0 where
+  pub enters : v .front ≤ v .from
+  pub runs : v .from ≤ v .upto
+  pub leaves : v .upto ≤ v .front + v .len
+
+pub record Around (v : Word) : Type 0 where
+  pub leads : v .from ≤ v .front
+  pub trails : v .front + v .len ≤ v .upto
+
+-- The promises. `equal` is document 01's "It is equal at both ends"; the others from `block` on are what the writers ask for.
+pub record Promise (form : Form) (w : Given) (v : Word) : Type 0 where
+  pub some : 0 < v .len
+  pub reads : v .ruby ≡ hasRuby form
+  pub shape : v .ruby ≡ true → Inside v ⊎ Around v
+  pub edge : (v .front ≡ 0) ⊎ (v .from ≡ 0)
+  pub equal : v .front + v .len + v .front ≡ total v
+  pub limit : total v ≤ 524288
+  pub block : v .len ≡ 2 * sum (w .width) + v .inbase
+  pub string : v .runs ≡ false → hasRuby form ≡ true → v .upto ≡ v .from + 2 * sum (w .rubyWidth) + v .inruby
+  pub each : v .runs ≡ true → anyLonger (w .em) (split (w .run) (w .rubyWidth)) ≡ false
+  pub single : length (w .width) ≡ 1 → v .inbase ≡ 0
+  pub singleRuby : length (w .rubyWidth) ≡ 1 → v .inruby ≡ 0
+
+by-cond : (t : Bool) (Q : Word → Type 0) {a b : Word} → (t ≡ true → Q a) → (t ≡ false → Q b) → Q (cond t a b)
+by-cond true Q f g = f refl
+by-cond false Q f g = g refl
+
+-- a single character has no space within its string
+none-inner : (r : Way) (em D n : ℕ) → n ≡ 1 → inner D (gap r em D n) ≡ 0
+none-inner r em D n e = rw (e, gap-one r em D) (sub-self (2 * D))
+
+by-ways : (form : Form) → hasRuby form ≡ true → (w : Given) (r b : Way) → Small (w .width) (w .rubyWidth) → Promise form w (wordBy r b (w .em) (w .width) (w .rubyWidth))
+unfolding wordBy shortRuby shortBase
+by-ways form h w r b s =
+    by-cond (leb (sum (w .rubyWidth)) (sum (w .width))) (Promise form w)
+    (λ t.
+    let l : sum (w .rubyWidth) ≤ sum (w .width) = leb-true _ _ t in
+    let g : gap r (w .em) (sum (w .width) - sum (w .rubyWidth)) (length (w .rubyWidth)) ≤ sum (w .width) - sum (w .rubyWidth) = gap-le r (w .em) _ (length (w .rubyWidth)) in
+    record {
+      some = omega arith;
+      reads = sym h;
+      shape = λ q. inl (record { enters = zero-le; runs = omega arith; leaves = omega arith });
+      edge = inl refl;
+      equal = omega arith;
+      limit = omega arith;
+      block = omega arith;
+      string = λ q k. refl;
+      each = λ q. absurd (false≢true q);
+      single = λ q. refl;
+      singleRuby = λ q. none-inner r (w .em) _ (length (w .rubyWidth)) q;
+    })
+    (λ t.
+    let l : sum (w .width) < sum (w .rubyWidth) = leb-false _ _ t in
+    let g : gap b (w .em) (sum (w .rubyWidth) - sum (w .width)) (length (w .width)) ≤ sum (w .rubyWidth) - sum (w .width) = gap-le b (w .em) _ (length (w .width)) in
+    record {
+      some = omega arith;
+      reads = sym h;
+      shape = λ q. inr (record { leads = zero-le; trails = omega arith });
+      edge = inr refl;
+      equal = omega arith;
+      limit = omega arith;
+      block = refl;
+      string = λ q k. omega arith;
+      each = λ q. absurd (false≢true q);
+      single = λ q. none-inner b (w .em) _ (length (w .width)) q;
+      singleRuby = λ q. refl;
+    })
+
+by-runs : (w : Given) → Small (w .width) (w .rubyWidth) → w .em ≤ sum (w .width) → anyLonger (w .em) (split (w .run) (w .rubyWidth)) ≡ false →
+    Promise J w (overEach (w .em) (sum (w .width)) (map sum (split (w .run) (w .rubyWidth))))
+unfolding overEach
+by-runs w s h e =
+    let f : getD (map sum (split (w .run) (w .rubyWidth))) 0 0 ≤ w .em = first-fits (w .em) (map sum (split (w .run) (w .rubyWidth))) e in
+    let l : lastOr 0 (map sum (split (w .run) (w .rubyWidth))) ≤ w .em = last-fits (w .em) 0 (map sum (split (w .run) (w .rubyWidth))) zero-le e in
+    record {
+      some = omega arith;
+      reads = refl;
+      shape = λ q. inl (record { enters = zero-le; runs = omega arith; leaves = omega arith });
+      edge = inl refl;
+      equal = omega arith;
+      limit = omega arith;
+      block = omega arith;
+      string = λ q k. absurd (true≢false q);
+      each = λ q. e;
+      single = λ q. refl;
+      singleRuby = λ q. refl;
+    }
+
+-- the word of each form, once a J's base characters are one em wide
+word-kept : (form : Form) (w : Given) → Sized form (w .width) (w .rubyWidth) (w .run) → (isJ form ≡ true → w .em ≤ sum (w .width)) → Promise form w (wordOf form w)
+unfolding wordOf plain groupWord jukugoWord
+word-kept P w s j =
+    record {
+      some = omega (arith, s .some);
+      reads = refl;
+      shape = λ q. absurd (false≢true q);
+      edge = inl refl;
+      equal = omega arith;
+      limit = omega (arith, s .narrow);
+      block = omega arith;
+      string = λ q k. absurd (false≢true k);
+      each = λ q. absurd (false≢true q);
+      single = λ q. refl;
+      singleRuby = λ q. refl;
+    }
+word-kept M w s j = by-ways M refl w Solid Solid (small M _ _ _ refl s)
+word-kept G w s j = by-ways G refl w (rubyWay (script (w .rubyClass)) (script (w .class))) (baseWay (script (w .rubyClass)) (script (w .class))) (small G _ _ _ refl s)
+word-kept J w s j =
+    by-cond (anyLonger (w .em) (split (w .run) (w .rubyWidth))) (Promise J w)
+    (λ t. by-ways J refl w (rubyWay (script (w .rubyClass)) Kana) (baseWay (script (w .rubyClass)) Kana) (small J _ _ _ refl s))
+    (λ t. by-runs w (small J _ _ _ refl s) (j refl) t)
+
+-- what an answer that is a word says: no row holds, and the word is that of the form
+pub record Passed (form : Form) (w : Given) (v : Word) : Type 0 where
+  pub seven : blankInside form w ≡ false
+  pub eight : jukugoBase form w ≡ false
+  pub nine : mixedIn form w ≡ false
+  pub ten : westernOver form w ≡ false
+  pub word : v ≡ wordOf form w
+
+pub passed : (form : Form) (place : ℕ) (w : Given) {v : Word} → answer form place w ≡ Set v → Passed form w v
+unfolding answer
+passed form place w {v} e = go (blankInside form w) (jukugoBase form w) (mixedIn form w) (westernOver form w) refl refl refl refl e
+  where
+    go : (a b c d : Bool) → blankInside form w ≡ a → jukugoBase form w ≡ b → mixedIn form w ≡ c → westernOver form w ≡ d →
+        cond a (Refused (BlankInside place)) (cond b (Refused (JukugoBase place)) (cond c (Refused (Mixed place)) (cond d (Refused (WesternOver place)) (Set (wordOf form w))))) ≡ Set v → Passed form w v
+    go true b c d f g h i e = absurd (let z : _≡_ {A = ℕ} 0 1 = cc in omega arith)
+    go false true c d f g h i e = absurd (let z : _≡_ {A = ℕ} 0 1 = cc in omega arith)
+    go false false true d f g h i e = absurd (let z : _≡_ {A = ℕ} 0 1 = cc in omega arith)
+    go false false false true f g h i e = absurd (let z : _≡_ {A = ℕ} 0 1 = cc in omega arith)
+    go false false false false f g h i e = record { seven = f; eight = g; nine = h; ten = i; word = cc }
+
+-- and the other way round
+pub set : (form : Form) (place : ℕ) (w : Given) → blankInside form w ≡ false → jukugoBase form w ≡ false → mixedIn form w ≡ false → westernOver form w ≡ false →
+    answer form place w ≡ Set (wordOf form w)
+unfolding answer
+set form place w f g h i = rw (f, g, h, i)
+
+-- a J that passes has base characters of one em
+one-em : (form : Form) (w : Given) → 0 < sum (w .width) → jukugoBase form w ≡ false → isJ form ≡ true → w .em ≤ sum (w .width)
+one-em J w s e h = all-least (w .em) (w .width) (sum-some (w .width) s) (or-none (any (λ c. not (kanaLike c)) (w .class)) (any (other (w .em)) (w .width)) e .1)
+one-em P w s e h = absurd (false≢true h)
+one-em M w s e h = absurd (false≢true h)
+one-em G w s e h = absurd (false≢true h)
+
+-- every word that is set keeps the promises
+pub kept : (form : Form) (place : ℕ) (w : Given) {v : Word} → Sized form (w .width) (w .rubyWidth) (w .run) → answer form place w ≡ Set v → Promise form w v
+kept form place w {v} s e =
+    let p = passed form place w e in
+    subst (Promise form w) (sym (p .word)) (word-kept form w s (one-em form w (s .some) (p .eight)))
+
+-- The writers' needs follow from the promises and a bound on the origin.
+
+pub base-ready : (form : Form) (w : Given) (v : Word) (at : ℕ) (out : List ℕ) → Promise form w v → length (w .width) ≤ 32 → length (w .width) ≡ length out → at + total v < 4294967296 →
+    Ready (v .inbase) (at + v .front) (w .width) out
+base-ready form w v at out p few same near = record { same = same; few = omega arith; small = omega arith; near = omega arith }
+
+pub ruby-ready : (form : Form) (w : Given) (v : Word) (at : ℕ) (out : List ℕ) → Promise form w v → hasRuby form ≡ true → length (w .rubyWidth) ≤ 64 → length (w .rubyWidth) ≡ length out → at + total v < 4294967296 →
+    v .runs ≡ false → Ready (v .inruby) (at + v .from) (w .rubyWidth) out
+ruby-ready form w v at out p h few same near e =
+    let s = p .string e h in record { same = same; few = few; small = omega arith; near = omega arith }
+
+pub runs-ready : (form : Form) (w : Given) (v : Word) (at : ℕ) (out : List ℕ) → Promise form w v → w .em ≤ 4096 → length (w .run) ≤ 32 → sum (w .run) ≡ length (w .rubyWidth) →
+    length (w .rubyWidth) ≤ 64 → length (w .rubyWidth) ≡ length out → at < 2147483648 → v .runs ≡ true → RunsReady (w .em) at (w .run) (w .rubyWidth) out
+runs-ready form w v at out p em runs whole few same near e =
+    record { whole = whole; same = same; few = few; fewRuns = runs; small = em; near = near; none = p .each e }
