@@ -1,0 +1,17 @@
+-- The ruby count in its range, or not. The other counts are not read.
+use mathlib.Core.Path.{_≡_, refl, sym, ap, _∙_}
+use borrow.Author.Needs.{needs}
+use Rattle.door.proofs.count_mono.Statement.{statement}
+use Rattle.door.proofs.count_mono.Tie as tie
+
+is-outside-requires : tie.Need-is-outside-requires
+is-outside-requires c κs = search needs
+
+returns : tie.Need-returns
+returns c = rw (← c .before .is-outside .ensures, c .if1 .taken)
+
+returns-2 : tie.Need-returns-2
+returns-2 c = rw (← c .before .is-outside .ensures, c .if1 .left)
+
+pub count-mono-spec : {M : Type 1} → statement M
+count-mono-spec = tie.close (tie.spec is-outside-requires returns returns-2)

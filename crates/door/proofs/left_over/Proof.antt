@@ -1,0 +1,14 @@
+-- The base characters, or else the ruby characters. Each is its part of the row.
+use mathlib.Core.Path.{_≡_, refl, sym, ap, _∙_}
+use borrow.Author.Tests.{lt-ltb, le-ltb}
+use Rattle.door.proofs.left_over.Statement.{statement}
+use Rattle.door.proofs.left_over.Tie as tie
+
+returns : tie.Need-returns
+returns c = rw (lt-ltb _ _ (c .if1 .taken))
+
+returns-2 : tie.Need-returns-2
+returns-2 c = rw (le-ltb _ _ (c .if1 .left))
+
+pub left-over-spec : {M : Type 1} → statement M
+left-over-spec = tie.close (tie.spec returns returns-2)

@@ -1,0 +1,168 @@
+-- The rows of the elements as the door walks along them: the counts of one element (5), what it takes (6), and level one's own answer (7 to 10).
+use mathlib.Core.Path.{_≡_, refl, sym, ap, _∙_}
+use mathlib.Core.Bool.{Bool, true, false, cond, not, _&&_, _||_, false≢true, true≢false}
+use mathlib.Core.List.{List, [], _∷_, _++_, map}
+use Prim.Native.Nat.{ℕ, zero, suc, _+_, _-_, _*_, _≤_, _<_}
+use lib.Dec.{eqb, ltb}
+use lib.ListN.{length, take, drop, getD}
+use Rattle.basics.specs.Lists.{sum, any}
+use Rattle.refusal.specs.declared.Refusal.{Refusal}
+use Rattle.refusal.specs.declared.Refusal.the-variants.{Element, Supply, BlankInside, JukugoBase, Mixed, WesternOver}
+use Rattle.word.specs.declared.Form.{Form}
+use Rattle.word.specs.declared.Form.the-variants.{P, M, G, J}
+use Rattle.word.specs.declared.Answer.{Answer}
+use Rattle.word.specs.declared.Answer.the-variants as word
+use Rattle.word.specs.Given.{Given, isJ}
+use Rattle.word.specs.Answer.{blankInside, jukugoBase, mixedIn, westernOver, answer}
+use Rattle.word.specs.Word.{wordOf}
+use Rattle.word.specs.Sized.{Sized}
+use Rattle.door.specs.declared.Piece.{Piece}
+use Rattle.door.specs.declared.Counted.{Counted}
+use Rattle.door.specs.declared.Counted.the-variants.{Is, Out}
+use Rattle.door.specs.declared.Step.{Step}
+use Rattle.door.specs.declared.Step.the-variants.{Next, Stop}
+use Rattle.door.specs.Job.{Job, baseCount, rubyCount, elementCount, entries, known, formOf, takesBase, takesRuby, takesRuns, element, elementsFrom, elements, given}
+use Rattle.door.specs.Entries.{part-of}
+use Rattle.door.specs.Refusals.{_when_, countsOut, countsWrong, runOut, elementFaults, elementsFaults}
+
+-- An element by its kind and counts, those before it having taken b, r and u.
+
+abbrev pub countedAs : Form → ℕ → ℕ → List ℕ → ℕ → ℕ → ℕ → Counted
+countedAs form base ruby runs b r u =
+    let n = takesBase form base in
+    let es = entries runs u n in
+    let m = takesRuby form ruby (sum es) in
+    cond (countsOut form n m es) Out (Is (record { form = form; base = b; bases = n; ruby = r; rubies = m; run = u }))
+
+unfoldable pub countedBy : ℕ → ℕ → ℕ → List ℕ → ℕ → ℕ → ℕ → Counted
+countedBy kind base ruby runs b r u = cond (known kind) (countedAs (formOf kind) base ruby runs b r u) Out
+
+-- a job of which only what its elements read is looked at
+abbrev pub partsOnly : ℕ → List ℕ → List ℕ → List ℕ → List ℕ → List ℕ → List ℕ → List ℕ → List ℕ → List ℕ → List ℕ → Job
+partsOnly em class width before after rubyClass rubyWidth kind elementBase elementRuby run =
+    record {
+      em = em;
+      measure = 0;
+      class = class;
+      width = width;
+      before = before;
+      after = after;
+      flag = [];
+      rubyClass = rubyClass;
+      rubyWidth = rubyWidth;
+      kind = kind;
+      elementBase = elementBase;
+      elementRuby = elementRuby;
+      run = run;
+    }
+
+-- the rows of element k, with the counts of characters beside the job
+abbrev pub elementRows : ℕ → ℕ → Job → ℕ → Piece → List Refusal
+elementRows bases rubies job k e =
+    Element k when countsWrong job k e
+    ++ Supply k when (ltb bases (e .base + e .bases) || ltb rubies (e .ruby + e .rubies))
+    ++ BlankInside k when blankInside (e .form) (given job e)
+    ++ JukugoBase k when jukugoBase (e .form) (given job e)
+    ++ Mixed k when mixedIn (e .form) (given job e)
+    ++ WesternOver k when westernOver (e .form) (given job e)
+
+abbrev pub stepped : List Refusal → Piece → Step
+stepped [] p = Next p
+stepped (r ∷ rs) p = Stop r
+
+-- a piece that lies within the job's lists, with what level one asks of it
+pub record Reads (job : Job) (p : Piece) : Type 0 where
+  pub class : p .base + p .bases ≤ length (job .class)
+  pub width : p .base + p .bases ≤ length (job .width)
+  pub before : p .base + p .bases ≤ length (job .before)
+  pub after : p .base + p .bases ≤ length (job .after)
+  pub rubyClass : p .ruby + p .rubies ≤ length (job .rubyClass)
+  pub rubyWidth : p .ruby + p .rubies ≤ length (job .rubyWidth)
+  pub run : p .run + takesRuns (p .form) (p .bases) ≤ length (job .run)
+  pub sized : Sized (p .form) (given job p .width) (given job p .rubyWidth) (given job p .run)
+
+-- of a job only what its words read matters
+pub own-reads : (job : Job) (p : Piece) → Reads job p → Reads (partsOnly (job .em) (job .class) (job .width) (job .before) (job .after) (job .rubyClass) (job .rubyWidth) [] [] [] (job .run)) p
+own-reads job p h =
+    record { class = h .class; width = h .width; before = h .before; after = h .after; rubyClass = h .rubyClass; rubyWidth = h .rubyWidth; run = h .run; sized = h .sized }
+
+-- Level one is lent the parts of the lists that a piece takes. They are what it is given; the runs of a form that is no J are not read.
+abbrev pub lent : Job → Piece → Given
+lent job p =
+    record {
+      em = job .em;
+      class = take (p .base + p .bases - p .base) (drop (p .base) (job .class));
+      width = take (p .base + p .bases - p .base) (drop (p .base) (job .width));
+      before = take (p .base + p .bases - p .base) (drop (p .base) (job .before));
+      after = take (p .base + p .bases - p .base) (drop (p .base) (job .after));
+      rubyClass = take (p .ruby + p .rubies - p .ruby) (drop (p .ruby) (job .rubyClass));
+      rubyWidth = take (p .ruby + p .rubies - p .ruby) (drop (p .ruby) (job .rubyWidth));
+      run = take (p .run + takesRuns (p .form) (p .bases) - p .run) (drop (p .run) (job .run));
+    }
+
+runs-unread : (form : Form) (k : ℕ) (job : Job) (p : Piece) → p .run + takesRuns form (p .bases) ≤ length (job .run) →
+    answer form k (record {
+      em = job .em;
+      class = given job p .class;
+      width = given job p .width;
+      before = given job p .before;
+      after = given job p .after;
+      rubyClass = given job p .rubyClass;
+      rubyWidth = given job p .rubyWidth;
+      run = take (p .run + takesRuns form (p .bases) - p .run) (drop (p .run) (job .run));
+    })
+    ≡ answer form k (given job p)
+unfolding answer wordOf
+runs-unread P k job p h = refl
+runs-unread M k job p h = refl
+runs-unread G k job p h = refl
+runs-unread J k job p h = rw (part-of (job .run) (p .run) (p .bases) h)
+
+pub lent-answer : (k : ℕ) (job : Job) (p : Piece) → Reads job p → answer (p .form) k (lent job p) ≡ answer (p .form) k (given job p)
+lent-answer k job p h =
+    rw (
+      part-of (job .class) (p .base) (p .bases) (h .class),
+      part-of (job .width) (p .base) (p .bases) (h .width),
+      part-of (job .before) (p .base) (p .bases) (h .before),
+      part-of (job .after) (p .base) (p .bases) (h .after),
+      part-of (job .rubyClass) (p .ruby) (p .rubies) (h .rubyClass),
+      part-of (job .rubyWidth) (p .ruby) (p .rubies) (h .rubyWidth),
+    )
+    (runs-unread (p .form) k job p (h .run))
+
+pub lent-sized : (job : Job) (p : Piece) → Reads job p → Sized (p .form) (lent job p .width) (lent job p .rubyWidth) (lent job p .run)
+lent-sized job p h =
+    rw (part-of (job .width) (p .base) (p .bases) (h .width), part-of (job .rubyWidth) (p .ruby) (p .rubies) (h .rubyWidth))
+    (record {
+      some = h .sized .some;
+      few = h .sized .few;
+      narrow = h .sized .narrow;
+      reads = h .sized .reads;
+      fewRuby = h .sized .fewRuby;
+      narrowRuby = h .sized .narrowRuby;
+      whole = λ j. ap sum (runs-of (p .form) j (h .run)) ∙ h .sized .whole j;
+    })
+  where
+    runs-of : (form : Form) → isJ form ≡ true → p .run + takesRuns form (p .bases) ≤ length (job .run) →
+        take (p .run + takesRuns form (p .bases) - p .run) (drop (p .run) (job .run)) ≡ entries (job .run) (p .run) (p .bases)
+    runs-of P j k = absurd (false≢true j)
+    runs-of M j k = absurd (false≢true j)
+    runs-of G j k = absurd (false≢true j)
+    runs-of J j k = part-of (job .run) (p .run) (p .bases) k
+
+-- level one's answer, by its rows
+pub by-rows : (form : Form) (k : ℕ) (w : Given) (p : Piece) (s : Step) →
+    ((r : Refusal) → answer form k w ≡ word.Refused r → s ≡ Stop r) → ((v : _) → answer form k w ≡ word.Set v → s ≡ Next p) →
+    s ≡ stepped (BlankInside k when blankInside form w ++ JukugoBase k when jukugoBase form w ++ Mixed k when mixedIn form w ++ WesternOver k when westernOver form w) p
+unfolding answer
+by-rows form k w p s refused set = go (blankInside form w) (jukugoBase form w) (mixedIn form w) (westernOver form w) refused set
+  where
+    go : (a b c d : Bool) →
+        ((r : Refusal) → cond a (word.Refused (BlankInside k)) (cond b (word.Refused (JukugoBase k)) (cond c (word.Refused (Mixed k)) (cond d (word.Refused (WesternOver k)) (word.Set (wordOf form w))))) ≡ word.Refused r → s ≡ Stop r) →
+        ((v : _) → cond a (word.Refused (BlankInside k)) (cond b (word.Refused (JukugoBase k)) (cond c (word.Refused (Mixed k)) (cond d (word.Refused (WesternOver k)) (word.Set (wordOf form w))))) ≡ word.Set v → s ≡ Next p) →
+        s ≡ stepped (BlankInside k when a ++ JukugoBase k when b ++ Mixed k when c ++ WesternOver k when d) p
+    go true b c d f g = f _ refl
+    go false true c d f g = f _ refl
+    go false false true d f g = f _ refl
+    go false false false true f g = f _ refl
+    go false false false false f g = g _ refl

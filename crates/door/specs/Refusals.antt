@@ -1,0 +1,117 @@
+-- The refusal list up to the lines: each row's condition, its number and place by the refusal's case, and their order (document 01, "Refusal list").
+use mathlib.Core.Bool.{Bool, true, false, not, _&&_, _||_}
+use mathlib.Core.List.{List, [], _∷_, _++_, map}
+use Prim.Native.Nat.{ℕ, suc, _+_, _%_}
+use lib.Dec.{eqb, leb, ltb}
+use lib.ListN.{getD}
+use Rattle.basics.specs.Lists.{sum, count, any, each}
+use Rattle.class.specs.Class.{accepted, western, kanaLike, blankBefore, blankAfter}
+use Rattle.refusal.specs.declared.Refusal.{Refusal}
+use Rattle.refusal.specs.declared.Refusal.the-variants.{Range, Count, Short, Character, Blanks, Element, Supply, BlankInside, JukugoBase, Mixed, WesternOver}
+use Rattle.word.specs.declared.Form.{Form}
+use Rattle.word.specs.declared.Form.the-variants.{P, M, G, J}
+use Rattle.word.specs.Answer.{blankInside, jukugoBase, mixedIn, westernOver}
+use Rattle.door.specs.declared.Piece.{Piece}
+use Rattle.door.specs.Job.{Job, baseCount, rubyCount, elementCount, entries, known, elements, given}
+
+abbrev pub outside : ℕ → ℕ → ℕ → Bool
+outside a b n = ltb n a || ltb b n
+
+-- 1: "em odd, or em or measure out of range"; em: "even, 2 to 4,096", measure: "1 to 4,000,000 units"
+abbrev pub emWrong : Job → Bool
+emWrong job = eqb (job .em % 2) 1 || outside 2 4096 (job .em)
+
+abbrev pub measureWrong : Job → Bool
+measureWrong job = outside 1 4000000 (job .measure)
+
+-- 12: "base list or line list below the base count, ruby list below the ruby count"; base, ruby and lines are the lengths of the result lists
+abbrev pub listShort : Job → ℕ → ℕ → ℕ → Bool
+listShort job base ruby lines = ltb base (baseCount job) || (ltb lines (baseCount job) || ltb ruby (rubyCount job))
+
+-- 3: "class, width or flag not accepted"
+abbrev pub baseWrong : Job → ℕ → Bool
+baseWrong job i = not (accepted (getD (job .class) i 0)) || (outside 1 4096 (getD (job .width) i 0) || ltb 1 (getD (job .flag) i 0))
+
+abbrev pub rubyWrong : Job → ℕ → Bool
+rubyWrong job i = not (accepted (getD (job .rubyClass) i 0)) || outside 1 4096 (getD (job .rubyWidth) i 0)
+
+-- 4: "blanks against the class or over the width"
+abbrev pub blanksWrong : Job → ℕ → Bool
+blanksWrong job i =
+    let c = getD (job .class) i 0 in
+    let before = getD (job .before) i 0 in
+    let after = getD (job .after) i 0 in
+    (ltb 0 before && not (blankBefore c)) || ((ltb 0 after && not (blankAfter c)) || ltb (getD (job .width) i 0) (before + after))
+
+-- 5: "element counts out of range": M "1 to 64 ruby characters"; G "1 to 32 base characters, 1 to 64 ruby characters"; J "1 to 32 base characters, each
+-- with its own run of at least 1 ruby character, 64 in all at most"
+abbrev pub countsOut : Form → ℕ → ℕ → List ℕ → Bool
+countsOut P base ruby runs = false
+countsOut M base ruby runs = outside 1 64 ruby
+countsOut G base ruby runs = outside 1 32 base || outside 1 64 ruby
+countsOut J base ruby runs = outside 1 32 base || (any (eqb 0) runs || ltb 64 ruby)
+
+-- 5: "unknown kind, or element counts out of range"
+abbrev pub countsWrong : Job → ℕ → Piece → Bool
+countsWrong job k e = not (known (getD (job .kind) k 0)) || countsOut (e .form) (e .bases) (e .rubies) (given job e .run)
+
+-- 6: "characters run out"
+abbrev pub runOut : Job → Piece → Bool
+runOut job e = ltb (baseCount job) (e .base + e .bases) || ltb (rubyCount job) (e .ruby + e .rubies)
+
+-- 6: "or some are left over"
+abbrev pub leftOver : Job → List Piece → Bool
+leftOver job es = ltb (sum (map (λ e. e .bases) es)) (baseCount job) || ltb (sum (map (λ e. e .rubies) es)) (rubyCount job)
+
+-- a refusal, where its condition holds
+infix 66 _when_
+abbrev pub _when_ : Refusal → Bool → List Refusal
+r when true = r ∷ []
+r when false = []
+
+-- "1, 2 and 12, each by lowest place": "At most 1,024 base characters, 2,048 ruby characters, 1,024 elements"
+unfoldable pub jobFaults : Job → ℕ → ℕ → ℕ → List Refusal
+unfolding baseCount rubyCount elementCount
+jobFaults job base ruby lines =
+    Range 0 when emWrong job
+    ++ Range 1 when measureWrong job
+    ++ Count 0 when ltb 1024 (baseCount job)
+    ++ Count 1 when ltb 2048 (rubyCount job)
+    ++ Count 2 when ltb 1024 (elementCount job)
+    ++ Short when listShort job base ruby lines
+
+-- "then base characters and then ruby characters in turn, 3 before 4"; "ruby ones 1,024 + index"
+abbrev pub baseFaults : Job → ℕ → List Refusal
+baseFaults job i = Character i when baseWrong job i ++ Blanks i when blanksWrong job i
+
+abbrev pub rubyFaults : Job → ℕ → List Refusal
+rubyFaults job i = Character (1024 + i) when rubyWrong job i
+
+unfoldable pub charFaults : Job → List Refusal
+unfolding baseCount rubyCount accepted blankBefore blankAfter
+charFaults job = each (baseFaults job) (count 0 (baseCount job)) ++ each (rubyFaults job) (count 0 (rubyCount job))
+
+-- "then elements in turn, in the table's order from 5"; 7 to 10 are level one's own rows
+abbrev pub elementFaults : Job → ℕ → Piece → List Refusal
+elementFaults job k e =
+    Element k when countsWrong job k e
+    ++ Supply k when runOut job e
+    ++ BlankInside k when blankInside (e .form) (given job e)
+    ++ JukugoBase k when jukugoBase (e .form) (given job e)
+    ++ Mixed k when mixedIn (e .form) (given job e)
+    ++ WesternOver k when westernOver (e .form) (given job e)
+
+unfoldable pub elementsFaults : Job → ℕ → List Piece → List Refusal
+unfolding baseCount rubyCount western kanaLike
+elementsFaults job k [] = []
+elementsFaults job k (e ∷ es) = elementFaults job k e ++ elementsFaults job (suc k) es
+
+-- "then leftover characters"; "left over: the element count"
+unfoldable pub leftFaults : Job → List Refusal
+unfolding elements elementCount baseCount rubyCount
+leftFaults job = Supply (elementCount job) when leftOver job (elements job)
+
+-- all that the door looks at, in order; "then lines in turn" follow in `job`
+unfoldable pub ownFaults : Job → ℕ → ℕ → ℕ → List Refusal
+unfolding jobFaults charFaults elementsFaults elements leftFaults
+ownFaults job base ruby lines = jobFaults job base ruby lines ++ (charFaults job ++ (elementsFaults job 0 (elements job) ++ leftFaults job))

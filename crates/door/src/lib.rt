@@ -1,0 +1,645 @@
+// The job's own faults, judged once at the door (document 01, "The job" and "Refusal list"): numbers 1, 2 and 12, then the characters (3, 4), then
+// the elements in turn (5, 6, and level one's own 7 to 10), then what is left over. Behind it nothing is checked again. It relies on
+// `word` for level one, on `class` for the class table, on `refusal` and on `basics`.
+
+ghost use mathlib.Core.Path.{_≡_};
+ghost use mathlib.Core.Bool.{not, _&&_, _||_};
+ghost use mathlib.Core.List.{[]};
+ghost use Prim.Native.Nat.{_+_, _%_, _^_, _≤_, _<_, min};
+ghost use lib.Dec.{ltb, eqb};
+ghost use lib.ListN.{length, getD};
+ghost use Rattle.basics.specs.Lists.{each, count};
+ghost use Rattle.class.specs.Class.{accepted, blankBefore, blankAfter};
+ghost use Rattle.door.specs.Job.{known, formOf, takesRuns, given, jobOf};
+ghost use Rattle.door.specs.Refusals.{outside, _when_, baseFaults, rubyFaults, ownFaults};
+ghost use Rattle.refusal.specs.declared.Refusal.the-variants.{Character};
+ghost use Rattle.door.specs.Verdict.{verdict};
+ghost use Rattle.door.specs.Values.{sizeRows, characterWrong, baseRows, runsFrom, basesOnly, rubiesOnly, BaseHolds, RubyHolds};
+ghost use Rattle.word.specs.declared.Form.the-variants as form;
+ghost use Rattle.door.specs.Elements.{countedAs, countedBy, partsOnly, Reads};
+ghost use Rattle.door.specs.Walk.{Stands, elementStep};
+ghost use Rattle.door.specs.Loop.{Holds, allRows};
+ghost use Rattle.word.specs.Answer.{answer};
+use refusal::Refusal;
+
+// An element, or the part of a J that stands in one line: its first base and ruby character in the job, how many it has of each, and the first of its runs.
+pub struct Piece {
+    pub form: word::Form,
+    pub base: usize,
+    pub bases: usize,
+    pub ruby: usize,
+    pub rubies: usize,
+    pub run: usize,
+}
+
+// Nothing to refuse so far, or the first refusal.
+pub enum Checked {
+    Passed,
+    Refused(Refusal),
+}
+
+// How many ruby characters a J's runs take, or that they are out of range.
+pub enum Runs {
+    Sum(usize),
+    Wrong,
+}
+
+// An element whose counts are in range, or that they are not.
+pub enum Counted {
+    Is(Piece),
+    Out,
+}
+
+// An element that passes, or its refusal.
+pub enum Step {
+    Next(Piece),
+    Stop(Refusal),
+}
+
+fn fewer(a: usize, b: usize) -> usize
+    ensures { λ r. ⌜ r ≡ min a b ⌝ }
+{
+    if a <= b { a } else { b }
+}
+
+// n lies outside a to b.
+fn is_outside(a: u32, b: u32, n: u32) -> bool
+    ensures { λ r. ⌜ r ≡ outside a b n ⌝ }
+{
+    if n < a {
+        return true;
+    }
+    b < n
+}
+
+// Number 1 of em.
+fn em_wrong(em: u32) -> bool
+    ensures { λ r. ⌜ r ≡ (eqb (em % 2) 1 || outside 2 4096 em) ⌝ }
+{
+    if em % 2 == 1 {
+        return true;
+    }
+    is_outside(2, 4096, em)
+}
+
+// Number 12: some result list is below its count.
+fn too_short(base: usize, ruby: usize, lines: usize, bases: usize, rubies: usize) -> bool
+    ensures { λ r. ⌜ r ≡ (ltb base bases || (ltb lines bases || ltb ruby rubies)) ⌝ }
+{
+    if base < bases {
+        return true;
+    }
+    if lines < bases {
+        return true;
+    }
+    ruby < rubies
+}
+
+// Numbers 1, 2 and 12.
+fn check_sizes(
+    em: u32,
+    measure: u32,
+    bases: usize,
+    rubies: usize,
+    elements: usize,
+    base: usize,
+    ruby: usize,
+    lines: usize,
+) -> Checked
+    ensures { λ r. ⌜ r ≡ verdict (sizeRows em measure bases rubies elements base ruby lines) ⌝ }
+{
+    if em_wrong(em) {
+        return Checked::Refused(Refusal::Range(0));
+    }
+    if is_outside(1, 4000000, measure) {
+        return Checked::Refused(Refusal::Range(1));
+    }
+    if 1024 < bases {
+        return Checked::Refused(Refusal::Count(0));
+    }
+    if 2048 < rubies {
+        return Checked::Refused(Refusal::Count(1));
+    }
+    if 1024 < elements {
+        return Checked::Refused(Refusal::Count(2));
+    }
+    if too_short(base, ruby, lines, bases, rubies) {
+        return Checked::Refused(Refusal::Short);
+    }
+    Checked::Passed
+}
+
+// Number 3 of one character; a ruby character has the flag 0.
+fn character_wrong(class: u32, width: u32, flag: u32) -> bool
+    ensures { λ r. ⌜ r ≡ characterWrong class width flag ⌝ }
+{
+    let row = class::row_of(class);
+    let accepted = row.accepted;
+    if accepted {
+        if is_outside(1, 4096, width) {
+            return true;
+        }
+        return 1 < flag;
+    }
+    true
+}
+
+// Number 4: a field that the class may not have, or blanks that together exceed the width.
+fn blanks_wrong(class: u32, width: u32, before: u32, after: u32) -> bool
+    ensures { λ r. ⌜ r ≡ ((ltb 0 before && not (blankBefore class)) || ((ltb 0 after && not (blankAfter class)) || ltb width (before + after))) ⌝ }
+{
+    let row = class::row_of(class);
+    let may_before = row.before;
+    let may_after = row.after;
+    if stray(before, may_before) {
+        return true;
+    }
+    if stray(after, may_after) {
+        return true;
+    }
+    (width as u64) < before as u64 + after as u64
+}
+
+// A blank where the class has none.
+fn stray(blank: u32, may: bool) -> bool
+    ensures { λ r. ⌜ r ≡ (ltb 0 blank && not may) ⌝ }
+{
+    if may {
+        return false;
+    }
+    0 < blank
+}
+
+// Numbers 3 and 4 of one base character.
+fn check_character(
+    place: u32,
+    class: u32,
+    width: u32,
+    before: u32,
+    after: u32,
+    flag: u32,
+) -> Checked
+    ensures { λ r. ⌜ r ≡ verdict (baseRows place class width before after flag) ⌝ }
+{
+    if character_wrong(class, width, flag) {
+        return Checked::Refused(Refusal::Character(place));
+    }
+    if blanks_wrong(class, width, before, after) {
+        return Checked::Refused(Refusal::Blanks(place));
+    }
+    Checked::Passed
+}
+
+// Base characters in turn.
+fn check_bases(
+    n: usize,
+    class: &[u32],
+    width: &[u32],
+    before: &[u32],
+    after: &[u32],
+    flag: &[u32],
+) -> Checked
+    requires { ⌜ BaseHolds n (now class) (now width) (now before) (now after) (now flag) ⌝ }
+    ensures { λ r. ⌜ r ≡ verdict (each (baseFaults (basesOnly (now (class .entry)) (now (width .entry)) (now (before .entry)) (now (after .entry)) (now (flag .entry)))) (count 0 n)) ⌝ }
+{
+    let mut i: usize = 0;
+    while i < n {
+        let found = check_character(i as u32, class[i], width[i], before[i], after[i], flag[i]);
+        let Checked::Passed = found else {
+            return found;
+        };
+        i += 1;
+    }
+    Checked::Passed
+}
+
+// One ruby character; "ruby ones 1,024 + index".
+fn check_reading(i: u32, class: u32, width: u32) -> Checked
+    requires { ⌜ i < 2048 ⌝ }
+    ensures { λ r. ⌜ r ≡ verdict (Character (1024 + i) when (not (accepted class) || outside 1 4096 width)) ⌝ }
+{
+    if character_wrong(class, width, 0) {
+        return Checked::Refused(Refusal::Character(1024 + i));
+    }
+    Checked::Passed
+}
+
+// Ruby characters in turn.
+fn check_rubies(n: usize, class: &[u32], width: &[u32]) -> Checked
+    requires { ⌜ RubyHolds n (now class) (now width) ⌝ }
+    ensures { λ r. ⌜ r ≡ verdict (each (rubyFaults (rubiesOnly (now (class .entry)) (now (width .entry)))) (count 0 n)) ⌝ }
+{
+    let mut i: usize = 0;
+    while i < n {
+        let found = check_reading(i as u32, class[i], width[i]);
+        let Checked::Passed = found else {
+            return found;
+        };
+        i += 1;
+    }
+    Checked::Passed
+}
+
+fn is_known(kind: u32) -> bool
+    ensures { λ r. ⌜ r ≡ known kind ⌝ }
+{
+    if kind == 80 {
+        return true;
+    }
+    if kind == 77 {
+        return true;
+    }
+    if kind == 71 {
+        return true;
+    }
+    kind == 74
+}
+
+fn form_of(kind: u32) -> word::Form
+    ensures { λ r. ⌜ r ≡ formOf kind ⌝ }
+{
+    if kind == 77 {
+        return word::Form::M;
+    }
+    if kind == 71 {
+        return word::Form::G;
+    }
+    if kind == 74 {
+        return word::Form::J;
+    }
+    word::Form::P
+}
+
+// "A J run past the end of its list reads as 0."
+fn run_at(i: usize, runs: &[u32]) -> u32
+    ensures { λ r. ⌜ r ≡ getD (now (runs .entry)) i 0 ⌝ }
+{
+    if i < runs.len() { runs[i] } else { 0 }
+}
+
+// The n runs of a J from the u-th on: each at least 1, at most 64 in all.
+fn runs_from(u: usize, n: usize, runs: &[u32]) -> Runs
+    requires { ⌜ (u ≤ 1024) × (n ≤ 32) ⌝ }
+    ensures { λ r. ⌜ r ≡ runsFrom (now (runs .entry)) u n ⌝ }
+{
+    let mut taken: usize = 0;
+    let mut j: usize = 0;
+    while j < n {
+        let run = run_at(u + j, runs);
+        if run == 0 {
+            return Runs::Wrong;
+        }
+        taken += run as usize;
+        j += 1;
+    }
+    if 64 < taken {
+        return Runs::Wrong;
+    }
+    Runs::Sum(taken)
+}
+
+// Number 5 of an M, a G and a J.
+fn count_mono(ruby: u32, b: usize, r: usize, u: usize) -> Counted
+    ensures { λ c. ⌜ c ≡ countedAs form.M 1 ruby [] b r u ⌝ }
+{
+    if is_outside(1, 64, ruby) {
+        return Counted::Out;
+    }
+    Counted::Is(Piece {
+        form: word::Form::M,
+        base: b,
+        bases: 1,
+        ruby: r,
+        rubies: ruby as usize,
+        run: u,
+    })
+}
+
+fn count_group(base: u32, ruby: u32, b: usize, r: usize, u: usize) -> Counted
+    ensures { λ c. ⌜ c ≡ countedAs form.G base ruby [] b r u ⌝ }
+{
+    if is_outside(1, 32, base) {
+        return Counted::Out;
+    }
+    if is_outside(1, 64, ruby) {
+        return Counted::Out;
+    }
+    Counted::Is(Piece {
+        form: word::Form::G,
+        base: b,
+        bases: base as usize,
+        ruby: r,
+        rubies: ruby as usize,
+        run: u,
+    })
+}
+
+fn count_jukugo(base: u32, b: usize, r: usize, u: usize, runs: &[u32]) -> Counted
+    requires { ⌜ u ≤ 1024 ⌝ }
+    ensures { λ c. ⌜ c ≡ countedAs form.J base 0 (now (runs .entry)) b r u ⌝ }
+{
+    if is_outside(1, 32, base) {
+        return Counted::Out;
+    }
+    match runs_from(u, base as usize, runs) {
+        Runs::Wrong => Counted::Out,
+        Runs::Sum(taken) => Counted::Is(Piece {
+            form: word::Form::J,
+            base: b,
+            bases: base as usize,
+            ruby: r,
+            rubies: taken,
+            run: u,
+        }),
+    }
+}
+
+// Number 5: an element by its kind and counts, those before it having taken b base characters, r ruby characters and u runs. Counts that its kind does not show are not read.
+fn count_element(
+    kind: u32,
+    base: u32,
+    ruby: u32,
+    b: usize,
+    r: usize,
+    u: usize,
+    runs: &[u32],
+) -> Counted
+    requires { ⌜ u ≤ 1024 ⌝ }
+    ensures { λ c. ⌜ c ≡ countedBy kind base ruby (now (runs .entry)) b r u ⌝ }
+{
+    if !is_known(kind) {
+        return Counted::Out;
+    }
+    match form_of(kind) {
+        word::Form::P => Counted::Is(Piece {
+            form: word::Form::P,
+            base: b,
+            bases: 1,
+            ruby: r,
+            rubies: 0,
+            run: u,
+        }),
+        word::Form::M => count_mono(ruby, b, r, u),
+        word::Form::G => count_group(base, ruby, b, r, u),
+        word::Form::J => count_jukugo(base, b, r, u, runs),
+    }
+}
+
+// Number 6 of an element: it needs more characters than are left.
+fn runs_out(p: Piece, bases: usize, rubies: usize) -> bool
+    requires { ⌜ (p .base + p .bases < 2 ^ 40) × (p .ruby + p .rubies < 2 ^ 40) ⌝ }
+    ensures { λ t. ⌜ t ≡ (ltb bases (p .base + p .bases) || ltb rubies (p .ruby + p .rubies)) ⌝ }
+{
+    if bases < p.base + p.bases {
+        return true;
+    }
+    rubies < p.ruby + p.rubies
+}
+
+// Where a piece's runs end: only a J has any.
+fn runs_end(p: Piece) -> usize
+    requires { ⌜ p .run + p .bases < 2 ^ 40 ⌝ }
+    ensures { λ e. ⌜ e ≡ p .run + takesRuns (p .form) (p .bases) ⌝ }
+{
+    let form = p.form;
+    match form {
+        word::Form::P => p.run,
+        word::Form::M => p.run,
+        word::Form::G => p.run,
+        word::Form::J => p.run + p.bases,
+    }
+}
+
+// Level one's answer to a piece: the word of its own characters. `k` is the element's place.
+pub fn measure_piece(
+    k: u32,
+    p: Piece,
+    em: u32,
+    class: &[u32],
+    width: &[u32],
+    before: &[u32],
+    after: &[u32],
+    rclass: &[u32],
+    rwidth: &[u32],
+    runs: &[u32],
+) -> word::Answer
+    requires { ⌜ (p .run + p .bases < 2 ^ 40) × Reads (partsOnly em (now class) (now width) (now before) (now after) (now rclass) (now rwidth) [] [] [] (now runs)) p ⌝ }
+    ensures { λ a. ⌜ a ≡ answer (p .form) k (given (partsOnly em (now (class .entry)) (now (width .entry)) (now (before .entry)) (now (after .entry)) (now (rclass .entry)) (now (rwidth .entry)) [] [] [] (now (runs .entry))) p) ⌝ }
+{
+    let form = p.form;
+    let b = p.base;
+    let e = p.base + p.bases;
+    let r = p.ruby;
+    let s = p.ruby + p.rubies;
+    let u = p.run;
+    let v = runs_end(p);
+    word::measure(
+        form,
+        k,
+        em,
+        &class[b..e],
+        &width[b..e],
+        &before[b..e],
+        &after[b..e],
+        &rclass[r..s],
+        &rwidth[r..s],
+        &runs[u..v],
+    )
+}
+
+// Element k, those before it having taken b base characters, r ruby characters and u runs, of `bases` and `rubies` in all: numbers 5, 6, and 7 to 10 as level one gives them.
+fn check_element(
+    k: usize,
+    b: usize,
+    r: usize,
+    u: usize,
+    bases: usize,
+    rubies: usize,
+    em: u32,
+    class: &[u32],
+    width: &[u32],
+    before: &[u32],
+    after: &[u32],
+    rclass: &[u32],
+    rwidth: &[u32],
+    kind: &[u32],
+    ebase: &[u32],
+    eruby: &[u32],
+    runs: &[u32],
+) -> Step
+    requires { ⌜ Stands bases rubies (partsOnly em (now class) (now width) (now before) (now after) (now rclass) (now rwidth) (now kind) (now ebase) (now eruby) (now runs)) k b r u ⌝ }
+    ensures { λ s. ⌜ s ≡ elementStep bases rubies (partsOnly em (now (class .entry)) (now (width .entry)) (now (before .entry)) (now (after .entry)) (now (rclass .entry)) (now (rwidth .entry)) (now (kind .entry)) (now (ebase .entry)) (now (eruby .entry)) (now (runs .entry))) k b r u ⌝ }
+{
+    let place = k as u32;
+    let counted = count_element(kind[k], ebase[k], eruby[k], b, r, u, runs);
+    let Counted::Is(p) = counted else {
+        return Step::Stop(Refusal::Element(place));
+    };
+    if runs_out(p, bases, rubies) {
+        return Step::Stop(Refusal::Supply(place));
+    }
+    match measure_piece(
+        place,
+        p,
+        em,
+        class,
+        width,
+        before,
+        after,
+        rclass,
+        rwidth,
+        runs,
+    ) {
+        word::Answer::Set(_) => Step::Next(p),
+        word::Answer::Refused(why) => Step::Stop(why),
+    }
+}
+
+// Characters that no element took.
+fn left_over(b: usize, r: usize, bases: usize, rubies: usize) -> bool
+    ensures { λ t. ⌜ t ≡ (ltb b bases || ltb r rubies) ⌝ }
+{
+    if b < bases {
+        return true;
+    }
+    r < rubies
+}
+
+// The n elements in turn, then what is left over.
+fn check_elements(
+    n: usize,
+    bases: usize,
+    rubies: usize,
+    em: u32,
+    class: &[u32],
+    width: &[u32],
+    before: &[u32],
+    after: &[u32],
+    rclass: &[u32],
+    rwidth: &[u32],
+    kind: &[u32],
+    ebase: &[u32],
+    eruby: &[u32],
+    runs: &[u32],
+) -> Checked
+    requires { ⌜ Holds n bases rubies (partsOnly em (now class) (now width) (now before) (now after) (now rclass) (now rwidth) (now kind) (now ebase) (now eruby) (now runs)) ⌝ }
+    ensures { λ c. ⌜ c ≡ verdict (allRows bases rubies (partsOnly em (now (class .entry)) (now (width .entry)) (now (before .entry)) (now (after .entry)) (now (rclass .entry)) (now (rwidth .entry)) (now (kind .entry)) (now (ebase .entry)) (now (eruby .entry)) (now (runs .entry))) n) ⌝ }
+{
+    let mut b: usize = 0;
+    let mut r: usize = 0;
+    let mut u: usize = 0;
+    let mut k: usize = 0;
+    while k < n {
+        match check_element(
+            k,
+            b,
+            r,
+            u,
+            bases,
+            rubies,
+            em,
+            class,
+            width,
+            before,
+            after,
+            rclass,
+            rwidth,
+            kind,
+            ebase,
+            eruby,
+            runs,
+        ) {
+            Step::Stop(why) => return Checked::Refused(why),
+            Step::Next(p) => {
+                b += p.bases;
+                r += p.rubies;
+                u = runs_end(p);
+                k += 1;
+            }
+        }
+    }
+    if left_over(b, r, bases, rubies) {
+        return Checked::Refused(Refusal::Supply(n as u32));
+    }
+    Checked::Passed
+}
+
+// "Where a kind's fields come in several lists, its count is the shortest list's length."
+pub fn base_count(
+    class: &[u32],
+    width: &[u32],
+    before: &[u32],
+    after: &[u32],
+    flag: &[u32],
+) -> usize
+    ensures { λ n. ⌜ n ≡ min (length (now (class .entry))) (min (length (now (width .entry))) (min (length (now (before .entry))) (min (length (now (after .entry))) (length (now (flag .entry)))))) ⌝ }
+{
+    let blanks = fewer(before.len(), fewer(after.len(), flag.len()));
+    fewer(class.len(), fewer(width.len(), blanks))
+}
+
+pub fn ruby_count(rclass: &[u32], rwidth: &[u32]) -> usize
+    ensures { λ n. ⌜ n ≡ min (length (now (rclass .entry))) (length (now (rwidth .entry))) ⌝ }
+{
+    fewer(rclass.len(), rwidth.len())
+}
+
+pub fn element_count(kind: &[u32], ebase: &[u32], eruby: &[u32]) -> usize
+    ensures { λ n. ⌜ n ≡ min (length (now (kind .entry))) (min (length (now (ebase .entry))) (length (now (eruby .entry)))) ⌝ }
+{
+    fewer(kind.len(), fewer(ebase.len(), eruby.len()))
+}
+
+// The job's own faults, in the order of the refusal list. `base`, `ruby` and `lines` are the lengths of the result lists.
+pub fn check_job(
+    em: u32,
+    measure: u32,
+    class: &[u32],
+    width: &[u32],
+    before: &[u32],
+    after: &[u32],
+    flag: &[u32],
+    rclass: &[u32],
+    rwidth: &[u32],
+    kind: &[u32],
+    ebase: &[u32],
+    eruby: &[u32],
+    runs: &[u32],
+    base: usize,
+    ruby: usize,
+    lines: usize,
+) -> Checked
+    ensures { λ c. ⌜ c ≡ verdict (ownFaults (jobOf em measure (now (class .entry)) (now (width .entry)) (now (before .entry)) (now (after .entry)) (now (flag .entry)) (now (rclass .entry)) (now (rwidth .entry)) (now (kind .entry)) (now (ebase .entry)) (now (eruby .entry)) (now (runs .entry))) base ruby lines) ⌝ }
+{
+    let bases = base_count(class, width, before, after, flag);
+    let rubies = ruby_count(rclass, rwidth);
+    let elements = element_count(kind, ebase, eruby);
+    let sizes = check_sizes(em, measure, bases, rubies, elements, base, ruby, lines);
+    let Checked::Passed = sizes else {
+        return sizes;
+    };
+    let characters = check_bases(bases, class, width, before, after, flag);
+    let Checked::Passed = characters else {
+        return characters;
+    };
+    let readings = check_rubies(rubies, rclass, rwidth);
+    let Checked::Passed = readings else {
+        return readings;
+    };
+    check_elements(
+        elements,
+        bases,
+        rubies,
+        em,
+        class,
+        width,
+        before,
+        after,
+        rclass,
+        rwidth,
+        kind,
+        ebase,
+        eruby,
+        runs,
+    )
+}

@@ -1,0 +1,68 @@
+-- Each test is one field of the record, and one that fails denies the whole. Of an element with ruby the two shapes are tried in turn.
+use mathlib.Core.Path.{sym, subst}
+use mathlib.Core.Logic.{inl, inr, ⊎-elim}
+use lib.Dec.{T}
+use Rattle.line.specs.Passes.{told, denied}
+use borrow.Author.Needs.{needs}
+use native.Mathlib.Omega.{arith}
+use Rattle.line.proofs.lists.set_within.Statement.{statement}
+use Rattle.line.proofs.lists.set_within.Tie as tie
+
+returns : tie.Need-returns
+returns c = denied (λ w. omega (arith, w .flagged))
+
+returns-2 : tie.Need-returns-2
+returns-2 c = denied (λ w. omega (arith, w .sound .some))
+
+returns-3 : tie.Need-returns-3
+returns-3 c = denied (λ w. omega (arith, w .sound .before))
+
+returns-4 : tie.Need-returns-4
+returns-4 c = denied (λ w. omega (arith, w .sound .after))
+
+inside-requires : tie.Need-inside-requires
+inside-requires c κs = search needs
+
+around-requires : tie.Need-around-requires
+around-requires c κs = search needs
+
+returns-5 : tie.Need-returns-5
+returns-5 c =
+    told
+    (record {
+      flagged = omega arith;
+      sound = record { some = omega arith; before = omega arith; after = omega arith; shape = λ t. inl (c .before .inside .ensures .yes (c .if6 .taken)) };
+    })
+
+returns-6 : tie.Need-returns-6
+returns-6 c =
+    let inside = c .before .before in
+    record {
+      yes = λ q. record {
+        flagged = omega arith;
+        sound = record { some = omega arith; before = omega arith; after = omega arith; shape = λ t. inr (c .around .ensures .yes q) };
+      };
+      no = λ q w. ⊎-elim (inside .inside .ensures .no (c .before .if6 .left)) (c .around .ensures .no q) (w .sound .shape (subst T (sym (inside .before .if5 .taken)) tt));
+    }
+
+returns-7 : tie.Need-returns-7
+returns-7 c =
+    told
+    (record {
+      flagged = omega arith;
+      sound = record { some = omega arith; before = omega arith; after = omega arith; shape = λ t. absurd (subst T (c .if5 .left) t) };
+    })
+
+pub set-within-spec : {M : Type 1} → statement M
+set-within-spec =
+    tie.close
+    (tie.spec
+    returns
+    returns-2
+    returns-3
+    returns-4
+    inside-requires
+    around-requires
+    returns-5
+    returns-6
+    returns-7)

@@ -1,0 +1,12 @@
+pub mod Rules
+pub mod Setting
+pub mod Pairs
+pub mod Least
+pub mod Extent
+pub mod Theorems
+pub mod Bound
+pub mod Cases
+pub mod Place
+pub mod Promise
+pub mod Passes
+pub mod Determined

@@ -1,0 +1,47 @@
+-- What the passes of `set_line` promise each other: over the lists, the setting's last state, and its origins written.
+use mathlib.Core.Path.{_≡_}
+use mathlib.Core.Bool.{Bool, true, false, cond, true≢false, false≢true}
+use mathlib.Core.List.{List}
+use Prim.Native.Nat.{ℕ, _*_, _≤_, _<_}
+use lib.ListN.{length}
+use lib.Dec.{leb}
+use Rattle.refusal.specs.declared.Refusal.the-variants.{Far}
+use Rattle.line.specs.declared.State.{State}
+use Rattle.line.specs.declared.Answer.{Answer}
+use Rattle.line.specs.declared.Answer.the-variants.{Set, Declined}
+use Rattle.line.specs.declared.Why.the-variants.{Refused, Long}
+use Rattle.line.specs.Rules.{largest}
+use Rattle.line.specs.Setting.{start, run, furthest}
+use Rattle.line.specs.Promise.{Lists, shortest, line}
+
+-- a test that is true exactly where P holds
+pub record Tells (r : Bool) (P : Type 0) : Type 0 where
+  pub yes : r ≡ true → P
+  pub no : r ≡ false → P → ⊥
+
+pub told : {P : Type 0} → P → Tells true P
+told p = record { yes = λ e. p; no = λ e q. true≢false e }
+
+pub denied : {P : Type 0} → (P → ⊥) → Tells false P
+denied n = record { yes = λ e. absurd (false≢true e); no = λ e q. n q }
+
+-- the lists have an entry i
+pub record Has (i : ℕ) (l : Lists) : Type 0 where
+  pub fronts : i < length (l .front)
+  pub lens : i < length (l .len)
+  pub rubys : i < length (l .ruby)
+  pub froms : i < length (l .from)
+  pub uptos : i < length (l .upto)
+  pub befores : i < length (l .before)
+  pub afters : i < length (l .after)
+
+-- the answer, by the last state
+abbrev pub tried : (first measure : ℕ) → State → Answer
+tried first measure st =
+    cond (leb (furthest st) largest) (cond (leb (furthest st) (2 * measure)) (Set (furthest st)) (Declined Long)) (Declined (Refused (Far first)))
+
+-- what the writing pass may count on, once the line was tried
+pub record Ready (count : ℕ) (l : Lists) (out : List ℕ) : Type 0 where
+  pub all : count ≡ shortest l
+  pub room : count ≤ length out
+  pub near : furthest (run start (line l)) ≤ largest

@@ -1,0 +1,84 @@
+-- What `set_line` promises, in the rules' own terms: nothing here says how a setting is found.
+use mathlib.Core.Path.{_≡_}
+use mathlib.Core.List.{List, _++_, map}
+use mathlib.Core.Logic.{_⊎_}
+use Prim.Native.Nat.{ℕ, _≤_, _<_, min}
+use lib.ListN.{length, getD, drop}
+use lib.Dec.{eqb}
+use Rattle.basics.specs.Lists.{count}
+use Rattle.refusal.specs.declared.Refusal.the-variants.{Short, Far}
+use Rattle.line.specs.declared.Element.{Element}
+use Rattle.line.specs.declared.Answer.{Answer}
+use Rattle.line.specs.declared.Answer.the-variants.{Set, Declined}
+use Rattle.line.specs.declared.Why.{Why}
+use Rattle.line.specs.declared.Why.the-variants.{Refused, Unsound, Long}
+use Rattle.line.specs.Rules.{Apart, Clear, Least, extent, Sound, largest}
+
+-- a line as it is lent: one list a field
+pub record Lists : Type 0 where
+  pub front : List ℕ
+  pub len : List ℕ
+  pub ruby : List ℕ
+  pub from : List ℕ
+  pub upto : List ℕ
+  pub before : List ℕ
+  pub after : List ℕ
+
+abbrev pub lists : (front len ruby from upto before after : List ℕ) → Lists
+lists front len ruby from upto before after =
+    record { front = front; len = len; ruby = ruby; from = from; upto = upto; before = before; after = after }
+
+-- "Where a kind's fields come in several lists, its count is the shortest list's length."
+unfoldable pub shortest : Lists → ℕ
+shortest l =
+    min (min (min (length (l .front)) (length (l .len))) (min (length (l .ruby)) (length (l .from))))
+    (min (min (length (l .upto)) (length (l .before))) (length (l .after)))
+
+abbrev pub elementAt : Lists → ℕ → Element
+elementAt l i =
+    record {
+      front = getD (l .front) i 0;
+      len = getD (l .len) i 0;
+      ruby = eqb (getD (l .ruby) i 0) 1;
+      from = getD (l .from) i 0;
+      upto = getD (l .upto) i 0;
+      before = getD (l .before) i 0;
+      after = getD (l .after) i 0;
+    }
+
+abbrev pub line : Lists → List Element
+line l = map (elementAt l) (count 0 (shortest l))
+
+-- an element "already set within itself", its flag 0 or 1
+pub record SetWithin (flag : ℕ) (e : Element) : Type 0 where
+  pub flagged : flag ≤ 1
+  pub sound : Sound e
+
+abbrev pub AllWithin : Lists → Type 0
+AllWithin l = (i : ℕ) → i < shortest l → SetWithin (getD (l .ruby) i 0) (elementAt l i)
+
+-- the refusal where T fails, and what follows where it holds
+abbrev pub Unless : (T : Type 0) → Type 0 → Type 0 → Type 0
+Unless T refused follows = ((T → ⊥) × refused) ⊎ (T × follows)
+
+-- the lent list is left as it was
+pub record Declines (why : Why) (was now : List ℕ) (r : Answer) : Type 0 where
+  pub answer : r ≡ Declined why
+  pub untouched : now ≡ was
+
+-- the origins of the least setting stand at the list's front, and the rest of it is left as it was
+pub record Sets (measure : ℕ) (es : List Element) (was now : List ℕ) (r : Answer) : Type 0 where
+  pub origins : List ℕ
+  pub setting : Least measure es origins
+  pub answer : r ≡ Set (extent es origins)
+  pub written : now ≡ origins ++ drop (length es) was
+
+-- The answers in document 01's order: a result list too short (12), elements not set within themselves, a position past the largest (14:
+-- no setting keeps rules 1 to 3 short of it), too long (no setting keeps all four).
+abbrev pub Promise : (first measure : ℕ) (l : Lists) (was now : List ℕ) → Answer → Type 0
+Promise first measure l was now r =
+    Unless (shortest l ≤ length was) (Declines (Refused Short) was now r)
+    (Unless (AllWithin l) (Declines Unsound was now r)
+    (Unless ((xs : List ℕ) × Apart (line l) xs × (extent (line l) xs ≤ largest)) (Declines (Refused (Far first)) was now r)
+    (Unless ((xs : List ℕ) × Clear measure (line l) xs) (Declines Long was now r)
+    (Sets measure (line l) was now r))))
