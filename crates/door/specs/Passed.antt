@@ -46,6 +46,7 @@ pub record Few (form : Form) (bases rubies : ℕ) (runs : List ℕ) : Type 0 whe
   pub some : 0 < bases
   pub few : bases ≤ 32
   pub reads : hasRuby form ≡ true → 0 < rubies
+  pub plain : hasRuby form ≡ false → rubies ≡ 0
   pub fewRuby : rubies ≤ 64
   pub whole : isJ form ≡ true → rubies ≡ sum runs
   pub each : isJ form ≡ true → All (λ n. 0 < n) runs
@@ -133,21 +134,21 @@ within a b n e = let q = or-none (ltb n a) (ltb b n) e in (ltb-false n a (q .0),
 pub few-of : (form : Form) (b r : ℕ) (runs : List ℕ) → length runs ≡ takesBase form b → countsOut form (takesBase form b) (takesRuby form r (sum runs)) runs ≡ false →
     Few form (takesBase form b) (takesRuby form r (sum runs)) runs
 few-of P b r runs l e =
-    record { some = omega arith; few = omega arith; reads = λ h. absurd (false≢true h); fewRuby = zero-le; whole = λ h. absurd (false≢true h); each = λ h. absurd (false≢true h) }
+    record { some = omega arith; few = omega arith; reads = λ h. absurd (false≢true h); plain = λ h. refl; fewRuby = zero-le; whole = λ h. absurd (false≢true h); each = λ h. absurd (false≢true h) }
 few-of M b r runs l e =
     let q = within 1 64 r e in
-    record { some = omega arith; few = omega arith; reads = λ h. q .0; fewRuby = q .1; whole = λ h. absurd (false≢true h); each = λ h. absurd (false≢true h) }
+    record { some = omega arith; few = omega arith; reads = λ h. q .0; plain = λ h. absurd (true≢false h); fewRuby = q .1; whole = λ h. absurd (false≢true h); each = λ h. absurd (false≢true h) }
 few-of G b r runs l e =
     let p = or-none (outside 1 32 b) (outside 1 64 r) e in
     let n = within 1 32 b (p .0) in
     let q = within 1 64 r (p .1) in
-    record { some = n .0; few = n .1; reads = λ h. q .0; fewRuby = q .1; whole = λ h. absurd (false≢true h); each = λ h. absurd (false≢true h) }
+    record { some = n .0; few = n .1; reads = λ h. q .0; plain = λ h. absurd (true≢false h); fewRuby = q .1; whole = λ h. absurd (false≢true h); each = λ h. absurd (false≢true h) }
 few-of J b r runs l e =
     let p = or-none (outside 1 32 b) (any (eqb 0) runs || ltb 64 (sum runs)) e in
     let n = within 1 32 b (p .0) in
     let q = or-none (any (eqb 0) runs) (ltb 64 (sum runs)) (p .1) in
     let a = none-zero runs (q .0) in
-    record { some = n .0; few = n .1; reads = λ h. some-sum runs (omega (arith, n .0)) a; fewRuby = ltb-false 64 (sum runs) (q .1); whole = λ h. refl; each = λ h. a }
+    record { some = n .0; few = n .1; reads = λ h. some-sum runs (omega (arith, n .0)) a; plain = λ h. absurd (true≢false h); fewRuby = ltb-false 64 (sum runs) (q .1); whole = λ h. refl; each = λ h. a }
 
 -- rows 5 to 10 of an element, none of which holds
 pub record Rows (job : Job) (k : ℕ) (x : Piece) : Type 0 where

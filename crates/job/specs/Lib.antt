@@ -1,0 +1,13 @@
+pub mod Line
+pub mod Refusals
+pub mod Outcome
+pub mod Cases
+pub mod Laws
+pub mod Pieces
+pub mod Walk
+pub mod Words
+pub mod Sound
+pub mod Bounded
+pub mod Promise
+pub mod Filled
+pub mod Declined

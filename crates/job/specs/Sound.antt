@@ -1,0 +1,66 @@
+-- Every line of a job that passes the door is a line of elements that are set within themselves: what level one promises of a word is what level two asks
+-- of an element. So the theorems of `line` hold of it.
+use mathlib.Core.Path.{_≡_, refl}
+use mathlib.Core.Bool.{Bool, true, false}
+use mathlib.Core.List.{List, [], _∷_, map}
+use mathlib.Core.Logic.{_⊎_, inl, inr}
+use Prim.Native.Nat.{ℕ, zero, suc, _+_, _*_, _≤_, _<_, zero-le}
+use native.Mathlib.Omega.{arith}
+use lib.Dec.{T}
+use lib.ListN.{length, getD}
+use Rattle.basics.specs.Lists.{sum, All}
+use Rattle.class.specs.Class.{depthBefore, depthAfter}
+use Rattle.class.specs.Laws.{before-within, after-within}
+use Rattle.word.specs.declared.Form.{Form}
+use Rattle.word.specs.declared.Form.the-variants.{P, M, G, J}
+use Rattle.word.specs.Promise as word
+use Rattle.line.specs.Rules.{Inside, Around, Sound, Sounds}
+use Rattle.door.specs.declared.Piece.{Piece}
+use Rattle.door.specs.Job.{Job, given}
+use Rattle.job.specs.Line.{pieces, wordOf, onP, seen, lineOf}
+use Rattle.job.specs.Laws.{entries-first}
+use Rattle.door.specs.Passed.{Passed}
+use Rattle.job.specs.Words.{GoodPiece, promise, good-pieces}
+
+on-le : (form : Form) (depth n : ℕ) → depth ≤ n → onP form depth ≤ n
+on-le P depth n h = h
+on-le M depth n h = zero-le
+on-le G depth n h = zero-le
+on-le J depth n h = zero-le
+
+is-true : (t : Bool) → T t → t ≡ true
+is-true true h = refl
+is-true false h = absurd h
+
+module _ (job : Job) (passed : Passed job) where
+  sound : (p : Piece) → GoodPiece job p → Sound (seen job p)
+  unfolding seen
+  sound p g =
+      let w = getD (job .width) (p .base) 0 in
+      let c = getD (job .class) (p .base) 0 in
+      let f : w ≤ sum (given job p .width) = entries-first (job .width) (p .base) (p .bases) (g .some) in
+      let k = promise job p g in
+      let b = passed .base (p .base) (omega (arith, g .some, g .inside)) in
+      let wide : 2 * w ≤ wordOf job p .len = omega (arith, k .block) in
+      record {
+        some = k .some;
+        before = on-le (p .form) _ _ (omega (arith, before-within c w (getD (job .before) (p .base) 0) (job .em) (omega (arith, b .blanks))));
+        after = on-le (p .form) _ _ (omega (arith, after-within c w (getD (job .after) (p .base) 0) (job .em) (omega (arith, b .blanks))));
+        shape = λ t. shape (k .shape (is-true (wordOf job p .ruby) t));
+      }
+    where
+      shape : word.Inside (wordOf job p) ⊎ word.Around (wordOf job p) → Inside (seen job p) ⊎ Around (seen job p)
+      shape (inl h) = inl (record { enters = h .enters; runs = h .runs; leaves = h .leaves })
+      shape (inr h) = inr (record { leads = h .leads; trails = h .trails })
+
+  sounds-of : (ps : List Piece) → All (GoodPiece job) ps → Sounds (map (seen job) ps)
+  sounds-of [] a i h = absurd (none i h)
+    where
+      none : (i : ℕ) → i < 0 → ⊥
+      none i h = omega arith
+  sounds-of (p ∷ ps) a zero h = sound p (a .0)
+  sounds-of (p ∷ ps) a (suc i) h = sounds-of ps (a .1) i (omega arith)
+
+  pub sounds : (s e : ℕ) → Sounds (lineOf job s e)
+  unfolding lineOf
+  sounds s e = sounds-of (pieces job s e) (good-pieces job passed s e)

@@ -1,0 +1,356 @@
+-- What a walk over the elements needs to know to fill lines, for a job that passes the door: one element more in the line, one break more among the tries,
+-- and where the search may stop. Nothing here says what a line is; `Line` does.
+use mathlib.Core.Path.{_≡_, refl, sym, ap, ap₂, _∙_, subst}
+use mathlib.Core.Bool.{Bool, true, false, cond, _&&_, _||_, true≢false, false≢true}
+use mathlib.Core.List.{List, [], _∷_, _++_, map, map-append, append-nil, append-assoc}
+use Prim.Native.Nat.{ℕ, zero, suc, _+_, _-_, _*_, _≤_, _<_, min, max, zero-le}
+use native.Mathlib.Numerals.{add-one}
+use native.Mathlib.Nat.{zero-add, add-zero, add-suc, sub-zero}
+use native.Mathlib.Omega.{arith}
+use borrow.Author.Tests.{ltb-true, ltb-false, lt-ltb, le-ltb, lt-leb, eq-eqb, ne-eqb}
+use lib.Dec.{eqb, leb, ltb}
+use lib.ListN.{length, getD, take, drop, take-append-drop, length-map}
+use lib.Seq.{drop-drop, drop-cons, take-all}
+use Rattle.basics.specs.Lists.{sum, count, any, keep, each, All, lastOr}
+use Rattle.basics.specs.Laws.{none-any}
+use Rattle.word.specs.Given.{isJ}
+use Rattle.line.specs.declared.Element.{Element}
+use Rattle.line.specs.declared.State.{State}
+use Rattle.line.specs.Rules.{extent}
+use Rattle.line.specs.Setting.{start, put, origin, settleFrom, settle, run}
+use Rattle.line.specs.Setting as setting
+use Rattle.line.specs.Least.{run-append}
+use Rattle.line.specs.Extent.{run-grows}
+use Rattle.line.specs.Theorems.{prefix, extent-state}
+use Rattle.door.specs.declared.Piece.{Piece}
+use Rattle.door.specs.Job.{Job, baseCount, rubyCount, elementCount, takesRuns, element, elementsFrom, elements}
+use Rattle.job.specs.Line.{part, inLine, pieces, seen, lineOf, origins, extentOf, canSet, endsIn, permitted, tries, furthest, along, baseAt, rubyAt, baseIn, rubyIn}
+use Rattle.job.specs.Laws.{any-append, count-join, keep-append, keep-keep, last-append}
+use Rattle.door.specs.Passed.{GoodElement, Tiled, Passed}
+use Rattle.job.specs.Pieces.{in-whole, in-cut, IsElement, is-element, into, none-before, beyond, tiled-split}
+
+-- The walk stands before element k; those before it have taken b base characters, r ruby characters and u runs.
+
+pub record At (job : Job) (k b r u : ℕ) : Type 0 where
+  pub rest : drop k (elements job) ≡ elementsFrom job (elementCount job - k) k b r u
+
+pub at-first : (job : Job) → At job 0 0 0 0
+unfolding elements
+at-first job = record { rest = rw (sub-zero (elementCount job)) }
+
+-- its rest is the element and the rest after it
+at-cons : (job : Job) (k b r u : ℕ) → k < elementCount job → At job k b r u →
+    let x = element job k b r u in
+    drop k (elements job) ≡ x ∷ elementsFrom job (elementCount job - (k + 1)) (k + 1) (b + x .bases) (r + x .rubies) (u + takesRuns (x .form) (x .bases))
+unfolding elementsFrom
+at-cons job k b r u h a = a .rest ∙ go (elementCount job - k) (elementCount job - (k + 1)) (omega arith)
+  where
+    x : Piece
+    x = element job k b r u
+
+    go : (m n : ℕ) → m ≡ suc n → elementsFrom job m k b r u ≡ x ∷ elementsFrom job n (k + 1) (b + x .bases) (r + x .rubies) (u + takesRuns (x .form) (x .bases))
+    go m n e = rw (e, add-one)
+
+pub at-next : (job : Job) (k b r u : ℕ) → k < elementCount job → At job k b r u →
+    let x = element job k b r u in At job (k + 1) (b + x .bases) (r + x .rubies) (u + takesRuns (x .form) (x .bases))
+at-next job k b r u h a = record { rest = sym (drop-drop 1 k (elements job)) ∙ ap (λ es. drop 1 es) (at-cons job k b r u h a) }
+
+-- so it is an element of the job
+pub at-element : (job : Job) → Passed job → (k b r u : ℕ) → k < elementCount job → At job k b r u → IsElement job (element job k b r u)
+at-element job p k b r u h a =
+    let x = element job k b r u in
+    is-element job p (take k (elements job)) _ x (sym (take-append-drop k (elements job)) ∙ ap (λ es. take k (elements job) ++ es) (at-cons job k b r u h a))
+
+length-from : (job : Job) (n k b r u : ℕ) → length (elementsFrom job n k b r u) ≡ n
+unfolding elementsFrom
+length-from job zero k b r u = refl
+length-from job (suc n) k b r u = let x = element job k b r u in ap suc (length-from job n (suc k) (b + x .bases) (r + x .rubies) (u + takesRuns (x .form) (x .bases)))
+
+pub length-elements : (job : Job) → length (elements job) ≡ elementCount job
+unfolding elements
+length-elements job = length-from job (elementCount job) 0 0 0 0
+
+-- One element more in the line.
+
+module _ (job : Job) (x : Piece) (at : IsElement job x) where
+  -- the whole element
+  pub whole : (s : ℕ) → s ≤ x .base → pieces job s (x .base + x .bases) ≡ pieces job s (x .base) ++ (x ∷ [])
+  whole s h =
+      into job x at s (x .base + x .bases) (omega arith) (omega arith)
+      ∙ ap (λ ps. pieces job s (x .base) ++ ps) (in-whole job s (x .base + x .bases) x (at .good .counts .some) h (omega arith))
+
+  module _ (jukugo : isJ (x .form) ≡ true) where
+    -- the first j base characters of a J
+    pub cut : (s j : ℕ) → s ≤ x .base → 0 < j → j < x .bases → pieces job s (x .base + j) ≡ pieces job s (x .base) ++ (part job x 0 j ∷ [])
+    cut s j h some less =
+        into job x at s (x .base + j) (omega arith) (omega arith)
+        ∙ ap (λ ps. pieces job s (x .base) ++ ps) (in-cut job s (x .base + j) x jukugo 0 j (first s (x .base) h) (last (x .base) (x .bases) less) some less)
+      where
+        first : (s b : ℕ) → s ≤ b → max s b ≡ b + 0
+        first s b h = omega arith
+
+        last : (b n : ℕ) → j < n → min (b + j) (b + n) ≡ b + 0 + j
+        last b n h = omega arith
+
+    -- a line that begins in a J
+    pub inside : (s e : ℕ) → x .base < s → s < e → e ≤ x .base + x .bases → pieces job s e ≡ part job x (s - x .base) (e - s) ∷ []
+    inside s e l h k =
+        into job x at s e (omega arith) k
+        ∙ rw (none-before job x at s (omega arith)) (in-cut job s e x jukugo (s - x .base) (e - s) (first s (x .base) l) (last (x .base) (x .bases) l k) (omega arith) (omega arith))
+      where
+        first : (s b : ℕ) → b < s → max s b ≡ b + (s - b)
+        first s b h = omega arith
+
+        last : (b n : ℕ) → b < s → e ≤ b + n → min e (b + n) ≡ b + (s - b) + (e - s)
+        last b n l k = omega arith
+
+-- The state of the line: what its next element is set by.
+
+abbrev pub stateOf : Job → ℕ → ℕ → State
+stateOf job s e = run start (lineOf job s e)
+
+-- one element more
+abbrev pub next : State → Element → State
+next st e = put st e (origin st e)
+
+pub extent-of : (job : Job) (s e : ℕ) → extentOf job s e ≡ setting.furthest (stateOf job s e)
+unfolding extentOf origins
+extent-of job s e = extent-state (lineOf job s e)
+
+pub can-set : (job : Job) (s e : ℕ) → canSet job s e ≡ leb (setting.furthest (stateOf job s e)) (2 * job .measure)
+unfolding canSet
+can-set job s e = ap (λ n. leb n (2 * job .measure)) (extent-of job s e)
+
+-- a line with one piece more
+module _ (job : Job) (s d e : ℕ) (p : Piece) (more : pieces job s e ≡ pieces job s d ++ (p ∷ [])) where
+  line-more : lineOf job s e ≡ lineOf job s d ++ (seen job p ∷ [])
+  unfolding lineOf
+  line-more = ap (map (seen job)) more ∙ map-append (seen job) (pieces job s d) (p ∷ [])
+
+  pub state-more : stateOf job s e ≡ next (stateOf job s d) (seen job p)
+  unfolding run
+  state-more = ap (run start) line-more ∙ run-append start (lineOf job s d) (seen job p ∷ [])
+
+  pub origins-more : origins job s e ≡ origins job s d ++ (origin (stateOf job s d) (seen job p) ∷ [])
+  unfolding origins settleFrom
+  origins-more = ap settle line-more ∙ prefix (lineOf job s d) (seen job p ∷ [])
+
+-- an origin for each piece
+length-settle : (st : State) (es : List Element) → length (settleFrom st es) ≡ length es
+unfolding settleFrom
+length-settle st [] = refl
+length-settle st (e ∷ es) = ap suc (length-settle (put st e (origin st e)) es)
+
+pub length-origins : (job : Job) (s e : ℕ) → length (origins job s e) ≡ length (pieces job s e)
+unfolding origins lineOf
+length-origins job s e = length-settle start (map (seen job) (pieces job s e)) ∙ length-map (pieces job s e) (seen job)
+
+along-more : (f : Piece → ℕ → List ℕ) (ps : List Piece) (xs : List ℕ) (p : Piece) (x : ℕ) → length xs ≡ length ps → along f (ps ++ (p ∷ [])) (xs ++ (x ∷ [])) ≡ along f ps xs ++ f p x
+along-more f [] [] p x h = append-nil (f p x)
+along-more f [] (y ∷ ys) p x h = absurd (omega arith)
+along-more f (q ∷ qs) [] p x h = absurd (omega arith)
+along-more f (q ∷ qs) (y ∷ ys) p x h = ap (λ zs. f q y ++ zs) (along-more f qs ys p x (omega arith)) ∙ sym (append-assoc (f q y) (along f qs ys) (f p x))
+
+-- and the positions of its characters, for the pass that writes
+module _ (job : Job) (s d e : ℕ) (p : Piece) (more : pieces job s e ≡ pieces job s d ++ (p ∷ [])) where
+  pub base-more : baseIn job s e ≡ baseIn job s d ++ baseAt job p (origin (stateOf job s d) (seen job p))
+  unfolding baseIn
+  base-more = ap₂ (along (baseAt job)) more (origins-more job s d e p more) ∙ along-more (baseAt job) (pieces job s d) (origins job s d) p _ (length-origins job s d)
+
+  pub ruby-more : rubyIn job s e ≡ rubyIn job s d ++ rubyAt job p (origin (stateOf job s d) (seen job p))
+  unfolding rubyIn
+  ruby-more = ap₂ (along (rubyAt job)) more (origins-more job s d e p more) ∙ along-more (rubyAt job) (pieces job s d) (origins job s d) p _ (length-origins job s d)
+
+-- a line with a single piece
+module _ (job : Job) (s e : ℕ) (p : Piece) (one : pieces job s e ≡ p ∷ []) where
+  pub state-one : stateOf job s e ≡ next start (seen job p)
+  unfolding run lineOf
+  state-one = rw one
+
+  pub origins-one : origins job s e ≡ origin start (seen job p) ∷ []
+  unfolding origins lineOf settleFrom
+  origins-one = rw one
+
+  pub base-one : baseIn job s e ≡ baseAt job p (origin start (seen job p))
+  unfolding baseIn
+  base-one = ap₂ (along (baseAt job)) one origins-one ∙ append-nil (baseAt job p (origin start (seen job p)))
+
+  pub ruby-one : rubyIn job s e ≡ rubyAt job p (origin start (seen job p))
+  unfolding rubyIn
+  ruby-one = ap₂ (along (rubyAt job)) one origins-one ∙ append-nil (rubyAt job p (origin start (seen job p)))
+
+-- a line that has not begun
+module _ (job : Job) (s e : ℕ) (none : pieces job s e ≡ []) where
+  pub state-none : stateOf job s e ≡ start
+  unfolding run lineOf
+  state-none = rw none
+
+  pub base-none : baseIn job s e ≡ []
+  unfolding baseIn
+  base-none = ap (λ ps. along (baseAt job) ps (origins job s e)) none
+
+  pub ruby-none : rubyIn job s e ≡ []
+  unfolding rubyIn
+  ruby-none = ap (λ ps. along (rubyAt job) ps (origins job s e)) none
+
+-- Where a line may end.
+
+-- an element that ends before e, or begins at or after it, has no break there
+ends-behind : (job : Job) (e : ℕ) (x : Piece) → x .base + x .bases < e → endsIn job e x ≡ false
+ends-behind job e x h = rw (ne-eqb e (x .base + x .bases) (λ z. omega arith), le-ltb e (x .base + x .bases) (omega arith)) (go (isJ (x .form)) (ltb (x .base) e))
+  where
+    go : (a b : Bool) → (a && (b && false)) ≡ false
+    go true true = refl
+    go true false = refl
+    go false b = refl
+
+ends-ahead : (job : Job) (e : ℕ) (x : Piece) → 0 < x .bases → e ≤ x .base → endsIn job e x ≡ false
+ends-ahead job e x some h = rw (ne-eqb e (x .base + x .bases) (λ z. omega arith), le-ltb (x .base) e h) (go (isJ (x .form)))
+  where
+    go : (a : Bool) → (a && false) ≡ false
+    go true = refl
+    go false = refl
+
+module _ (job : Job) (x : Piece) (at : IsElement job x) where
+  -- only the element itself has a break past its first base character and up to its end
+  permitted-in : (e : ℕ) → x .base < e → e ≤ x .base + x .bases → permitted job e ≡ (eqb e (baseCount job) || endsIn job e x)
+  unfolding permitted
+  permitted-in e l h =
+      ap (λ t. eqb e (baseCount job) || t)
+      (ap (any (endsIn job e)) (at .split) ∙ any-append (endsIn job e) (at .front) (x ∷ at .rest)
+      ∙ rw (none-any (endsIn job e) (at .front) (fronts (at .front) (at .behind)), none-any (endsIn job e) (at .rest) (rests (at .rest) (at .ahead) (at .some))) (last (endsIn job e x)))
+    where
+      fronts : (xs : List Piece) → All (λ y. y .base + y .bases ≤ x .base) xs → All (λ y. endsIn job e y ≡ false) xs
+      fronts [] a = tt
+      fronts (y ∷ ys) a = (ends-behind job e y (omega (arith, a .0)), fronts ys (a .1))
+
+      rests : (xs : List Piece) → All (λ y. x .base + x .bases ≤ y .base) xs → All (λ y. 0 < y .bases) xs → All (λ y. endsIn job e y ≡ false) xs
+      rests [] a b = tt
+      rests (y ∷ ys) a b = (ends-ahead job e y (b .0) (omega (arith, a .0)), rests ys (a .1) (b .1))
+
+      last : (t : Bool) → (t || false) ≡ t
+      last true = refl
+      last false = refl
+
+  -- at its end: where the flag is 1, or at the job's end
+  pub permitted-end : permitted job (x .base + x .bases) ≡ (eqb (x .base + x .bases) (baseCount job) || eqb (getD (job .flag) (x .base + x .bases - 1) 0) 1)
+  permitted-end =
+      permitted-in (x .base + x .bases) (omega (arith, at .good .counts .some)) (omega arith)
+      ∙ rw (eq-eqb (x .base + x .bases) (x .base + x .bases) refl, le-ltb (x .base + x .bases) (x .base + x .bases) (omega arith))
+      (ap (λ t. eqb (x .base + x .bases) (baseCount job) || t) (go (eqb (getD (job .flag) (x .base + x .bases - 1) 0) 1) (isJ (x .form)) (ltb (x .base) (x .base + x .bases))))
+    where
+      go : (f a b : Bool) → (f || (a && (b && false))) ≡ f
+      go true a b = refl
+      go false true true = refl
+      go false true false = refl
+      go false false b = refl
+
+  -- within it: where it is a J
+  pub permitted-within : (e : ℕ) → x .base < e → e < x .base + x .bases → permitted job e ≡ isJ (x .form)
+  permitted-within e l h =
+      permitted-in e l (omega arith)
+      ∙ rw (ne-eqb e (baseCount job) (λ z. omega (arith, at .good .inside)), ne-eqb e (x .base + x .bases) (λ z. omega arith), lt-ltb (x .base) e l, lt-ltb e (x .base + x .bases) h)
+      (go (isJ (x .form)))
+    where
+      go : (a : Bool) → (a && true) ≡ a
+      go true = refl
+      go false = refl
+
+-- The search for the furthest break, try by try.
+
+-- the furthest permitted break up to c whose line from s can be set; 0 where there is none
+unfoldable pub best : Job → ℕ → ℕ → ℕ
+unfolding permitted canSet
+best job s c = lastOr 0 (keep (canSet job s) (keep (permitted job) (count (suc s) (c - s))))
+
+-- up to the job's end it is where the line ends
+pub best-all : (job : Job) (s : ℕ) → furthest job s ≡ best job s (baseCount job)
+unfolding best furthest tries
+best-all job s = refl
+
+-- none yet
+pub best-none : (job : Job) (s c : ℕ) → c ≤ s → best job s c ≡ 0
+unfolding best
+best-none job s c h = rw (none s c h)
+  where
+    none : (s c : ℕ) → c ≤ s → c - s ≡ 0
+    none s c h = omega arith
+
+-- one try more
+pub best-step : (job : Job) (s c : ℕ) → s ≤ c → best job s (c + 1) ≡ cond (permitted job (c + 1) && canSet job s (c + 1)) (c + 1) (best job s c)
+unfolding best
+best-step job s c h =
+    ap (lastOr 0) (keep-keep (permitted job) (canSet job s) (count (suc s) (c + 1 - s)) ∙ ap (keep p) more ∙ keep-append p (count (suc s) (c - s)) ((c + 1) ∷ []))
+    ∙ go (p (c + 1)) (keep p (count (suc s) (c - s))) (sym (keep-keep (permitted job) (canSet job s) (count (suc s) (c - s))))
+  where
+    p : ℕ → Bool
+    p c = permitted job c && canSet job s c
+
+    next-is : (s c : ℕ) → s ≤ c → c + 1 ≡ suc s + (c - s)
+    next-is s c h = omega arith
+
+    more : count (suc s) (c + 1 - s) ≡ count (suc s) (c - s) ++ ((c + 1) ∷ [])
+    more = sym (count-join (suc s) (c + 1) (c - s) 1 (c + 1 - s) (next-is s c h) (omega arith))
+
+    go : (t : Bool) (xs : List ℕ) {ys : List ℕ} → xs ≡ ys → lastOr 0 (xs ++ cond t ((c + 1) ∷ []) []) ≡ cond t (c + 1) (lastOr 0 ys)
+    go true xs e = last-append 0 xs (c + 1)
+    go false xs e = ap (lastOr 0) (append-nil xs ∙ e)
+
+-- tries that fail, or are none, leave it
+pub best-stays : (job : Job) (s c n : ℕ) → s ≤ c → ((d : ℕ) → c < d → d ≤ c + n → (permitted job d && canSet job s d) ≡ false) → best job s (c + n) ≡ best job s c
+best-stays job s c zero h f = ap (best job s) (add-zero c)
+best-stays job s c (suc n) h f =
+    ap (best job s) (step c n) ∙ best-step job s (c + n) (omega arith) ∙ rw (f (c + n + 1) (omega arith) (omega arith)) (best-stays job s c n h (λ d l u. f d l (omega arith)))
+  where
+    step : (c n : ℕ) → c + suc n ≡ c + n + 1
+    step c n = omega arith
+
+no-and : (a b : Bool) → a ≡ false → (a && b) ≡ false
+no-and true b e = absurd (true≢false e)
+no-and false b e = refl
+
+and-no : (a b : Bool) → b ≡ false → (a && b) ≡ false
+and-no true b e = e
+and-no false b e = refl
+
+module _ (job : Job) (x : Piece) (at : IsElement job x) where
+  -- an element that is no J has one try, at its end
+  pub best-over : (s : ℕ) → isJ (x .form) ≡ false → s ≤ x .base →
+      best job s (x .base + x .bases) ≡ cond (permitted job (x .base + x .bases) && canSet job s (x .base + x .bases)) (x .base + x .bases) (best job s (x .base))
+  best-over s j h = go (x .bases - 1) (omega (arith, at .good .counts .some))
+    where
+      go : (n : ℕ) → x .bases ≡ n + 1 →
+          best job s (x .base + x .bases) ≡ cond (permitted job (x .base + x .bases) && canSet job s (x .base + x .bases)) (x .base + x .bases) (best job s (x .base))
+      go n e =
+          subst (λ c. best job s c ≡ cond (permitted job c && canSet job s c) c (best job s (x .base))) (last (x .base) (x .bases) e)
+          (best-step job s (x .base + n) (omega arith)
+          ∙ ap (cond (permitted job (x .base + n + 1) && canSet job s (x .base + n + 1)) (x .base + n + 1))
+          (best-stays job s (x .base) n h (λ d l u. no-and (permitted job d) (canSet job s d) (permitted-within job x at d l (omega arith) ∙ j))))
+        where
+          last : (b m : ℕ) → m ≡ n + 1 → b + n + 1 ≡ b + m
+          last b m e = omega arith
+
+  -- a longer line reaches at least as far
+  pub grows : (s e : ℕ) → x .base + x .bases ≤ e → setting.furthest (stateOf job s (x .base + x .bases)) ≤ setting.furthest (stateOf job s e)
+  unfolding lineOf
+  grows s e h =
+      let old = lineOf job s (x .base + x .bases) in
+      let new = map (seen job) (each (inLine job s e) (at .rest)) in
+      let same : lineOf job s e ≡ old ++ new = ap (map (seen job)) (beyond job x at s e h) ∙ map-append (seen job) (pieces job s (x .base + x .bases)) (each (inLine job s e) (at .rest)) in
+      rw (same, run-append start old new) (run-grows (run start old) new)
+
+  -- so once the elements up to its end pass the measure, no break from there on can be set,
+  pub too-long : (s e : ℕ) → 2 * job .measure < setting.furthest (stateOf job s (x .base + x .bases)) → x .base + x .bases ≤ e → canSet job s e ≡ false
+  too-long s e h k = can-set job s e ∙ lt-leb (setting.furthest (stateOf job s e)) (2 * job .measure) (omega (arith, grows s e k))
+
+  -- and the search may stop
+  pub stop : (s : ℕ) → s < x .base + x .bases → 2 * job .measure < setting.furthest (stateOf job s (x .base + x .bases)) → furthest job s ≡ best job s (x .base + x .bases - 1)
+  stop s l h = best-all job s ∙ go (x .base + x .bases - 1) (omega arith)
+    where
+      rest : (c n : ℕ) → c + 1 ≤ n → n ≡ c + (n - c)
+      rest c n h = omega arith
+
+      go : (c : ℕ) → c + 1 ≡ x .base + x .bases → best job s (baseCount job) ≡ best job s c
+      go c e =
+          ap (best job s) (rest c (baseCount job) (omega (arith, at .good .inside)))
+          ∙ best-stays job s c (baseCount job - c) (omega arith) (λ d u v. and-no (permitted job d) (canSet job s d) (too-long s d h (omega arith)))
