@@ -355,7 +355,7 @@ fn count_jukugo(base: u32, b: usize, r: usize, u: usize, runs: &[u32]) -> Counte
 }
 
 // Number 5: an element by its kind and counts, those before it having taken b base characters, r ruby characters and u runs. Counts that its kind does not show are not read.
-fn count_element(
+pub fn count_element(
     kind: u32,
     base: u32,
     ruby: u32,
@@ -397,7 +397,7 @@ fn runs_out(p: Piece, bases: usize, rubies: usize) -> bool
 }
 
 // Where a piece's runs end: only a J has any.
-fn runs_end(p: Piece) -> usize
+pub fn runs_end(p: Piece) -> usize
     requires { ⌜ p .run + p .bases < 2 ^ 40 ⌝ }
     ensures { λ e. ⌜ e ≡ p .run + takesRuns (p .form) (p .bases) ⌝ }
 {

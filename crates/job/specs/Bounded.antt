@@ -1,25 +1,24 @@
 -- No position of a line passes 4,294,967,295 (number 14): a word is at most 524,288 half units long, a line has at most 1,024 pieces, and no piece takes the
 -- line on by more than its own length. So number 14 is never given to a job that passes the door.
-use mathlib.Core.Path.{_≡_, refl, sym, ap, _∙_}
+use mathlib.Core.Path.{_≡_}
 use mathlib.Core.Bool.{Bool, true, false, cond, _&&_}
-use mathlib.Core.List.{List, [], _∷_, _++_, map}
-use Prim.Native.Nat.{ℕ, zero, suc, _+_, _-_, _*_, _≤_, _<_, min, max, zero-le}
+use mathlib.Core.List.{List, [], _∷_, map}
+use Prim.Native.Nat.{ℕ, _+_, _-_, _*_, _≤_, min, max, zero-le}
 use native.Mathlib.Omega.{arith}
 use borrow.Author.Tests.{le-ltb}
 use lib.Dec.{eqb, ltb}
 use lib.ListN.{length, length-append}
-use Rattle.basics.specs.Lists.{sum, any, each, All}
+use Rattle.basics.specs.Lists.{sum, each, All}
 use Rattle.basics.specs.Laws.{none-any}
 use Rattle.word.specs.Given.{isJ}
-use Rattle.line.specs.declared.State.{State}
-use Rattle.line.specs.Rules.{largest, extent}
+use Rattle.line.specs.Rules.{largest}
 use Rattle.line.specs.Setting as setting
 use Rattle.line.specs.Bound as bound
 use Rattle.door.specs.declared.Piece.{Piece}
 use Rattle.door.specs.Job.{Job, elementCount, elements}
+use Rattle.door.specs.Passed.{Passed}
 use Rattle.job.specs.Line.{part, inLine, pieces, wordOf, seen, lineOf, origins, extentOf, tries}
 use Rattle.job.specs.Refusals.{tooFar}
-use Rattle.door.specs.Passed.{Passed}
 use Rattle.job.specs.Walk.{length-elements, stateOf, extent-of}
 use Rattle.job.specs.Words.{GoodPiece, promise, good-pieces}
 

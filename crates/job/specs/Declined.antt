@@ -1,26 +1,26 @@
 -- The lines of a job that passes the door: either they fill it, and no line is refused, or they come to one place where no permitted break can be set, and
 -- that is number 11 with that place. Each of the two is shown both ways, so nothing else is ever refused there.
-use mathlib.Core.Path.{_≡_, refl, sym, ap, ap₂, _∙_, subst}
+use mathlib.Core.Path.{_≡_, refl, sym, ap, _∙_, subst}
 use mathlib.Core.Bool.{Bool, true, false, cond}
-use mathlib.Core.List.{List, [], _∷_, _++_, head?}
-use mathlib.Core.Logic.{_⊎_, inl, inr, _↔_}
-use mathlib.Core.Option.{Option, none, some}
+use mathlib.Core.List.{List, [], _∷_, head?}
+use mathlib.Core.Logic.{_⊎_, inl, inr}
+use mathlib.Core.Option.{none, some}
 use Prim.Native.Nat.{ℕ, zero, suc, _+_, _≤_, _<_, zero-le}
 use native.Mathlib.Omega.{arith}
 use native.Mathlib.Decide.{decLt}
 use borrow.Author.Tests.{lt-ltb, le-ltb}
-use lib.Dec.{eqb, ltb}
+use lib.Dec.{ltb}
 use Rattle.basics.specs.Lists.{each, keep}
 use Rattle.refusal.specs.declared.Refusal.{Refusal}
 use Rattle.refusal.specs.declared.Refusal.the-variants.{NoBreak}
 use Rattle.door.specs.Job.{Job, baseCount}
 use Rattle.door.specs.Refusals.{_when_}
+use Rattle.door.specs.Passed.{Passed}
 use Rattle.job.specs.Line.{furthest, endsFrom, ends}
 use Rattle.job.specs.Refusals.{noBreak, lineFaults, linesFaults}
-use Rattle.door.specs.Passed.{Passed}
 use Rattle.job.specs.Bounded.{never-far}
 use Rattle.job.specs.Promise.{CanSet, Break, Ends, Chain, Filled, Stuck}
-use Rattle.job.specs.Filled.{end-none, no-break, break-none, line-ends, filled-unique, stuck-chain}
+use Rattle.job.specs.Filled.{end-none, no-break, line-ends, stuck-chain}
 
 -- the refusals of at most n lines from s on
 abbrev from : Job → ℕ → ℕ → List Refusal
@@ -129,6 +129,20 @@ module _ (job : Job) (passed : Passed job) where
         where
           same : (t : ℕ) (xs : List Refusal) → xs ≡ NoBreak t ∷ [] → head? xs ≡ some (NoBreak s) → t ≡ s
           same t xs f g = let q : some (NoBreak t) ≡ some (NoBreak s) = sym (ap head? f) ∙ g in cc
+
+  -- and nothing else is refused in the lines
+  pub nothing-else : (r : Refusal) → ((s : ℕ) → r ≡ NoBreak s → ⊥) → head? (linesFaults job) ≡ some r → ⊥
+  nothing-else r f e = go lines-way
+    where
+      go : Way job 0 (ends job) (linesFaults job) → ⊥
+      go (inl w) = let z : _≡_ {A = ℕ} 0 1 = none-head (linesFaults job) (w .0) e in omega arith
+        where
+          none-head : (xs : List Refusal) → xs ≡ [] → head? xs ≡ some r → _≡_ {A = ℕ} 0 1
+          none-head xs p q = let k : none ≡ some r = sym (ap head? p) ∙ q in cc
+      go (inr w) = f (w .place) (same (w .place) (linesFaults job) (w .fault) e)
+        where
+          same : (t : ℕ) (xs : List Refusal) → xs ≡ NoBreak t ∷ [] → head? xs ≡ some r → r ≡ NoBreak t
+          same t xs p q = let k : some (NoBreak t) ≡ some r = sym (ap head? p) ∙ q in cc
 
   pub sticks : (s : ℕ) → Stuck job s → linesFaults job ≡ NoBreak s ∷ []
   sticks s k = go lines-way

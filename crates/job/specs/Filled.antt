@@ -1,26 +1,25 @@
 -- The furthest break and the chain of lines: what the search finds is what the demands ask for, and it finds nothing only where there is nothing. There is
 -- one such chain, so a job either fills its lines or is stuck at one place.
 use mathlib.Core.Path.{_≡_, refl, sym, ap, _∙_, subst}
-use mathlib.Core.Bool.{Bool, true, false, cond, _&&_, true≢false, false≢true}
+use mathlib.Core.Bool.{Bool, true, false, cond, _&&_, true≢false}
 use mathlib.Core.List.{List, [], _∷_}
-use mathlib.Core.Logic.{_⊎_, inl, inr, _↔_}
-use Prim.Native.Nat.{ℕ, zero, suc, _+_, _-_, _*_, _≤_, _<_, zero-le}
+use mathlib.Core.Logic.{_⊎_, inl, inr}
+use Prim.Native.Nat.{ℕ, zero, suc, _+_, _-_, _≤_, _<_}
 use native.Mathlib.Omega.{arith}
 use native.Mathlib.Decide.{decLt}
 use native.Mathlib.Nat.{le-antisymm}
 use borrow.Author.Tests.{leb-true, le-leb, eqb-true, eqb-false, eq-eqb}
-use lib.Dec.{eqb, leb}
+use lib.Dec.{eqb}
+use lib.ListN.{length}
 use Rattle.basics.specs.Lists.{count, keep, lastOr}
-use Rattle.line.specs.Rules.{extent}
-use Rattle.line.specs.Setting.{settle}
 use Rattle.line.specs.Theorems.{exact, settled, unique}
 use Rattle.door.specs.Job.{Job, baseCount}
-use Rattle.job.specs.Line.{lineOf, origins, extentOf, canSet, permitted, tries, furthest, endsFrom, ends}
+use Rattle.door.specs.Passed.{Passed}
+use Rattle.job.specs.Line.{lineOf, origins, extentOf, canSet, permitted, tries, furthest, endsFrom}
 use Rattle.job.specs.Refusals.{noBreak}
 use Rattle.job.specs.Laws.{keep-keep, both}
-use Rattle.door.specs.Passed.{Passed}
 use Rattle.job.specs.Sound.{sounds}
-use Rattle.job.specs.Promise.{CanSet, Break, Ends, Chain, Filled, Stuck, Stands}
+use Rattle.job.specs.Promise.{CanSet, Break, Ends, Chain, Stands, IsLine}
 
 -- The last of n numbers from a on that passes a test.
 
@@ -107,6 +106,17 @@ filled-unique job s (x ∷ xs) [] p q = absurd (omega (arith, p .0 .at .ahead, p
 filled-unique job s (x ∷ xs) (y ∷ ys) p q =
     let e = ends-unique job s x y (p .0) (q .0) in
     ap {B = List ℕ} (λ xs. x ∷ xs) (filled-unique job x xs ys (p .1) (subst (λ z. Chain job z ys (baseCount job)) (sym e) (q .1))) ∙ ap {B = List ℕ} (λ z. z ∷ ys) e
+
+-- a line has at least one base character
+pub chain-few : (job : Job) (s d : ℕ) (es : List ℕ) → Chain job s es d → s + length es ≤ d
+chain-few job s d [] c = omega arith
+chain-few job s d (e ∷ es) c = omega (arith, c .0 .at .ahead, chain-few job e d es (c .1))
+
+-- each line of a chain can be set
+pub chain-sets : (job : Job) (s d : ℕ) (es : List ℕ) → Chain job s es d → (a b : ℕ) → IsLine s es a b → CanSet job a b
+chain-sets job s d [] c a b l = absurd l
+chain-sets job s d (e ∷ es) c a b (inl l) = subst (λ x. CanSet job x b) (sym (l .0)) (subst (CanSet job s) (sym (l .1)) (c .0 .set))
+chain-sets job s d (e ∷ es) c a b (inr l) = chain-sets job e d es (c .1) a b l
 
 -- a chain that can't go on is the beginning of every other
 pub stuck-chain : (job : Job) (s c d : ℕ) (xs ys : List ℕ) → Chain job s xs c → Chain job s ys d → ((e : ℕ) → Ends job c e → ⊥) → ((e : ℕ) → Ends job d e → ⊥) → c ≡ d

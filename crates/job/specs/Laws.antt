@@ -1,41 +1,25 @@
 -- Laws of the lists that jobs and lines are made of: no refusal at all, entries of a list, joined counts, and what is kept of a list. They know nothing of
 -- jobs.
-use mathlib.Core.Path.{_≡_, refl, sym, ap, ap₂, _∙_, subst}
-use mathlib.Core.Bool.{Bool, true, false, cond, _&&_, _||_, true≢false, false≢true}
-use mathlib.Core.List.{List, [], _∷_, _++_, map, head?, append-nil, append-assoc}
+use mathlib.Core.Path.{_≡_, refl, sym, ap, ap₂, _∙_}
+use mathlib.Core.Bool.{Bool, true, false, cond, _&&_, _||_, false≢true}
+use mathlib.Core.List.{List, [], _∷_, _++_, head?, append-assoc}
 use mathlib.Core.Logic.{_⊎_, inl, inr}
-use mathlib.Core.Option.{Option, none, some}
-use Prim.Native.Nat.{ℕ, zero, suc, _+_, _-_, _*_, _≤_, _<_, zero-le}
-use native.Mathlib.Numerals.{add-one}
-use native.Mathlib.Nat.{zero-add, add-zero, add-suc, suc-add, le-of-suc-le-suc, not-suc-le-zero}
+use mathlib.Core.Option.{none}
+use Prim.Native.Nat.{ℕ, zero, suc, _+_, _≤_, _<_}
+use native.Mathlib.Nat.{zero-add, add-zero, add-suc, suc-add}
 use native.Mathlib.Omega.{arith}
-use borrow.Author.Tests.{ltb-false, eqb-false}
-use lib.Dec.{eqb, ltb}
-use lib.ListN.{length, take, drop, getD, length-take, length-drop}
+use lib.ListN.{length, take, drop, getD, length-drop}
 use lib.Seq.{ext-getD, getD-take, getD-drop, length-take-le}
 use Rattle.basics.specs.Lists.{sum, count, any, keep, each, All, lastOr}
-use Rattle.basics.specs.Laws.{length-count, count-at, or-none, all-count}
-use Rattle.refusal.specs.declared.Refusal.{Refusal}
+use Rattle.basics.specs.Laws.{count-at}
 use Rattle.door.specs.Job.{entries}
-use Rattle.door.specs.Refusals.{_when_}
+use Rattle.door.specs.Entries.{length-entries}
 
 -- No refusal.
 
 pub head-none : {A : Type 0} (xs : List A) → head? xs ≡ none → xs ≡ []
 head-none [] e = refl
 head-none (x ∷ xs) e = absurd (let z : _≡_ {A = ℕ} 0 1 = cc in omega arith)
-
-pub append-none : {A : Type 0} (xs ys : List A) → xs ++ ys ≡ [] → (xs ≡ []) × (ys ≡ [])
-append-none [] ys e = (refl, e)
-append-none (x ∷ xs) ys e = absurd (let z : _≡_ {A = ℕ} 0 1 = cc in omega arith)
-
-pub each-none : {A B : Type 0} (f : A → List B) (xs : List A) → each f xs ≡ [] → All (λ x. f x ≡ []) xs
-each-none f [] e = tt
-each-none f (x ∷ xs) e = let p = append-none (f x) (each f xs) e in (p .0, each-none f xs (p .1))
-
-pub when-none : (r : Refusal) (t : Bool) → r when t ≡ [] → t ≡ false
-when-none r true e = absurd (let z : _≡_ {A = ℕ} 0 1 = cc in omega arith)
-when-none r false e = refl
 
 -- What holds of each.
 
@@ -65,16 +49,12 @@ any-append p (x ∷ xs) ys = go (p x) (any-append p xs ys)
 
 -- Entries of a list.
 
-pub length-entries : (xs : List ℕ) (a n : ℕ) → length (entries xs a n) ≡ n
-length-entries xs a zero = refl
-length-entries xs a (suc n) = ap suc (length-entries xs (suc a) n)
-
 pub entries-at : (xs : List ℕ) (a n i : ℕ) → i < n → getD (entries xs a n) i 0 ≡ getD xs (a + i) 0
 entries-at xs a n i h = count-at (λ j. getD xs j 0) 0 a n i h
 
 -- a part of the entries, as a word's part has it
-pub entries-within : (xs : List ℕ) (a m i n : ℕ) → i + n ≤ m → take n (drop i (entries xs a m)) ≡ entries xs (a + i) n
-entries-within xs a m i n h =
+pub entries-cut : (xs : List ℕ) (a m i n : ℕ) → i + n ≤ m → take n (drop i (entries xs a m)) ≡ entries xs (a + i) n
+entries-cut xs a m i n h =
     ext-getD 0 _ _ (long ∙ sym (length-entries xs (a + i) n))
     (λ j l. let k : j < n = omega (arith, long) in
     getD-take n (drop i (entries xs a m)) j 0 k ∙ getD-drop i (entries xs a m) j 0 ∙ entries-at xs a m (i + j) (omega arith) ∙ ap (λ (q : ℕ). getD xs q 0) (move a i j)
@@ -86,50 +66,9 @@ entries-within xs a m i n h =
     move : (a i j : ℕ) → a + (i + j) ≡ a + i + j
     move a i j = omega arith
 
--- entries that the list has, as the code lends them
-pub entries-part : (xs : List ℕ) (a n : ℕ) → a + n ≤ length xs → entries xs a n ≡ take n (drop a xs)
-entries-part xs a n h =
-    ext-getD 0 _ _ (length-entries xs a n ∙ sym (length-take-le n (drop a xs) (simp length-drop (omega arith))))
-    (λ i l. let k : i < n = omega (arith, length-entries xs a n) in entries-at xs a n i k ∙ sym (getD-take n (drop a xs) i 0 k ∙ getD-drop a xs i 0))
-
 pub entries-add : (xs : List ℕ) (u i n : ℕ) → sum (entries xs u (i + n)) ≡ sum (entries xs u i) + sum (entries xs (u + i) n)
 entries-add xs u zero n = rw (zero-add n, add-zero) (sym (zero-add (sum (entries xs u n))))
 entries-add xs u (suc i) n = rw (suc-add, add-suc) (omega (arith, rw suc-add at (entries-add xs (suc u) i n)))
-
--- the first of some entries is at most their sum
-pub entries-first : (xs : List ℕ) (a n : ℕ) → 0 < n → getD xs a 0 ≤ sum (entries xs a n)
-entries-first xs a zero h = absurd (not-suc-le-zero h)
-entries-first xs a (suc n) h = omega arith
-
--- n entries of at most m each
-pub entries-most : (xs : List ℕ) (m a n : ℕ) → ((i : ℕ) → a ≤ i → i < a + n → getD xs i 0 ≤ m) → sum (entries xs a n) ≤ n * m
-entries-most xs m a zero f = zero-le
-entries-most xs m a (suc n) f = omega (arith, f a (omega arith) (omega arith), entries-most xs m (suc a) n (λ i l u. f i (omega arith) (omega arith)))
-
-pub entries-all : (P : ℕ → Type 0) (xs : List ℕ) (a n : ℕ) → All P (entries xs a n) → (i : ℕ) → a ≤ i → i < a + n → P (getD xs i 0)
-entries-all P xs a n h = all-count (λ i. P (getD xs i 0)) a n (go a n h)
-  where
-    go : (a n : ℕ) → All P (entries xs a n) → All (λ i. P (getD xs i 0)) (count a n)
-    go a zero h = tt
-    go a (suc n) h = (h .0, go (suc a) n (h .1))
-
--- an entry that is not 0 lies within the list
-pub entry-within : (xs : List ℕ) (i : ℕ) → 0 < getD xs i 0 → i < length xs
-entry-within [] i h = absurd (not-suc-le-zero h)
-entry-within (x ∷ xs) zero h = omega arith
-entry-within (x ∷ xs) (suc i) h = omega (arith, entry-within xs i h)
-
--- no run is 0
-pub none-zero : (xs : List ℕ) → any (eqb 0) xs ≡ false → All (λ n. 0 < n) xs
-none-zero [] e = tt
-none-zero (x ∷ xs) e = let q = or-none (eqb 0 x) (any (eqb 0) xs) e in (some-of x (eqb-false 0 x (q .0)), none-zero xs (q .1))
-  where
-    some-of : (x : ℕ) → (0 ≡ x → ⊥) → 0 < x
-    some-of x h = omega arith
-
-pub some-sum : (xs : List ℕ) → 0 < length xs → All (λ n. 0 < n) xs → 0 < sum xs
-some-sum [] h a = absurd (not-suc-le-zero h)
-some-sum (x ∷ xs) h a = omega (arith, a .0)
 
 -- Counts that are the same, empty, or joined.
 

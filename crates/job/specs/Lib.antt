@@ -11,3 +11,11 @@ pub mod Bounded
 pub mod Promise
 pub mod Filled
 pub mod Declined
+pub mod Tiles
+pub mod Lengths
+pub mod Placed
+pub mod Table
+pub mod Order
+pub mod LevelOne
+pub mod Reached
+pub mod Demands

@@ -1,6 +1,6 @@
 -- The line of the job from base character s up to base character e: its pieces, its setting, where it may end and where its characters stand
 -- (document 01, "The job", "Level one" and "Level two").
-use mathlib.Core.Bool.{Bool, true, false, cond, _&&_, _||_}
+use mathlib.Core.Bool.{Bool, cond, _&&_, _||_}
 use mathlib.Core.List.{List, [], _∷_, _++_, map}
 use Prim.Native.Nat.{ℕ, zero, suc, _+_, _-_, _*_, min, max}
 use lib.Dec.{eqb, leb, ltb}

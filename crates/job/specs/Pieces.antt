@@ -1,20 +1,20 @@
 -- What of an element stands in a line, case by case, and an element among those before and after it. A line up to somewhere in an element is the line up
 -- to that element and what of the element stands in it.
 use mathlib.Core.Path.{_≡_, refl, sym, ap, ap₂, _∙_, subst}
-use mathlib.Core.Bool.{Bool, true, false, cond, _&&_, _||_}
+use mathlib.Core.Bool.{Bool, true, false, cond, _&&_}
 use mathlib.Core.List.{List, [], _∷_, _++_, append-nil, append-assoc}
-use Prim.Native.Nat.{ℕ, zero, suc, _+_, _-_, _≤_, _<_, min, max}
+use Prim.Native.Nat.{ℕ, _+_, _-_, _≤_, _<_, min, max}
 use native.Mathlib.Omega.{arith}
-use borrow.Author.Tests.{lt-ltb, le-ltb, eq-eqb, ne-eqb}
+use borrow.Author.Tests.{lt-ltb, le-ltb, ne-eqb}
 use lib.Dec.{eqb, ltb}
 use lib.Seq.{append-snoc}
 use Rattle.basics.specs.Lists.{each, All}
 use Rattle.word.specs.Given.{isJ}
 use Rattle.door.specs.declared.Piece.{Piece}
 use Rattle.door.specs.Job.{Job, baseCount, elements}
+use Rattle.door.specs.Passed.{GoodElement, Tiled, BaseTiled, Passed}
 use Rattle.job.specs.Line.{part, inLine, pieces}
 use Rattle.job.specs.Laws.{all-split, each-append}
-use Rattle.door.specs.Passed.{GoodElement, Tiled, BaseTiled, Passed}
 
 module _ (job : Job) (s e : ℕ) (x : Piece) where
   -- n base characters from the i-th on

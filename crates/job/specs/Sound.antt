@@ -4,12 +4,11 @@ use mathlib.Core.Path.{_≡_, refl}
 use mathlib.Core.Bool.{Bool, true, false}
 use mathlib.Core.List.{List, [], _∷_, map}
 use mathlib.Core.Logic.{_⊎_, inl, inr}
-use Prim.Native.Nat.{ℕ, zero, suc, _+_, _*_, _≤_, _<_, zero-le}
+use Prim.Native.Nat.{ℕ, zero, suc, _*_, _≤_, _<_, zero-le}
 use native.Mathlib.Omega.{arith}
 use lib.Dec.{T}
-use lib.ListN.{length, getD}
+use lib.ListN.{getD}
 use Rattle.basics.specs.Lists.{sum, All}
-use Rattle.class.specs.Class.{depthBefore, depthAfter}
 use Rattle.class.specs.Laws.{before-within, after-within}
 use Rattle.word.specs.declared.Form.{Form}
 use Rattle.word.specs.declared.Form.the-variants.{P, M, G, J}
@@ -17,9 +16,9 @@ use Rattle.word.specs.Promise as word
 use Rattle.line.specs.Rules.{Inside, Around, Sound, Sounds}
 use Rattle.door.specs.declared.Piece.{Piece}
 use Rattle.door.specs.Job.{Job, given}
-use Rattle.job.specs.Line.{pieces, wordOf, onP, seen, lineOf}
-use Rattle.job.specs.Laws.{entries-first}
+use Rattle.door.specs.Entries.{sum-first}
 use Rattle.door.specs.Passed.{Passed}
+use Rattle.job.specs.Line.{pieces, wordOf, onP, seen, lineOf}
 use Rattle.job.specs.Words.{GoodPiece, promise, good-pieces}
 
 on-le : (form : Form) (depth n : ℕ) → depth ≤ n → onP form depth ≤ n
@@ -38,7 +37,7 @@ module _ (job : Job) (passed : Passed job) where
   sound p g =
       let w = getD (job .width) (p .base) 0 in
       let c = getD (job .class) (p .base) 0 in
-      let f : w ≤ sum (given job p .width) = entries-first (job .width) (p .base) (p .bases) (g .some) in
+      let f : w ≤ sum (given job p .width) = sum-first (job .width) (p .base) (p .bases) (g .some) in
       let k = promise job p g in
       let b = passed .base (p .base) (omega (arith, g .some, g .inside)) in
       let wide : 2 * w ≤ wordOf job p .len = omega (arith, k .block) in

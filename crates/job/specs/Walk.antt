@@ -1,22 +1,21 @@
 -- What a walk over the elements needs to know to fill lines, for a job that passes the door: one element more in the line, one break more among the tries,
 -- and where the search may stop. Nothing here says what a line is; `Line` does.
 use mathlib.Core.Path.{_≡_, refl, sym, ap, ap₂, _∙_, subst}
-use mathlib.Core.Bool.{Bool, true, false, cond, _&&_, _||_, true≢false, false≢true}
+use mathlib.Core.Bool.{Bool, true, false, cond, _&&_, _||_, true≢false}
 use mathlib.Core.List.{List, [], _∷_, _++_, map, map-append, append-nil, append-assoc}
-use Prim.Native.Nat.{ℕ, zero, suc, _+_, _-_, _*_, _≤_, _<_, min, max, zero-le}
+use Prim.Native.Nat.{ℕ, zero, suc, _+_, _-_, _*_, _≤_, _<_, min, max}
 use native.Mathlib.Numerals.{add-one}
-use native.Mathlib.Nat.{zero-add, add-zero, add-suc, sub-zero}
+use native.Mathlib.Nat.{add-zero, sub-zero}
 use native.Mathlib.Omega.{arith}
-use borrow.Author.Tests.{ltb-true, ltb-false, lt-ltb, le-ltb, lt-leb, eq-eqb, ne-eqb}
+use borrow.Author.Tests.{lt-ltb, le-ltb, lt-leb, eq-eqb, ne-eqb}
 use lib.Dec.{eqb, leb, ltb}
 use lib.ListN.{length, getD, take, drop, take-append-drop, length-map}
-use lib.Seq.{drop-drop, drop-cons, take-all}
-use Rattle.basics.specs.Lists.{sum, count, any, keep, each, All, lastOr}
+use lib.Seq.{drop-drop, take-add, take-all}
+use Rattle.basics.specs.Lists.{count, any, keep, each, All, lastOr}
 use Rattle.basics.specs.Laws.{none-any}
 use Rattle.word.specs.Given.{isJ}
 use Rattle.line.specs.declared.Element.{Element}
 use Rattle.line.specs.declared.State.{State}
-use Rattle.line.specs.Rules.{extent}
 use Rattle.line.specs.Setting.{start, put, origin, settleFrom, settle, run}
 use Rattle.line.specs.Setting as setting
 use Rattle.line.specs.Least.{run-append}
@@ -24,19 +23,21 @@ use Rattle.line.specs.Extent.{run-grows}
 use Rattle.line.specs.Theorems.{prefix, extent-state}
 use Rattle.door.specs.declared.Piece.{Piece}
 use Rattle.door.specs.Job.{Job, baseCount, rubyCount, elementCount, takesRuns, element, elementsFrom, elements}
+use Rattle.door.specs.Passed.{Tiled, BaseTiled, RubyTiled, Passed}
 use Rattle.job.specs.Line.{part, inLine, pieces, seen, lineOf, origins, extentOf, canSet, endsIn, permitted, tries, furthest, along, baseAt, rubyAt, baseIn, rubyIn}
 use Rattle.job.specs.Laws.{any-append, count-join, keep-append, keep-keep, last-append}
-use Rattle.door.specs.Passed.{GoodElement, Tiled, Passed}
-use Rattle.job.specs.Pieces.{in-whole, in-cut, IsElement, is-element, into, none-before, beyond, tiled-split}
+use Rattle.job.specs.Pieces.{in-whole, in-cut, IsElement, is-element, into, none-before, beyond}
 
 -- The walk stands before element k; those before it have taken b base characters, r ruby characters and u runs.
 
 pub record At (job : Job) (k b r u : ℕ) : Type 0 where
   pub rest : drop k (elements job) ≡ elementsFrom job (elementCount job - k) k b r u
+  pub base : BaseTiled 0 (take k (elements job)) b
+  pub ruby : RubyTiled 0 (take k (elements job)) r
 
 pub at-first : (job : Job) → At job 0 0 0 0
 unfolding elements
-at-first job = record { rest = rw (sub-zero (elementCount job)) }
+at-first job = record { rest = rw (sub-zero (elementCount job)); base = refl; ruby = refl }
 
 -- its rest is the element and the rest after it
 at-cons : (job : Job) (k b r u : ℕ) → k < elementCount job → At job k b r u →
@@ -51,9 +52,21 @@ at-cons job k b r u h a = a .rest ∙ go (elementCount job - k) (elementCount jo
     go : (m n : ℕ) → m ≡ suc n → elementsFrom job m k b r u ≡ x ∷ elementsFrom job n (k + 1) (b + x .bases) (r + x .rubies) (u + takesRuns (x .form) (x .bases))
     go m n e = rw (e, add-one)
 
+tiled-more : (first many : Piece → ℕ) (a b : ℕ) (xs : List Piece) (x : Piece) → first x ≡ b → Tiled first many a xs b → Tiled first many a (xs ++ (x ∷ [])) (b + many x)
+tiled-more first many a b [] x e t = (e ∙ sym t, ap (λ c. c + many x) t)
+tiled-more first many a b (y ∷ ys) x e t = (t .0, tiled-more first many (a + many y) b ys x e (t .1))
+
 pub at-next : (job : Job) (k b r u : ℕ) → k < elementCount job → At job k b r u →
     let x = element job k b r u in At job (k + 1) (b + x .bases) (r + x .rubies) (u + takesRuns (x .form) (x .bases))
-at-next job k b r u h a = record { rest = sym (drop-drop 1 k (elements job)) ∙ ap (λ es. drop 1 es) (at-cons job k b r u h a) }
+unfolding element
+at-next job k b r u h a =
+    let x = element job k b r u in
+    let more : take (k + 1) (elements job) ≡ take k (elements job) ++ (x ∷ []) = take-add k 1 (elements job) ∙ ap (λ es. take k (elements job) ++ take 1 es) (at-cons job k b r u h a) in
+    record {
+      rest = sym (drop-drop 1 k (elements job)) ∙ ap (λ es. drop 1 es) (at-cons job k b r u h a);
+      base = rw more (tiled-more (λ p. p .base) (λ p. p .bases) 0 b (take k (elements job)) x refl (a .base));
+      ruby = rw more (tiled-more (λ p. p .ruby) (λ p. p .rubies) 0 r (take k (elements job)) x refl (a .ruby));
+    }
 
 -- so it is an element of the job
 pub at-element : (job : Job) → Passed job → (k b r u : ℕ) → k < elementCount job → At job k b r u → IsElement job (element job k b r u)
@@ -69,6 +82,18 @@ length-from job (suc n) k b r u = let x = element job k b r u in ap suc (length-
 pub length-elements : (job : Job) → length (elements job) ≡ elementCount job
 unfolding elements
 length-elements job = length-from job (elementCount job) 0 0 0 0
+
+-- past the last element all characters are taken
+tiled-same : (first many : Piece → ℕ) (a b c : ℕ) (xs : List Piece) → Tiled first many a xs b → Tiled first many a xs c → b ≡ c
+tiled-same first many a b c [] t w = sym t ∙ w
+tiled-same first many a b c (x ∷ xs) t w = tiled-same first many (a + many x) b c xs (t .1) (w .1)
+
+pub at-end : (job : Job) → Passed job → (k b r u : ℕ) → elementCount job ≤ k → At job k b r u → (b ≡ baseCount job) × (r ≡ rubyCount job)
+at-end job p k b r u h a =
+    let all : take k (elements job) ≡ elements job = take-all k (elements job) (omega (arith, length-elements job)) in (
+      tiled-same (λ p. p .base) (λ p. p .bases) 0 b (baseCount job) (elements job) (subst (λ es. BaseTiled 0 es b) all (a .base)) (p .tiled),
+      tiled-same (λ p. p .ruby) (λ p. p .rubies) 0 r (rubyCount job) (elements job) (subst (λ es. RubyTiled 0 es r) all (a .ruby)) (p .rubies),
+    )
 
 -- One element more in the line.
 

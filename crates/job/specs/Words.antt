@@ -1,30 +1,33 @@
 -- The word of every piece of every line: it is given to level one within its limits, level one sets it, and so its promises hold. A part of a J is given
 -- what `Part` of level one gives it.
-use mathlib.Core.Path.{_≡_, refl, sym, ap, ap₂, _∙_, subst}
+use mathlib.Core.Path.{_≡_, refl, sym, ap, _∙_, subst}
 use mathlib.Core.Bool.{Bool, true, false, cond, _&&_, true≢false, false≢true}
-use mathlib.Core.List.{List, [], _∷_, _++_}
+use mathlib.Core.List.{[], _∷_}
 use Prim.Native.Nat.{ℕ, zero, suc, _+_, _-_, _*_, _≤_, _<_, min, max, zero-le}
 use native.Mathlib.Nat.{add-zero}
 use native.Mathlib.Omega.{arith}
-use borrow.Author.Tests.{ltb-true, eqb-true, eqb-false}
+use borrow.Author.Tests.{eqb-false, ne-eqb}
 use lib.Dec.{eqb, ltb}
-use lib.ListN.{length, getD, take, drop}
+use lib.ListN.{length, take, drop}
 use Rattle.basics.specs.Lists.{sum, each, All}
+use Rattle.basics.specs.Laws.{none-any, all-map}
 use Rattle.word.specs.declared.Form.{Form}
 use Rattle.word.specs.declared.Form.the-variants.{P, M, G, J}
-use Rattle.word.specs.declared.Word.{Word}
 use Rattle.word.specs.declared.Answer.the-variants.{Set}
-use Rattle.word.specs.Given.{Given, hasRuby, isJ}
+use Rattle.word.specs.Given.{hasRuby, isJ}
 use Rattle.word.specs.Answer.{answer}
 use Rattle.word.specs.Word as word
 use Rattle.word.specs.Sized.{Sized}
 use Rattle.word.specs.Promise.{Promise, kept}
 use Rattle.word.specs.Part as parts
 use Rattle.door.specs.declared.Piece.{Piece}
-use Rattle.door.specs.Job.{Job, baseCount, rubyCount, entries, elements, given}
-use Rattle.job.specs.Line.{part, inLine, pieces, wordOf}
-use Rattle.job.specs.Laws.{all-each, both, length-entries, entries-within, entries-add, entries-first, entries-most, entries-all, entry-within}
+use Rattle.door.specs.Job.{Job, baseCount, rubyCount, elementCount, entries, takesRuns, element, elementsFrom, elements, given}
+use Rattle.door.specs.Entries.{length-entries, sum-most, sum-first, some-within}
+use Rattle.door.specs.Elements.{Reads}
 use Rattle.door.specs.Passed.{GoodElement, Passed}
+use Rattle.job.specs.Line.{part, inLine, pieces, wordOf}
+use Rattle.job.specs.Laws.{all-each, all-split, both, entries-cut, entries-add}
+use Rattle.job.specs.Pieces.{IsElement}
 
 -- a piece that a line may have
 pub record GoodPiece (job : Job) (p : Piece) : Type 0 where
@@ -42,29 +45,17 @@ promise job p g = kept (p .form) 0 (given job p) (g .sized) (g .set 0)
 
 -- the runs of a J lie within their list
 pub runs-within : (job : Job) (x : Piece) → GoodElement job x → isJ (x .form) ≡ true → x .run + x .bases ≤ length (job .run)
-runs-within job x g j = go (x .bases) (g .counts .some) (g .counts .each j)
-  where
-    go : (n : ℕ) → 0 < n → All (λ n. 0 < n) (entries (job .run) (x .run) n) → x .run + n ≤ length (job .run)
-    go zero h a = absurd (omega arith)
-    go (suc n) h a = omega (arith, entry-within (job .run) (x .run + n) (entries-all (λ n. 0 < n) (job .run) (x .run) (suc n) a (x .run + n) (omega arith) (omega arith)))
-
--- "A J's runs": no other form reads them
-pub runs-unread : (form : Form) → isJ form ≡ false → (place em : ℕ) (class width before after rubyClass rubyWidth runs others : List ℕ) →
-    answer form place (record { em = em; class = class; width = width; before = before; after = after; rubyClass = rubyClass; rubyWidth = rubyWidth; run = runs })
-    ≡ answer form place (record { em = em; class = class; width = width; before = before; after = after; rubyClass = rubyClass; rubyWidth = rubyWidth; run = others })
-unfolding answer word.wordOf
-runs-unread P h place em class width before after rubyClass rubyWidth runs others = refl
-runs-unread M h place em class width before after rubyClass rubyWidth runs others = refl
-runs-unread G h place em class width before after rubyClass rubyWidth runs others = refl
-runs-unread J h place em class width before after rubyClass rubyWidth runs others = absurd (true≢false h)
+runs-within job x g j =
+    some-within (job .run) (x .run) (x .bases) (g .counts .some)
+    (none-any (eqb 0) (given job x .run) (all-map (λ m. 0 < m) (λ m. eqb 0 m ≡ false) (given job x .run) (λ m l. ne-eqb 0 m (λ e. omega arith)) (g .counts .each j)))
 
 module _ (job : Job) (passed : Passed job) where
   -- widths of characters that the job has
-  bases-narrow : (a n : ℕ) → a + n ≤ baseCount job → sum (entries (job .width) a n) ≤ n * 4096
-  bases-narrow a n h = entries-most (job .width) 4096 a n (λ i l u. passed .base i (omega arith) .narrow)
+  bases-narrow : (a n : ℕ) → a + n ≤ baseCount job → sum (entries (job .width) a n) ≤ 4096 * n
+  bases-narrow a n h = sum-most (job .width) 4096 a n (λ i l u. passed .base i (omega arith) .narrow)
 
-  rubies-narrow : (a n : ℕ) → a + n ≤ rubyCount job → sum (entries (job .rubyWidth) a n) ≤ n * 4096
-  rubies-narrow a n h = entries-most (job .rubyWidth) 4096 a n (λ i l u. passed .ruby i (omega arith) .narrow)
+  rubies-narrow : (a n : ℕ) → a + n ≤ rubyCount job → sum (entries (job .rubyWidth) a n) ≤ 4096 * n
+  rubies-narrow a n h = sum-most (job .rubyWidth) 4096 a n (λ i l u. passed .ruby i (omega arith) .narrow)
 
   module _ (x : Piece) (good : GoodElement job x) where
     -- a whole element
@@ -74,7 +65,7 @@ module _ (job : Job) (passed : Passed job) where
         let rubies = length-entries (job .rubyWidth) (x .ruby) (x .rubies) in
         let first = passed .base (x .base) (omega (arith, good .inside, good .counts .some)) .some in
         record {
-          some = omega (arith, entries-first (job .width) (x .base) (x .bases) (good .counts .some));
+          some = omega (arith, sum-first (job .width) (x .base) (x .bases) (good .counts .some));
           few = omega (arith, good .counts .few);
           narrow = omega (arith, bases-narrow (x .base) (x .bases) (good .inside), good .counts .few);
           reads = λ h. omega (arith, good .counts .reads h);
@@ -105,17 +96,17 @@ module _ (job : Job) (passed : Passed job) where
       pub part-given : given job (part job x i n) ≡ parts.part (given job x) i n
       unfolding part parts.part
       part-given =
-          let r : take i (entries (job .run) (x .run) (x .bases)) ≡ entries (job .run) (x .run) i = entries-within (job .run) (x .run) (x .bases) 0 i (omega arith) ∙ ap (λ u. entries (job .run) u i) (add-zero (x .run)) in
-          let m : take n (drop i (entries (job .run) (x .run) (x .bases))) ≡ entries (job .run) (x .run + i) n = entries-within (job .run) (x .run) (x .bases) i n fits in
+          let r : take i (entries (job .run) (x .run) (x .bases)) ≡ entries (job .run) (x .run) i = entries-cut (job .run) (x .run) (x .bases) 0 i (omega arith) ∙ ap (λ u. entries (job .run) u i) (add-zero (x .run)) in
+          let m : take n (drop i (entries (job .run) (x .run) (x .bases))) ≡ entries (job .run) (x .run + i) n = entries-cut (job .run) (x .run) (x .bases) i n fits in
           rw (
             r,
             m,
-            entries-within (job .class) (x .base) (x .bases) i n fits,
-            entries-within (job .width) (x .base) (x .bases) i n fits,
-            entries-within (job .before) (x .base) (x .bases) i n fits,
-            entries-within (job .after) (x .base) (x .bases) i n fits,
-            entries-within (job .rubyClass) (x .ruby) (x .rubies) (sum (entries (job .run) (x .run) i)) (sum (entries (job .run) (x .run + i) n)) ruby-fits,
-            entries-within (job .rubyWidth) (x .ruby) (x .rubies) (sum (entries (job .run) (x .run) i)) (sum (entries (job .run) (x .run + i) n)) ruby-fits,
+            entries-cut (job .class) (x .base) (x .bases) i n fits,
+            entries-cut (job .width) (x .base) (x .bases) i n fits,
+            entries-cut (job .before) (x .base) (x .bases) i n fits,
+            entries-cut (job .after) (x .base) (x .bases) i n fits,
+            entries-cut (job .rubyClass) (x .ruby) (x .rubies) (sum (entries (job .run) (x .run) i)) (sum (entries (job .run) (x .run + i) n)) ruby-fits,
+            entries-cut (job .rubyWidth) (x .ruby) (x .rubies) (sum (entries (job .run) (x .run) i)) (sum (entries (job .run) (x .run + i) n)) ruby-fits,
           )
 
       is-j : (form : Form) → isJ form ≡ true → form ≡ J
@@ -176,3 +167,78 @@ module _ (job : Job) (passed : Passed job) where
   pub good-pieces : (s e : ℕ) → All (GoodPiece job) (pieces job s e)
   unfolding pieces
   good-pieces s e = all-each (GoodElement job) (GoodPiece job) (inLine job s e) (elements job) (in-piece s e) (passed .each)
+
+-- Where a piece's characters and runs lie in the job's lists.
+
+base-most : (job : Job) → (baseCount job ≤ length (job .class)) × (baseCount job ≤ length (job .width)) × (baseCount job ≤ length (job .before)) × (baseCount job ≤ length (job .after))
+unfolding baseCount
+base-most job = go (length (job .class)) (length (job .width)) (length (job .before)) (length (job .after)) (length (job .flag))
+  where
+    go : (a b c d e : ℕ) → (min a (min b (min c (min d e))) ≤ a) × (min a (min b (min c (min d e))) ≤ b) × (min a (min b (min c (min d e))) ≤ c) × (min a (min b (min c (min d e))) ≤ d)
+    go a b c d e = omega arith
+
+ruby-most : (job : Job) → (rubyCount job ≤ length (job .rubyClass)) × (rubyCount job ≤ length (job .rubyWidth))
+unfolding rubyCount
+ruby-most job = go (length (job .rubyClass)) (length (job .rubyWidth))
+  where
+    go : (a b : ℕ) → (min a b ≤ a) × (min a b ≤ b)
+    go a b = omega arith
+
+-- the runs that an element takes are in their list, and no more were taken before it than base characters
+pub record Held (job : Job) (x : Piece) : Type 0 where
+  pub early : x .run ≤ x .base
+  pub held : x .run + takesRuns (x .form) (x .bases) ≤ length (job .run)
+
+takes-held : (job : Job) (x : Piece) (form : Form) → x .run ≤ length (job .run) → (isJ form ≡ true → x .run + x .bases ≤ length (job .run)) → x .run + takesRuns form (x .bases) ≤ length (job .run)
+takes-held job x P h f = omega arith
+takes-held job x M h f = omega arith
+takes-held job x G h f = omega arith
+takes-held job x J h f = f refl
+
+takes-most : (form : Form) (n : ℕ) → takesRuns form n ≤ n
+takes-most P n = zero-le
+takes-most M n = zero-le
+takes-most G n = zero-le
+takes-most J n = omega arith
+
+held-from : (job : Job) (n k b r u : ℕ) → u ≤ b → u ≤ length (job .run) → All (GoodElement job) (elementsFrom job n k b r u) → All (Held job) (elementsFrom job n k b r u)
+unfolding elementsFrom element
+held-from job zero k b r u h l a = tt
+held-from job (suc n) k b r u h l a =
+    let x = element job k b r u in
+    let t : u + takesRuns (x .form) (x .bases) ≤ length (job .run) = takes-held job x (x .form) l (runs-within job x (a .0)) in
+    let m = takes-most (x .form) (x .bases) in
+    (record { early = h; held = t }, held-from job n (suc k) (b + x .bases) (r + x .rubies) (u + takesRuns (x .form) (x .bases)) (omega arith) t (a .1))
+
+module _ (job : Job) (passed : Passed job) where
+  all-held : All (Held job) (elements job)
+  unfolding elements
+  all-held = held-from job (elementCount job) 0 0 0 0 zero-le zero-le (passed .each)
+
+  pub held : (x : Piece) → IsElement job x → Held job x
+  held x at = all-split (Held job) (at .front) (x ∷ at .rest) (subst (All (Held job)) (at .split) all-held) .1 .0
+
+  -- what a piece reads of the lists, with what level one asks of it
+  reads-of : (p : Piece) → GoodPiece job p → p .run + takesRuns (p .form) (p .bases) ≤ length (job .run) → Reads job p
+  reads-of p g h =
+      let b = base-most job in
+      let r = ruby-most job in
+      record {
+        class = omega (arith, g .inside);
+        width = omega (arith, g .inside);
+        before = omega (arith, g .inside);
+        after = omega (arith, g .inside);
+        rubyClass = omega (arith, g .reads);
+        rubyWidth = omega (arith, g .reads);
+        run = h;
+        sized = g .sized;
+      }
+
+  pub whole-reads : (x : Piece) → IsElement job x → Reads job x
+  whole-reads x at = reads-of x (whole-piece job passed x (at .good)) (held x at .held)
+
+  pub part-reads : (x : Piece) → IsElement job x → isJ (x .form) ≡ true → (i n : ℕ) → 0 < n → i + n ≤ x .bases → Reads job (part job x i n)
+  unfolding part
+  part-reads x at j i n some fits =
+      reads-of (part job x i n) (part-piece job passed x (at .good) j i n some fits)
+      (omega (arith, takes-most (parts.formOfPart n) n, runs-within job x (at .good) j))

@@ -1,0 +1,3 @@
+pub mod Piece
+pub mod Reach
+pub mod Search

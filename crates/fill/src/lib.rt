@@ -1,0 +1,255 @@
+// Where lines end (document 01, "Level two": "Lines are filled from the first: each ends at the furthest permitted break whose line can be set"). One pass over
+// the elements for each line, with the line's state by value; it stops once a whole element passes the measure, since what stands in a longer
+// line stands there too, and never at a failed part of a J. Nothing is written but the ends. It relies on `door` for a job without faults of its
+// own, on `word` and `line` for a piece and its place, and on `job` for what all this means.
+ghost use mathlib.Core.Path.{_≡_};
+ghost use mathlib.Core.Bool.{true, _||_};
+ghost use Prim.Native.Nat.{_+_, _-_, _*_, _^_, _≤_, _<_, max};
+ghost use lib.Dec.{leb, eqb};
+ghost use lib.ListN.{length, getD};
+ghost use mathlib.Core.List.{[], _∷_};
+ghost use Rattle.line.specs.Setting as setting;
+ghost use Rattle.line.specs.declared.Placed.the-variants as placed;
+ghost use Rattle.door.specs.Job.{jobOf};
+ghost use Rattle.word.specs.Part.{formOfPart};
+ghost use Rattle.job.specs.Line as meaning;
+ghost use Rattle.fill.specs.Piece.{elementAs, Cuts, Into, pieceUpto};
+ghost use Rattle.job.specs.Walk.{stateOf};
+ghost use Rattle.fill.specs.Search.{Here, Best, EndsAt};
+ghost use Rattle.word.specs.Given.{isJ};
+
+// The form of a piece decides what a neighbour's ruby may do: only a P takes ruby on its blanks.
+fn element_of(
+    p: door::Piece,
+    w: word::Word,
+    em: u32,
+    class: &[u32],
+    width: &[u32],
+    before: &[u32],
+    after: &[u32],
+) -> line::Element
+    requires { ⌜ (p .base < length (now class)) × (p .base < length (now width)) × (p .base < length (now before)) × (p .base < length (now after)) ⌝ }
+    ensures { λ e. ⌜ e ≡ elementAs p w em (now (class .entry)) (now (width .entry)) (now (before .entry)) (now (after .entry)) ⌝ }
+{
+    let form = p.form;
+    let i = p.base;
+    match form {
+        word::Form::P => line::Element {
+            front: w.front,
+            len: w.len,
+            ruby: w.ruby,
+            from: w.from,
+            upto: w.upto,
+            before: class::depth_before(class[i], width[i], before[i], em),
+            after: class::depth_after(class[i], width[i], after[i], em),
+        },
+        word::Form::M => plain_of(w),
+        word::Form::G => plain_of(w),
+        word::Form::J => plain_of(w),
+    }
+}
+
+// A word that takes no ruby on it.
+fn plain_of(w: word::Word) -> line::Element
+    ensures { λ e. ⌜ e ≡ (record { front = w .front; len = w .len; ruby = w .ruby; from = w .from; upto = w .upto; before = 0; after = 0 }) ⌝ }
+{
+    line::Element {
+        front: w.front,
+        len: w.len,
+        ruby: w.ruby,
+        from: w.from,
+        upto: w.upto,
+        before: 0,
+        after: 0,
+    }
+}
+
+// The n base characters of a J from its i-th on, with their runs.
+fn part_of(x: door::Piece, i: usize, n: usize, runs: &[u32]) -> door::Piece
+    requires { ⌜ Cuts x i n (now runs) ⌝ }
+    ensures { λ p. ⌜ p ≡ meaning.part (jobOf 0 0 [] [] [] [] [] [] [] [] [] [] (now (runs .entry))) x i n ⌝ }
+{
+    let u = x.run;
+    let v = x.run + i;
+    let w = v + n;
+    let passed = basics::sum_of(&runs[u..v]) as usize;
+    let rubies = basics::sum_of(&runs[v..w]) as usize;
+    door::Piece {
+        form: form_of_part(n),
+        base: x.base + i,
+        bases: n,
+        ruby: x.ruby + passed,
+        rubies: rubies,
+        run: v,
+    }
+}
+
+// "a part of one character is set as M, a part of more as J"
+fn form_of_part(n: usize) -> word::Form
+    ensures { λ f. ⌜ f ≡ formOfPart n ⌝ }
+{
+    if n == 1 { word::Form::M } else { word::Form::J }
+}
+
+// How many base characters of an element that starts at b lie before s.
+fn skipped_of(s: usize, b: usize) -> usize
+    ensures { λ i. ⌜ i ≡ max s b - b ⌝ }
+{
+    if b < s { s - b } else { 0 }
+}
+
+// The piece of element x in the line from s up to c: of a J that part, of any other element the whole.
+fn piece_upto(x: door::Piece, s: usize, c: usize, runs: &[u32]) -> door::Piece
+    requires { ⌜ (isJ (x .form) ≡ true → Cuts x (max s (x .base) - x .base) (c - (x .base + (max s (x .base) - x .base))) (now runs)) × (x .base + (max s (x .base) - x .base) ≤ c) × (c < 2 ^ 40) ⌝ }
+    ensures { λ p. ⌜ p ≡ pieceUpto (jobOf 0 0 [] [] [] [] [] [] [] [] [] [] (now (runs .entry))) s c x ⌝ }
+{
+    let form = x.form;
+    let i = skipped_of(s, x.base);
+    let n = c - (x.base + i);
+    match form {
+        word::Form::P => x,
+        word::Form::M => x,
+        word::Form::G => x,
+        word::Form::J => {
+            if n < x.bases {
+                return part_of(x, i, n, runs);
+            }
+            x
+        }
+    }
+}
+
+// The piece of element x up to c, set within itself and placed after the line so far. A refusal of level one goes up unchanged.
+pub fn reach(
+    s: usize,
+    c: usize,
+    k: usize,
+    x: door::Piece,
+    st: line::State,
+    em: u32,
+    measure: u32,
+    class: &[u32],
+    width: &[u32],
+    before: &[u32],
+    after: &[u32],
+    flag: &[u32],
+    rclass: &[u32],
+    rwidth: &[u32],
+    kind: &[u32],
+    ebase: &[u32],
+    eruby: &[u32],
+    runs: &[u32],
+) -> line::Placed
+    requires { ⌜ (Into (jobOf em measure (now class) (now width) (now before) (now after) (now flag) (now rclass) (now rwidth) (now kind) (now ebase) (now eruby) (now runs)) s c x) × (st ≡ stateOf (jobOf em measure (now class) (now width) (now before) (now after) (now flag) (now rclass) (now rwidth) (now kind) (now ebase) (now eruby) (now runs)) s (x .base)) × (k < 1024) ⌝ }
+    ensures { λ r. ⌜ r ≡ placed.At (setting.origin st (meaning.seen (jobOf em measure (now (class .entry)) (now (width .entry)) (now (before .entry)) (now (after .entry)) (now (flag .entry)) (now (rclass .entry)) (now (rwidth .entry)) (now (kind .entry)) (now (ebase .entry)) (now (eruby .entry)) (now (runs .entry))) (pieceUpto (jobOf em measure (now (class .entry)) (now (width .entry)) (now (before .entry)) (now (after .entry)) (now (flag .entry)) (now (rclass .entry)) (now (rwidth .entry)) (now (kind .entry)) (now (ebase .entry)) (now (eruby .entry)) (now (runs .entry))) s c x))) (stateOf (jobOf em measure (now (class .entry)) (now (width .entry)) (now (before .entry)) (now (after .entry)) (now (flag .entry)) (now (rclass .entry)) (now (rwidth .entry)) (now (kind .entry)) (now (ebase .entry)) (now (eruby .entry)) (now (runs .entry))) s c) ⌝ }
+{
+    let p = piece_upto(x, s, c, runs);
+    let answer = door::measure_piece(
+        k as u32,
+        p,
+        em,
+        class,
+        width,
+        before,
+        after,
+        rclass,
+        rwidth,
+        runs,
+    );
+    let word::Answer::Set(w) = answer else {
+        let word::Answer::Refused(why) = answer else {
+            return line::Placed::Refused(refusal::Refusal::Short);
+        };
+        return line::Placed::Refused(why);
+    };
+    let e = element_of(p, w, em, class, width, before, after);
+    line::place(s as u32, st, e)
+}
+
+// The line so far ends within the measure.
+fn fits(st: line::State, measure: u32) -> bool
+    ensures { λ t. ⌜ t ≡ leb (setting.furthest st) (2 * measure) ⌝ }
+{
+    let extent = basics::larger(st.end, st.reach);
+    extent as u64 <= 2 * (measure as u64)
+}
+
+// Where a line may end, and where the next one begins: in the element k, those before which took b, r and u. An end of 0 is none.
+pub struct Break {
+    pub end: usize,
+    pub k: usize,
+    pub b: usize,
+    pub r: usize,
+    pub u: usize,
+}
+
+// The furthest break so far, or a refusal that goes up.
+pub enum Ended {
+    At(Break),
+    Refused(refusal::Refusal),
+}
+
+// The furthest break within a J whose line can be set, or the one before it. Each of its inner breaks is a try, from the last on.
+fn within_jukugo(
+    s: usize,
+    k: usize,
+    x: door::Piece,
+    st: line::State,
+    last: Break,
+    em: u32,
+    measure: u32,
+    class: &[u32],
+    width: &[u32],
+    before: &[u32],
+    after: &[u32],
+    flag: &[u32],
+    rclass: &[u32],
+    rwidth: &[u32],
+    kind: &[u32],
+    ebase: &[u32],
+    eruby: &[u32],
+    runs: &[u32],
+) -> Ended
+    requires { ⌜ Here (jobOf em measure (now class) (now width) (now before) (now after) (now flag) (now rclass) (now rwidth) (now kind) (now ebase) (now eruby) (now runs)) s k x st × Best (jobOf em measure (now class) (now width) (now before) (now after) (now flag) (now rclass) (now rwidth) (now kind) (now ebase) (now eruby) (now runs)) s (x .base) last × (isJ (x .form) ≡ true) ⌝ }
+    ensures { λ a. ⌜ EndsAt (Best (jobOf em measure (now (class .entry)) (now (width .entry)) (now (before .entry)) (now (after .entry)) (now (flag .entry)) (now (rclass .entry)) (now (rwidth .entry)) (now (kind .entry)) (now (ebase .entry)) (now (eruby .entry)) (now (runs .entry))) s (x .base + x .bases - 1)) a ⌝ }
+{
+    let low = x.base + skipped_of(s, x.base);
+    let mut c = x.base + x.bases - 1;
+    while low < c {
+        match reach(
+            s,
+            c,
+            k,
+            x,
+            st,
+            em,
+            measure,
+            class,
+            width,
+            before,
+            after,
+            flag,
+            rclass,
+            rwidth,
+            kind,
+            ebase,
+            eruby,
+            runs,
+        ) {
+            line::Placed::Refused(why) => return Ended::Refused(why),
+            line::Placed::At(_, next) => {
+                if fits(next, measure) {
+                    return Ended::At(Break {
+                        end: c,
+                        k: k,
+                        b: x.base,
+                        r: x.ruby,
+                        u: x.run,
+                    });
+                }
+                c -= 1;
+            }
+        }
+    }
+    Ended::At(last)
+}
