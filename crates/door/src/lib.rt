@@ -255,7 +255,7 @@ fn is_known(kind: u32) -> bool
     kind == 74
 }
 
-fn form_of(kind: u32) -> word::Form
+pub fn form_of(kind: u32) -> word::Form
     ensures { λ r. ⌜ r ≡ formOf kind ⌝ }
 {
     if kind == 77 {

@@ -3,19 +3,19 @@
 // line stands there too, and never at a failed part of a J. Nothing is written but the ends. It relies on `door` for a job without faults of its
 // own, on `word` and `line` for a piece and its place, and on `job` for what all this means.
 ghost use mathlib.Core.Path.{_≡_};
-ghost use mathlib.Core.Bool.{true, _||_};
+ghost use mathlib.Core.Bool.{true, _&&_, _||_};
 ghost use Prim.Native.Nat.{_+_, _-_, _*_, _^_, _≤_, _<_, max};
 ghost use lib.Dec.{leb, eqb};
 ghost use lib.ListN.{length, getD};
 ghost use mathlib.Core.List.{[], _∷_};
 ghost use Rattle.line.specs.Setting as setting;
 ghost use Rattle.line.specs.declared.Placed.the-variants as placed;
-ghost use Rattle.door.specs.Job.{jobOf};
+ghost use Rattle.door.specs.Job.{jobOf, baseCount, elementCount, element};
 ghost use Rattle.word.specs.Part.{formOfPart};
 ghost use Rattle.job.specs.Line as meaning;
 ghost use Rattle.fill.specs.Piece.{elementAs, Cuts, Into, pieceUpto};
 ghost use Rattle.job.specs.Walk.{stateOf};
-ghost use Rattle.fill.specs.Search.{Here, Best, EndsAt};
+ghost use Rattle.fill.specs.Search.{Here, Best, EndsAt, Counts, TurnsTo, Found, Starts};
 ghost use Rattle.word.specs.Given.{isJ};
 
 // The form of a piece decides what a neighbour's ruby may do: only a P takes ruby on its blanks.
@@ -248,6 +248,311 @@ fn within_jukugo(
                     });
                 }
                 c -= 1;
+            }
+        }
+    }
+    Ended::At(last)
+}
+
+// The line that ends with an element can be set, and may end there: "after the last base character of an element whose flag is 1 .. and at the job's end".
+fn may_end(fit: bool, c: usize, bases: usize, flag: &[u32]) -> bool
+    requires { ⌜ (0 < c) × (c ≤ length (now flag)) ⌝ }
+    ensures { λ t. ⌜ t ≡ (fit && (eqb c bases || eqb (getD (now (flag .entry)) (c - 1) 0) 1)) ⌝ }
+{
+    if fit {
+        if c == bases {
+            return true;
+        }
+        return flag[c - 1] == 1;
+    }
+    false
+}
+
+// The furthest break once element x is passed, whose end can be set or not.
+fn after_element(
+    fit: bool,
+    s: usize,
+    k: usize,
+    x: door::Piece,
+    st: line::State,
+    last: Break,
+    bases: usize,
+    em: u32,
+    measure: u32,
+    class: &[u32],
+    width: &[u32],
+    before: &[u32],
+    after: &[u32],
+    flag: &[u32],
+    rclass: &[u32],
+    rwidth: &[u32],
+    kind: &[u32],
+    ebase: &[u32],
+    eruby: &[u32],
+    runs: &[u32],
+) -> Ended
+    requires { ⌜ Here (jobOf em measure (now class) (now width) (now before) (now after) (now flag) (now rclass) (now rwidth) (now kind) (now ebase) (now eruby) (now runs)) s k x st × Best (jobOf em measure (now class) (now width) (now before) (now after) (now flag) (now rclass) (now rwidth) (now kind) (now ebase) (now eruby) (now runs)) s (x .base) last × (fit ≡ meaning.canSet (jobOf em measure (now class) (now width) (now before) (now after) (now flag) (now rclass) (now rwidth) (now kind) (now ebase) (now eruby) (now runs)) s (x .base + x .bases)) × (bases ≡ baseCount (jobOf em measure (now class) (now width) (now before) (now after) (now flag) (now rclass) (now rwidth) (now kind) (now ebase) (now eruby) (now runs))) ⌝ }
+    ensures { λ a. ⌜ EndsAt (Best (jobOf em measure (now (class .entry)) (now (width .entry)) (now (before .entry)) (now (after .entry)) (now (flag .entry)) (now (rclass .entry)) (now (rwidth .entry)) (now (kind .entry)) (now (ebase .entry)) (now (eruby .entry)) (now (runs .entry))) s (x .base + x .bases)) a ⌝ }
+{
+    let c = x.base + x.bases;
+    if may_end(fit, c, bases, flag) {
+        return Ended::At(Break {
+            end: c,
+            k: k + 1,
+            b: c,
+            r: x.ruby + x.rubies,
+            u: door::runs_end(x),
+        });
+    }
+    let form = x.form;
+    match form {
+        word::Form::P => Ended::At(last),
+        word::Form::M => Ended::At(last),
+        word::Form::G => Ended::At(last),
+        word::Form::J => within_jukugo(
+            s,
+            k,
+            x,
+            st,
+            last,
+            em,
+            measure,
+            class,
+            width,
+            before,
+            after,
+            flag,
+            rclass,
+            rwidth,
+            kind,
+            ebase,
+            eruby,
+            runs,
+        ),
+    }
+}
+
+fn wide(n: u32) -> usize
+    ensures { λ r. ⌜ r ≡ n ⌝ }
+{
+    n as usize
+}
+
+// Element k of a job without faults, those before it having taken b, r and u.
+pub fn element_at(
+    k: usize,
+    b: usize,
+    r: usize,
+    u: usize,
+    kind: &[u32],
+    ebase: &[u32],
+    eruby: &[u32],
+    runs: &[u32],
+) -> door::Piece
+    requires { ⌜ Counts k u (now kind) (now ebase) (now eruby) (now runs) ⌝ }
+    ensures { λ p. ⌜ p ≡ element (jobOf 0 0 [] [] [] [] [] [] [] (now (kind .entry)) (now (ebase .entry)) (now (eruby .entry)) (now (runs .entry))) k b r u ⌝ }
+{
+    let form = door::form_of(kind[k]);
+    let n = wide(ebase[k]);
+    let m = wide(eruby[k]);
+    match form {
+        word::Form::P => door::Piece {
+            form: form,
+            base: b,
+            bases: 1,
+            ruby: r,
+            rubies: 0,
+            run: u,
+        },
+        word::Form::M => door::Piece {
+            form: form,
+            base: b,
+            bases: 1,
+            ruby: r,
+            rubies: m,
+            run: u,
+        },
+        word::Form::G => door::Piece {
+            form: form,
+            base: b,
+            bases: n,
+            ruby: r,
+            rubies: m,
+            run: u,
+        },
+        word::Form::J => {
+            let v = u + n;
+            let taken = basics::sum_of(&runs[u..v]) as usize;
+            door::Piece {
+                form: form,
+                base: b,
+                bases: n,
+                ruby: r,
+                rubies: taken,
+                run: u,
+            }
+        }
+    }
+}
+
+// The search goes on behind an element, or stops with what it found.
+enum Turn {
+    On(line::State, Break),
+    Off(Break),
+    Refused(refusal::Refusal),
+}
+
+// Element x passed: once a whole element passes the measure, nothing further can be set.
+fn pass_element(
+    s: usize,
+    k: usize,
+    x: door::Piece,
+    st: line::State,
+    last: Break,
+    bases: usize,
+    em: u32,
+    measure: u32,
+    class: &[u32],
+    width: &[u32],
+    before: &[u32],
+    after: &[u32],
+    flag: &[u32],
+    rclass: &[u32],
+    rwidth: &[u32],
+    kind: &[u32],
+    ebase: &[u32],
+    eruby: &[u32],
+    runs: &[u32],
+) -> Turn
+    requires { ⌜ Here (jobOf em measure (now class) (now width) (now before) (now after) (now flag) (now rclass) (now rwidth) (now kind) (now ebase) (now eruby) (now runs)) s k x st × Best (jobOf em measure (now class) (now width) (now before) (now after) (now flag) (now rclass) (now rwidth) (now kind) (now ebase) (now eruby) (now runs)) s (x .base) last × (bases ≡ baseCount (jobOf em measure (now class) (now width) (now before) (now after) (now flag) (now rclass) (now rwidth) (now kind) (now ebase) (now eruby) (now runs))) ⌝ }
+    ensures { λ a. ⌜ TurnsTo (jobOf em measure (now (class .entry)) (now (width .entry)) (now (before .entry)) (now (after .entry)) (now (flag .entry)) (now (rclass .entry)) (now (rwidth .entry)) (now (kind .entry)) (now (ebase .entry)) (now (eruby .entry)) (now (runs .entry))) s (x .base + x .bases) a ⌝ }
+{
+    let c = x.base + x.bases;
+    match reach(
+        s,
+        c,
+        k,
+        x,
+        st,
+        em,
+        measure,
+        class,
+        width,
+        before,
+        after,
+        flag,
+        rclass,
+        rwidth,
+        kind,
+        ebase,
+        eruby,
+        runs,
+    ) {
+        line::Placed::Refused(why) => Turn::Refused(why),
+        line::Placed::At(_, next) => {
+            let fit = fits(next, measure);
+            match after_element(
+                fit,
+                s,
+                k,
+                x,
+                st,
+                last,
+                bases,
+                em,
+                measure,
+                class,
+                width,
+                before,
+                after,
+                flag,
+                rclass,
+                rwidth,
+                kind,
+                ebase,
+                eruby,
+                runs,
+            ) {
+                Ended::Refused(why) => Turn::Refused(why),
+                Ended::At(found) => {
+                    if fit {
+                        Turn::On(next, found)
+                    } else {
+                        Turn::Off(found)
+                    }
+                }
+            }
+        }
+    }
+}
+
+// Where the line from s ends: the furthest permitted break whose line can be set, or 0. The line begins in element `from.k`.
+fn line_end(
+    s: usize,
+    from: Break,
+    elements: usize,
+    bases: usize,
+    em: u32,
+    measure: u32,
+    class: &[u32],
+    width: &[u32],
+    before: &[u32],
+    after: &[u32],
+    flag: &[u32],
+    rclass: &[u32],
+    rwidth: &[u32],
+    kind: &[u32],
+    ebase: &[u32],
+    eruby: &[u32],
+    runs: &[u32],
+) -> Ended
+    requires { ⌜ Starts (jobOf em measure (now class) (now width) (now before) (now after) (now flag) (now rclass) (now rwidth) (now kind) (now ebase) (now eruby) (now runs)) s from × (elements ≡ elementCount (jobOf em measure (now class) (now width) (now before) (now after) (now flag) (now rclass) (now rwidth) (now kind) (now ebase) (now eruby) (now runs))) × (bases ≡ baseCount (jobOf em measure (now class) (now width) (now before) (now after) (now flag) (now rclass) (now rwidth) (now kind) (now ebase) (now eruby) (now runs))) ⌝ }
+    ensures { λ a. ⌜ EndsAt (Found (jobOf em measure (now (class .entry)) (now (width .entry)) (now (before .entry)) (now (after .entry)) (now (flag .entry)) (now (rclass .entry)) (now (rwidth .entry)) (now (kind .entry)) (now (ebase .entry)) (now (eruby .entry)) (now (runs .entry))) s) a ⌝ }
+{
+    let mut st = line::START;
+    let mut last = Break {
+        end: 0,
+        k: 0,
+        b: 0,
+        r: 0,
+        u: 0,
+    };
+    let mut k = from.k;
+    let mut b = from.b;
+    let mut r = from.r;
+    let mut u = from.u;
+    while k < elements {
+        let x = element_at(k, b, r, u, kind, ebase, eruby, runs);
+        match pass_element(
+            s,
+            k,
+            x,
+            st,
+            last,
+            bases,
+            em,
+            measure,
+            class,
+            width,
+            before,
+            after,
+            flag,
+            rclass,
+            rwidth,
+            kind,
+            ebase,
+            eruby,
+            runs,
+        ) {
+            Turn::Refused(why) => return Ended::Refused(why),
+            Turn::Off(found) => return Ended::At(found),
+            Turn::On(next, found) => {
+                st = next;
+                last = found;
+                b = x.base + x.bases;
+                r = x.ruby + x.rubies;
+                u = door::runs_end(x);
+                k += 1;
             }
         }
     }
