@@ -1,3 +1,4 @@
 pub mod Piece
 pub mod Reach
 pub mod Search
+pub mod Lines

@@ -16,6 +16,8 @@ ghost use Rattle.job.specs.Line as meaning;
 ghost use Rattle.fill.specs.Piece.{elementAs, Cuts, Into, pieceUpto};
 ghost use Rattle.job.specs.Walk.{stateOf};
 ghost use Rattle.fill.specs.Search.{Here, Best, EndsAt, Counts, TurnsTo, Found, Starts};
+ghost use Rattle.door.specs.Passed.{Passed};
+ghost use Rattle.fill.specs.Lines.{FillsTo};
 ghost use Rattle.word.specs.Given.{isJ};
 
 // The form of a piece decides what a neighbour's ruby may do: only a P takes ruby on its blanks.
@@ -557,4 +559,77 @@ fn line_end(
         }
     }
     Ended::At(last)
+}
+
+// The lines of a job: how many, or the refusal at the line that cannot be set.
+pub enum Lines {
+    Filled(usize),
+    Refused(refusal::Refusal),
+}
+
+// "Lines are filled from the first": the ends of all lines, at the front of a lent table.
+pub fn fill_lines(
+    ends: &mut [u32],
+    em: u32,
+    measure: u32,
+    class: &[u32],
+    width: &[u32],
+    before: &[u32],
+    after: &[u32],
+    flag: &[u32],
+    rclass: &[u32],
+    rwidth: &[u32],
+    kind: &[u32],
+    ebase: &[u32],
+    eruby: &[u32],
+    runs: &[u32],
+) -> Lines
+    requires { ⌜ Passed (jobOf em measure (now class) (now width) (now before) (now after) (now flag) (now rclass) (now rwidth) (now kind) (now ebase) (now eruby) (now runs)) × (length (now ends) ≡ 1024) ⌝ }
+    ensures { λ a. ⌜ FillsTo (jobOf em measure (now (class .entry)) (now (width .entry)) (now (before .entry)) (now (after .entry)) (now (flag .entry)) (now (rclass .entry)) (now (rwidth .entry)) (now (kind .entry)) (now (ebase .entry)) (now (eruby .entry)) (now (runs .entry))) (now (ends .exit)) a ⌝ }
+{
+    let elements = door::element_count(kind, ebase, eruby);
+    let bases = door::base_count(class, width, before, after, flag);
+    let mut from = Break {
+        end: 0,
+        k: 0,
+        b: 0,
+        r: 0,
+        u: 0,
+    };
+    let mut s: usize = 0;
+    let mut n: usize = 0;
+    while s < bases {
+        match line_end(
+            s,
+            from,
+            elements,
+            bases,
+            em,
+            measure,
+            class,
+            width,
+            before,
+            after,
+            flag,
+            rclass,
+            rwidth,
+            kind,
+            ebase,
+            eruby,
+            runs,
+        ) {
+            Ended::Refused(why) => return Lines::Refused(why),
+            Ended::At(found) => {
+                let end = found.end;
+                if end == 0 {
+                    return Lines::Refused(refusal::Refusal::NoBreak(s as u32));
+                }
+                ends[n] = end as u32;
+                n += 1;
+                s = end;
+                from = found;
+            }
+        }
+    }
+    Lines::Filled(n)
 }
