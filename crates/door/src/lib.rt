@@ -56,7 +56,7 @@ pub enum Step {
     Stop(Refusal),
 }
 
-fn fewer(a: usize, b: usize) -> usize
+pub fn fewer(a: usize, b: usize) -> usize
     ensures { λ r. ⌜ r ≡ min a b ⌝ }
 {
     if a <= b { a } else { b }

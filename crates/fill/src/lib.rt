@@ -21,7 +21,7 @@ ghost use Rattle.fill.specs.Lines.{FillsTo};
 ghost use Rattle.word.specs.Given.{isJ};
 
 // The form of a piece decides what a neighbour's ruby may do: only a P takes ruby on its blanks.
-fn element_of(
+pub fn element_of(
     p: door::Piece,
     w: word::Word,
     em: u32,
@@ -101,7 +101,7 @@ fn skipped_of(s: usize, b: usize) -> usize
 }
 
 // The piece of element x in the line from s up to c: of a J that part, of any other element the whole.
-fn piece_upto(x: door::Piece, s: usize, c: usize, runs: &[u32]) -> door::Piece
+pub fn piece_upto(x: door::Piece, s: usize, c: usize, runs: &[u32]) -> door::Piece
     requires { ⌜ (isJ (x .form) ≡ true → Cuts x (max s (x .base) - x .base) (c - (x .base + (max s (x .base) - x .base))) (now runs)) × (x .base + (max s (x .base) - x .base) ≤ c) × (c < 2 ^ 40) ⌝ }
     ensures { λ p. ⌜ p ≡ pieceUpto (jobOf 0 0 [] [] [] [] [] [] [] [] [] [] (now (runs .entry))) s c x ⌝ }
 {

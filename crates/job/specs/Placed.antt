@@ -271,10 +271,10 @@ baseAlone job p = places (p .form) (given job p) .base
 abbrev pub rubyAlone : Job → Piece → List ℕ
 rubyAlone job p = places (p .form) (given job p) .ruby
 
-base-counted : (job : Job) (p : Piece) → GoodPiece job p → length (baseAlone job p) ≡ p .bases
+pub base-counted : (job : Job) (p : Piece) → GoodPiece job p → length (baseAlone job p) ≡ p .bases
 base-counted job p g = places-counted (p .form) (given job p) (g .sized .whole) .base ∙ length-entries (job .width) (p .base) (p .bases)
 
-ruby-counted : (job : Job) (p : Piece) → GoodPiece job p → length (rubyAlone job p) ≡ p .rubies
+pub ruby-counted : (job : Job) (p : Piece) → GoodPiece job p → length (rubyAlone job p) ≡ p .rubies
 ruby-counted job p g = places-counted (p .form) (given job p) (g .sized .whole) .ruby ∙ go (hasRuby (p .form)) refl
   where
     go : (t : Bool) → hasRuby (p .form) ≡ t → cond t (length (given job p .rubyWidth)) 0 ≡ p .rubies

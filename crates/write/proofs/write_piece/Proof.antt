@@ -1,0 +1,126 @@
+-- Level one sets the piece and its place is within all positions, so neither refusal comes to pass. The word then stands at the least origin after the state, and its writers put its characters there.
+use mathlib.Core.Path.{_≡_, sym, _∙_}
+use Prim.Native.Nat.{ℕ}
+use Rattle.word.specs.declared.Answer.the-variants.{Set}
+use Rattle.line.specs.declared.State.{State}
+use Rattle.line.specs.declared.Placed.the-variants.{At}
+use Rattle.line.specs.Setting.{origin}
+use Rattle.door.specs.declared.Piece.{Piece}
+use Rattle.door.specs.Job.{Job, jobOf}
+use Rattle.job.specs.Line.{wordOf, seen}
+use Rattle.job.specs.Walk.{stateOf}
+use Rattle.fill.specs.Piece.{pieceUpto, same-piece}
+use Rattle.write.specs.Piece as written
+use borrow.Author.Needs.{needs}
+use native.Mathlib.Omega.{arith}
+use Rattle.write.proofs.write_piece.Statement.{statement}
+use Rattle.write.proofs.write_piece.Tie as tie
+
+-- the piece, its origin and the state after it, by what the function is given
+abbrev job : tie.Start → Job
+job a =
+    jobOf (a .args .em) (a .args .measure) (a .args .class .now) (a .args .width .now) (a .args .before .now) (a .args .after .now) (a .args .flag .now) (a .args .rclass .now) (a .args .rwidth .now) (a .args .kind .now) (a .args .ebase .now) (a .args .eruby .now) (a .args .runs .now)
+
+abbrev piece : tie.Start → Piece
+piece a = pieceUpto (job a) (a .args .s) (a .args .c) (a .args .x)
+
+abbrev org : tie.Start → ℕ
+org a = origin (stateOf (job a) (a .args .s) (a .args .x .base)) (seen (job a) (piece a))
+
+abbrev after : tie.Start → State
+after a = stateOf (job a) (a .args .s) (a .args .c)
+
+the : (c : tie.After-piece-upto) → c .piece-upto .result ≡ piece (c .before .before .before .before .before .before .before .before .before .before .before .before .before .before)
+the c = let a = c .before .before .before .before .before .before .before .before .before .before .before .before .before .before in c .piece-upto .ensures ∙ same-piece (job a) (a .args .s) (a .args .c) (a .args .x)
+
+told : (c : tie.After-measure-piece) → c .measure-piece .result ≡ Set (wordOf (job (c .before .before .before .before .before .before .before .before .before .before .before .before .before .before .before)) (piece (c .before .before .before .before .before .before .before .before .before .before .before .before .before .before .before)))
+told c = c .measure-piece .ensures ∙ rw (the (c .before)) (written.is-set (c .before .before .before .before .before .before .before .before .before .before .before .before .before .before .before .pre))
+
+word : (c : tie.After-known-told) → c .before .answer .given .0 .0 ≡ wordOf (job (c .before .before .before .before .before .before .before .before .before .before .before .before .before .before .before .before .before .before)) (piece (c .before .before .before .before .before .before .before .before .before .before .before .before .before .before .before .before .before .before))
+word c = let e = sym (c .before .answer .given .1) ∙ told (c .before .before .before) in cc
+
+located : (c : tie.After-place) → c .place .result ≡ At (org (c .before .before .before .before .before .before .before .before .before .before .before .before .before .before .before .before .before .before .before .before)) (after (c .before .before .before .before .before .before .before .before .before .before .before .before .before .before .before .before .before .before .before .before))
+unfolding seen
+located c = c .place .ensures ∙ rw (c .before .element-of .ensures, word (c .before .before), the (c .before .before .before .before .before .before)) (written.is-placed (c .before .before .before .before .before .before .before .before .before .before .before .before .before .before .before .before .before .before .before .before .pre))
+
+spot : (c : tie.After-known-told2) → (c .before .placed .given .0 .0 ≡ org (c .before .before .before .before .before .before .before .before .before .before .before .before .before .before .before .before .before .before .before .before .before .before .before)) × (c .before .placed .given .0 .1 .0 ≡ after (c .before .before .before .before .before .before .before .before .before .before .before .before .before .before .before .before .before .before .before .before .before .before .before))
+spot c = let e = sym (c .before .placed .given .1) ∙ located (c .before .before .before) in (cc, cc)
+
+piece-upto-requires : tie.Need-piece-upto-requires
+piece-upto-requires c κs = written.asks-piece (c .before .before .before .before .before .before .before .before .before .before .before .before .before .pre)
+
+cast-measure-piece : tie.Need-cast-measure-piece
+cast-measure-piece c = omega (arith, c .before .before .before .before .before .before .before .before .before .before .before .before .before .before .pre .index)
+
+measure-piece-requires : tie.Need-measure-piece-requires
+measure-piece-requires c κs = rw (the c) (written.asks-word (c .before .before .before .before .before .before .before .before .before .before .before .before .before .before .pre))
+
+enum-known-answer : tie.Need-enum-known-answer
+enum-known-answer c = search needs
+
+enum-told : tie.Need-enum-told
+enum-told c = search needs
+
+returns : tie.Need-returns
+returns c = absurd (let e = sym (told (c .before .before)) ∙ c .enum-told .given .1 in let z : _≡_ {A = ℕ} 0 1 = cc in omega arith)
+
+element-of-requires : tie.Need-element-of-requires
+element-of-requires c κs = rw (the (c .before .before .before .before)) (written.asks-element (c .before .before .before .before .before .before .before .before .before .before .before .before .before .before .before .before .before .before .pre))
+
+cast-place : tie.Need-cast-place
+cast-place c = omega (arith, written.asks-place (c .before .before .before .before .before .before .before .before .before .before .before .before .before .before .before .before .before .before .before .pre))
+
+place-requires : tie.Need-place-requires
+place-requires c κs = search needs
+
+enum-known-placed : tie.Need-enum-known-placed
+enum-known-placed c = search needs
+
+enum-told-2 : tie.Need-enum-told-2
+enum-told-2 c = search needs
+
+returns-2 : tie.Need-returns-2
+returns-2 c = absurd (let e = sym (located (c .before .before)) ∙ c .enum-told2 .given .1 in let z : _≡_ {A = ℕ} 0 1 = cc in omega arith)
+
+write-base-requires : tie.Need-write-base-requires
+write-base-requires c κs = rw (the (c .before .before .before .before .before .before .before .before .before .before), word (c .before .before .before .before .before .before), spot (c .before) .0) (written.asks-base (c .before .before .before .before .before .before .before .before .before .before .before .before .before .before .before .before .before .before .before .before .before .before .before .before .pre))
+
+write-ruby-requires : tie.Need-write-ruby-requires
+write-ruby-requires c κs =
+    rw (the (c .before .before .before .before .before .before .before .before .before .before .before .before .before .before), word (c .before .before .before .before .before .before .before .before .before .before))
+    (rw (← spot (c .before .before .before .before .before) .0) at (written.asks-ruby (c .before .before .before .before .before .before .before .before .before .before .before .before .before .before .before .before .before .before .before .before .before .before .before .before .before .before .before .before .pre)))
+
+same-length : tie.Need-same-length
+same-length c = search needs
+
+same-length-2 : tie.Need-same-length-2
+same-length-2 c = search needs
+
+returns-3 : tie.Need-returns-3
+returns-3 c = (
+  spot (c .before .before .before .before .before .before .before .before) .1,
+  c .before .before .before .before .before .before .write-base .ensures ∙ rw (the (c .before .before .before .before .before .before .before .before .before .before .before .before .before .before .before .before .before), word (c .before .before .before .before .before .before .before .before .before .before .before .before .before), spot (c .before .before .before .before .before .before .before .before) .0) (written.gives-base (c .before .before .before .before .before .before .before .before .before .before .before .before .before .before .before .before .before .before .before .before .before .before .before .before .before .before .before .before .before .before .before .pre)),
+  c .before .before .write-ruby .ensures ∙ rw (the (c .before .before .before .before .before .before .before .before .before .before .before .before .before .before .before .before .before), word (c .before .before .before .before .before .before .before .before .before .before .before .before .before), spot (c .before .before .before .before .before .before .before .before) .0) (written.gives-ruby (c .before .before .before .before .before .before .before .before .before .before .before .before .before .before .before .before .before .before .before .before .before .before .before .before .before .before .before .before .before .before .before .pre)),
+)
+
+pub write-piece-spec : {M : Type 1} → statement M
+write-piece-spec =
+    tie.close
+    (tie.spec
+    piece-upto-requires
+    cast-measure-piece
+    measure-piece-requires
+    enum-known-answer
+    enum-told
+    returns
+    element-of-requires
+    cast-place
+    place-requires
+    enum-known-placed
+    enum-told-2
+    returns-2
+    write-base-requires
+    write-ruby-requires
+    same-length
+    same-length-2
+    returns-3)

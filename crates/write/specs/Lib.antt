@@ -1,0 +1,4 @@
+pub mod Lists
+pub mod Piece
+pub mod Line
+pub mod Lines

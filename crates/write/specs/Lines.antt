@@ -1,0 +1,140 @@
+-- All lines, one after the other: what is asked for, what holds before each line, and what each of them adds.
+use mathlib.Core.Path.{_≡_, refl, sym, ap, ap₂, _∙_, subst}
+use mathlib.Core.List.{List, [], _∷_}
+use Prim.Native.Nat.{ℕ, suc, _+_, _≤_, _<_, zero-le}
+use native.Mathlib.Numerals.{add-one}
+use native.Mathlib.Omega.{arith}
+use lib.ListN.{length, take, drop, getD, set, length-set, length-take, drop-of-length-le}
+use lib.Seq.{sets, length-sets, drop-cons, getD-take}
+use Rattle.door.specs.Job.{Job, baseCount, rubyCount}
+use Rattle.door.specs.Passed.{Passed}
+use Rattle.job.specs.Line.{ends, baseIn, rubyIn, byLine}
+use Rattle.job.specs.Refusals.{linesFaults}
+use Rattle.job.specs.Outcome.{over}
+use Rattle.job.specs.Walk.{at-first, at-element}
+use Rattle.job.specs.Promise.{Chain, Filled}
+use Rattle.job.specs.Filled.{chain-few}
+use Rattle.job.specs.Declined.{filled}
+use Rattle.job.specs.Placed.{base-long, ruby-long}
+use Rattle.write.specs.declared.Cursor.{Cursor}
+use Rattle.write.specs.Lists.{sets-append, sets-over}
+use Rattle.write.specs.Line.{Stands, LineReady, LineWritten, rubiesUpto}
+
+-- The job passes the door, `table` has at its front the ends of its n lines, no line is refused, and no result list is too short (12).
+pub record LinesReady (job : Job) (n : ℕ) (table base ruby lines : List ℕ) : Type 0 where
+  pub passed : Passed job
+  pub found : take n table ≡ ends job
+  pub many : n ≡ length (ends job)
+  pub none : linesFaults job ≡ []
+  pub bases : baseCount job ≤ length base
+  pub rubies : rubyCount job ≤ length ruby
+  pub rows : baseCount job ≤ length lines
+
+abbrev pub walkStart : Cursor
+walkStart = record { k = 0; b = 0; r = 0; u = 0 }
+
+-- Before line l, which begins at base character s: what is written and what is to do make up the whole.
+pub record Going (job : Job) (wasBase wasRuby wasLines : List ℕ) (at : Cursor) (s l : ℕ) (base ruby lines : List ℕ) : Type 0 where
+  pub stands : Stands job at s
+  pub upto : l ≤ length (ends job)
+  pub rest : Chain job s (drop l (ends job)) (baseCount job)
+  pub bases : sets base s (byLine (baseIn job) s (drop l (ends job))) ≡ sets wasBase 0 (byLine (baseIn job) 0 (ends job))
+  pub rubies : sets ruby (rubiesUpto job at s) (byLine (rubyIn job) s (drop l (ends job))) ≡ sets wasRuby 0 (byLine (rubyIn job) 0 (ends job))
+  pub rows : sets lines l (drop l (ends job)) ≡ sets wasLines 0 (ends job)
+  pub longBase : length base ≡ length wasBase
+  pub longRuby : length ruby ≡ length wasRuby
+  pub longLines : length lines ≡ length wasLines
+
+module _ {job : Job} {n : ℕ} {table wasBase wasRuby wasLines : List ℕ} (ready : LinesReady job n table wasBase wasRuby wasLines) where
+  abbrev es : List ℕ
+  es = ends job
+
+  fill : Filled job es
+  fill = filled job (ready .passed) (ready .none)
+
+  pub going-first : Going job wasBase wasRuby wasLines walkStart 0 0 wasBase wasRuby wasLines
+  going-first =
+      record {
+        stands =
+            record {
+              walk = at-first job;
+              from = zero-le;
+              ahead = λ h. omega (arith, at-element job (ready .passed) 0 0 0 0 h (at-first job) .good .counts .some);
+              whole = λ _. zero-le;
+            };
+        upto = zero-le;
+        rest = fill;
+        bases = refl;
+        rubies = refl;
+        rows = refl;
+        longBase = refl;
+        longRuby = refl;
+        longLines = refl;
+      }
+
+  -- the list of ends is read within it, and has what the filling found
+  pub table-long : n ≤ length table
+  table-long = omega (arith, ready .many, ap length (ready .found), length-take n table)
+
+  pub few : n ≤ 1024
+  few = omega (arith, ready .many, chain-few job 0 (baseCount job) es fill, ready .passed .fewBase)
+
+  module _ {at : Cursor} {s l : ℕ} {base ruby lines : List ℕ} (going : Going job wasBase wasRuby wasLines at s l base ruby lines) where
+    module _ (h : l < n) where
+      abbrev e : ℕ
+      e = getD table l 0
+
+      split : drop l es ≡ e ∷ drop (suc l) es
+      split = drop-cons es l 0 (omega (arith, ready .many)) ∙ ap (λ (x : ℕ). x ∷ drop (suc l) es) (ap (λ (xs : List ℕ). getD xs l 0) (sym (ready .found)) ∙ getD-take n table l 0 h)
+
+      chain : Chain job s (e ∷ drop (suc l) es) (baseCount job)
+      chain = subst (λ xs. Chain job s xs (baseCount job)) split (going .rest)
+
+      pub line-ready : LineReady job s e at base ruby
+      line-ready =
+          record {
+            passed = ready .passed;
+            stands = going .stands;
+            ahead = chain .0 .at .ahead;
+            within = chain .0 .at .within;
+            permits = chain .0 .at .permits;
+            bases = omega (arith, going .longBase, ready .bases);
+            rubies = omega (arith, going .longRuby, ready .rubies);
+          }
+
+      pub row : (l < length table) × (l < length lines)
+      row = (omega (arith, table-long), omega (arith, going .longLines, ready .rows, ready .many, chain-few job 0 (baseCount job) es fill))
+
+      pub going-next : {next : Cursor} {base2 ruby2 : List ℕ} → LineWritten job s e (rubiesUpto job at s) next base ruby base2 ruby2 →
+          Going job wasBase wasRuby wasLines next e (l + 1) base2 ruby2 (set lines l e)
+      going-next line =
+          let w = line .written in
+          rw (add-one l) (record {
+            stands = line .stands;
+            upto = omega (arith, ready .many);
+            rest = chain .1;
+            bases =
+                ap₂ (λ b k. sets b k (byLine (baseIn job) e (drop (suc l) es))) (w .bases) (sym (w .next))
+                ∙ sym (sets-append base (baseIn job s e) (byLine (baseIn job) e (drop (suc l) es)) s)
+                ∙ ap (λ xs. sets base s (byLine (baseIn job) s xs)) (sym split)
+                ∙ going .bases;
+            rubies =
+                ap₂ (λ b k. sets b k (byLine (rubyIn job) e (drop (suc l) es))) (w .rubies) (sym (w .nextRuby))
+                ∙ sym (sets-append ruby (rubyIn job s e) (byLine (rubyIn job) e (drop (suc l) es)) (rubiesUpto job at s))
+                ∙ ap (λ xs. sets ruby (rubiesUpto job at s) (byLine (rubyIn job) s xs)) (sym split)
+                ∙ going .rubies;
+            rows = ap (sets lines l) (sym split) ∙ going .rows;
+            longBase = ap length (w .bases) ∙ length-sets base s (baseIn job s e) ∙ going .longBase;
+            longRuby = ap length (w .rubies) ∙ length-sets ruby (rubiesUpto job at s) (rubyIn job s e) ∙ going .longRuby;
+            longLines = length-set lines l e ∙ going .longLines;
+          })
+
+    -- after the last line all is written
+    pub going-end : n ≤ l → (base ≡ over (byLine (baseIn job) 0 es) wasBase) × (ruby ≡ over (byLine (rubyIn job) 0 es) wasRuby) × (lines ≡ over es wasLines)
+    going-end h =
+        let past : length es ≤ l = omega (arith, ready .many) in
+        let none : drop l es ≡ [] = drop-of-length-le es past in (
+          ap (λ xs. sets base s (byLine (baseIn job) s xs)) (sym none) ∙ going .bases ∙ sets-over wasBase (byLine (baseIn job) 0 es) (omega (arith, base-long job (ready .passed) es fill, ready .bases)),
+          ap (λ xs. sets ruby (rubiesUpto job at s) (byLine (rubyIn job) s xs)) (sym none) ∙ going .rubies ∙ sets-over wasRuby (byLine (rubyIn job) 0 es) (omega (arith, ruby-long job (ready .passed) es fill, ready .rubies)),
+          ap (sets lines l) (sym none) ∙ going .rows ∙ sets-over wasLines es (omega (arith, chain-few job 0 (baseCount job) es fill, ready .rows)),
+        )
