@@ -3,12 +3,6 @@ use borrow.Author.Needs.{needs}
 use Rattle.write.proofs.after_element.Statement.{statement}
 use Rattle.write.proofs.after_element.Tie as tie
 
--- The record that is made is the one that is asked for. Only a J takes runs.
-
--- The record that is made is the one that is asked for. Only a J takes runs.
-
--- The record that is made is the one that is asked for. Only a J takes runs.
-
 add-t3 : tie.Need-add-t3
 add-t3 c = search needs
 
