@@ -1,8 +1,10 @@
 -- A table that holds lines column by column: number j of line i stands at i + j * step.
 use mathlib.Core.List.{List, [], _∷_, map}
-use mathlib.Core.Path.{_≡_, refl, _∙_}
+use mathlib.Core.Path.{_≡_, refl, _∙_, ap}
 use Prim.Native.Nat.{ℕ, zero, suc, _+_, _*_, _^_, _≤_, _<_}
+use native.Mathlib.Numerals.{add-one}
 use lib.ListN.{length, set, getD, length-set}
+use lib.Seq.{sets}
 use Rattle.rows.specs.declared.Part.{Part}
 use Rattle.rows.specs.Section.{countOf, lineOf}
 
@@ -46,3 +48,9 @@ pub length-laid : (t : List ℕ) (i step : ℕ) (rows : List (List ℕ)) → len
 unfolding laid
 length-laid t i step [] = refl
 length-laid t i step (r ∷ rows) = length-laid (strided t i step r) (i + 1) step rows ∙ length-strided t i step r
+
+-- numbers one after the other
+pub strided-one : (t : List ℕ) (at : ℕ) (vs : List ℕ) → strided t at 1 vs ≡ sets t at vs
+unfolding strided
+strided-one t at [] = refl
+strided-one t at (v ∷ vs) = strided-one (set t at v) (at + 1) vs ∙ ap (λ p. sets (set t at v) p vs) (add-one at)
