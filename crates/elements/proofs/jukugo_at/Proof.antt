@@ -1,0 +1,127 @@
+-- `elements::jukugo_at` meets its contract. Each return rewrites the definition with what was read on the way there (`e` the word, `d` the count);
+-- numbers stored a stride of 1 apart are a list stored.
+use mathlib.Core.Path.{_∙_, sym}
+use borrow.Author.Tests.{lt-ltb, le-ltb}
+use Rattle.rows.specs.Section.{onPlace, onNumber}
+use Rattle.rows.specs.Table.{strided-one}
+use Rattle.elements.specs.Element.{jukugo}
+use borrow.Author.Needs.{needs}
+use Rattle.elements.proofs.jukugo_at.Statement.{statement}
+use Rattle.elements.proofs.jukugo_at.Tie as tie
+
+slice-aggregate-read-word : tie.Need-slice-aggregate-read-word
+slice-aggregate-read-word c = search needs
+
+read-word-requires : tie.Need-read-word-requires
+read-word-requires c κs = search needs
+
+enum-known-p : tie.Need-enum-known-p
+enum-known-p c = search needs
+
+enum-told : tie.Need-enum-told
+enum-told c = search needs
+
+returns : tie.Need-returns
+unfolding jukugo onPlace
+returns c =
+    let e = sym (c .enum-told .given .1) ∙ c .before .before .read-word .ensures in
+    (rw (← e), rw (← e))
+
+read-number-requires : tie.Need-read-number-requires
+read-number-requires c κs = search needs
+
+enum-known-b : tie.Need-enum-known-b
+enum-known-b c = search needs
+
+enum-told-2 : tie.Need-enum-told-2
+enum-told-2 c = search needs
+
+returns-2 : tie.Need-returns-2
+unfolding jukugo onPlace onNumber
+returns-2 c =
+    let n = c .before .before in
+    let e = (sym (n .before .before .p .given .1) ∙ n .before .before .before .before .read-word .ensures) in
+    let d = sym (c .enum-told2 .given .1) ∙ n .read-number .ensures in
+    (rw (← e, ← d), rw (← e, ← d))
+
+returns-3 : tie.Need-returns-3
+unfolding jukugo onPlace onNumber
+returns-3 c =
+    let k = c .before in
+    let n = k .before .before .before in
+    let e = ((sym (n .before .before .p .given .1) ∙ n .before .before .before .before .read-word .ensures)) in
+    let d = ((sym (k .before .b .given .1) ∙ n .read-number .ensures)) in
+    (rw (← e, ← d, lt-ltb _ _ (c .if1 .taken)), rw (← e, ← d, lt-ltb _ _ (c .if1 .taken)))
+
+returns-4 : tie.Need-returns-4
+unfolding jukugo onPlace onNumber
+returns-4 c =
+    let k = c .before .before in
+    let n = k .before .before .before in
+    let e = ((sym (n .before .before .p .given .1) ∙ n .before .before .before .before .read-word .ensures)) in
+    let d = ((sym (k .before .b .given .1) ∙ n .read-number .ensures)) in
+    (rw (← e, ← d, le-ltb _ _ (c .before .if1 .left), lt-ltb _ _ (c .if2 .taken)), rw (← e, ← d, le-ltb _ _ (c .before .if1 .left), lt-ltb _ _ (c .if2 .taken)))
+
+cast-n : tie.Need-cast-n
+cast-n c = search needs
+
+fields-at-requires : tie.Need-fields-at-requires
+fields-at-requires c κs = search needs
+
+enum-known-next : tie.Need-enum-known-next
+enum-known-next c = search needs
+
+enum-told-3 : tie.Need-enum-told-3
+enum-told-3 c = search needs
+
+same-length : tie.Need-same-length
+same-length c = search needs
+
+returns-5 : tie.Need-returns-5
+unfolding jukugo onPlace onNumber
+returns-5 c =
+    let f = c .before .before .before .before in
+    let t = f .before .before in
+    let k = t .before .before in
+    let n = k .before .before .before in
+    let e = ((sym (n .before .before .p .given .1) ∙ n .before .before .before .before .read-word .ensures)) in
+    let d = ((sym (k .before .b .given .1) ∙ n .read-number .ensures)) in
+    (rw (← e, ← d, le-ltb _ _ (t .before .if1 .left), le-ltb _ _ (t .if2 .left), ← (sym (c .enum-told3 .given .1) ∙ f .fields-at .ensures .0)), rw (← e, ← d, le-ltb _ _ (t .before .if1 .left), le-ltb _ _ (t .if2 .left)) (f .fields-at .ensures .1 ∙ strided-one _ _ _))
+
+same-length-2 : tie.Need-same-length-2
+same-length-2 c = search needs
+
+returns-6 : tie.Need-returns-6
+unfolding jukugo onPlace onNumber
+returns-6 c =
+    let f = c .before .before .before .before .before in
+    let t = f .before .before in
+    let k = t .before .before in
+    let n = k .before .before .before in
+    let e = ((sym (n .before .before .p .given .1) ∙ n .before .before .before .before .read-word .ensures)) in
+    let d = ((sym (k .before .b .given .1) ∙ n .read-number .ensures)) in
+    (rw (← e, ← d, le-ltb _ _ (t .before .if1 .left), le-ltb _ _ (t .if2 .left), ← (sym (c .before .next .given .1) ∙ f .fields-at .ensures .0)), rw (← e, ← d, le-ltb _ _ (t .before .if1 .left), le-ltb _ _ (t .if2 .left)) (f .fields-at .ensures .1 ∙ strided-one _ _ _))
+
+pub jukugo-at-spec : {M : Type 1} → statement M
+jukugo-at-spec =
+    tie.close
+    (tie.spec
+    slice-aggregate-read-word
+    read-word-requires
+    enum-known-p
+    enum-told
+    returns
+    read-number-requires
+    enum-known-b
+    enum-told-2
+    returns-2
+    returns-3
+    returns-4
+    cast-n
+    fields-at-requires
+    enum-known-next
+    enum-told-3
+    same-length
+    returns-5
+    same-length-2
+    returns-6)

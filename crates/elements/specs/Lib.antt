@@ -1,0 +1,5 @@
+pub mod Element
+pub mod Elements
+pub mod Ready
+pub mod Reading
+pub mod Whole

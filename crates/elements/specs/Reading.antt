@@ -1,0 +1,219 @@
+-- How the loop over the elements comes along: what is left to read, stored after what was read, makes up the whole.
+use mathlib.Core.Bool.{Bool, true, false, cond}
+use mathlib.Core.List.{List, [], _∷_, _++_}
+use mathlib.Core.Path.{_≡_, refl, _∙_, ap, ap₂, sym}
+use Prim.Native.Nat.{ℕ, zero, suc, _+_, _-_, _*_, _^_, _≤_, _<_}
+use native.Mathlib.Nat.{add-zero, sub-zero}
+use native.Mathlib.Omega.{arith}
+use borrow.Author.Tests.{ltb-false}
+use lib.Dec.{ltb}
+use lib.ListN.{length, drop, set}
+use lib.Seq.{sets, length-sets}
+use Rattle.refusal.specs.declared.Refusal.the-variants.{Form}
+use Rattle.text.specs.declared.Number.{Number}
+use Rattle.text.specs.declared.Number.the-variants.{Is, Fault}
+use Rattle.text.specs.declared.Place.{Place}
+use Rattle.text.specs.declared.Place.the-variants.{At, Off}
+use Rattle.text.specs.Text.{number, word}
+use Rattle.rows.specs.declared.Part.{Part}
+use Rattle.rows.specs.declared.Part.the-variants.{Read as PartRead}
+use Rattle.rows.specs.Section.{onNumber, onPlace, onPart, Fields, fields}
+use Rattle.rows.specs.Table.{strided, laid, length-strided}
+use Rattle.rows.specs.Whole.{fields-count}
+use Rattle.elements.specs.declared.Element.{Element}
+use Rattle.elements.specs.declared.Line.{Line}
+use Rattle.elements.specs.declared.Line.the-variants.{Holds, Broken}
+use Rattle.elements.specs.declared.Elements.the-variants.{Read, Refused}
+use Rattle.elements.specs.Element.{plain, mono, group, either, short, Got, nothing, withRuns, jukugo, orJukugo, element, rowOf}
+use Rattle.elements.specs.Elements.{Listed, onLine, lines, elements}
+use Rattle.elements.specs.Ready.{RunsReady, PutReady, LinesReady, ElementsReady}
+
+-- A line holds as many runs as its element says, 32 at most.
+
+pub record Runs (e : Element) (runs : List ℕ) : Type 0 where
+  pub count : length runs ≡ e .runs
+  pub few : e .runs ≤ 32
+
+Sound : Got → Type 0
+Sound g = (e : Element) (next : ℕ) → g .line ≡ Holds e next → Runs e (g .runs)
+
+none-sound : Sound nothing
+unfolding Sound
+none-sound e next h = absurd (let z : _≡_ {A = ℕ} 0 1 = cc in omega arith)
+
+-- a kind without runs says so
+Bare : Line → Type 0
+Bare l = (e : Element) (next : ℕ) → l ≡ Holds e next → 0 ≡ e .runs
+
+broken-bare : Bare Broken
+unfolding Bare
+broken-bare e next h = absurd (let z : _≡_ {A = ℕ} 0 1 = cc in omega arith)
+
+place-bare : (p : Place) (f : ℕ → Line) → ((q : ℕ) → Bare (f q)) → Bare (onPlace p Broken f)
+unfolding onPlace
+place-bare (At q) f h = h q
+place-bare Off f h = broken-bare
+
+number-bare : (n : Number) (f : ℕ → ℕ → Line) → ((v q : ℕ) → Bare (f v q)) → Bare (onNumber n Broken f)
+unfolding onNumber
+number-bare (Is v q) f h = h v q
+number-bare Fault f h = broken-bare
+
+holds-bare : (kind base ruby p : ℕ) → Bare (Holds (record { kind = kind; base = base; ruby = ruby; runs = 0 }) p)
+unfolding Bare
+holds-bare kind base ruby p e next h = ap runsOf h
+  where
+    runsOf : Line → ℕ
+    runsOf (Holds e next) = e .runs
+    runsOf Broken = 0
+
+either-bare : (a b : Line) → Bare a → Bare b → Bare (either a b)
+unfolding either
+either-bare (Holds e next) b h k = h
+either-bare Broken b h k = k
+
+short-bare : (s : List ℕ) (at : ℕ) → Bare (short s at)
+unfolding short plain mono group
+short-bare s at =
+    either-bare (plain s at) (either (mono s at) (group s at)) (place-bare _ _ (λ q. holds-bare 80 0 0 q))
+    (either-bare (mono s at) (group s at) (place-bare _ _ (λ p. number-bare _ _ (λ r q. holds-bare 77 0 r q)))
+    (place-bare _ _ (λ p. number-bare _ _ (λ b q. number-bare _ _ (λ r n. holds-bare 71 b r n)))))
+
+-- and a J holds those that it counts
+place-sound : (p : Place) (f : ℕ → Got) → ((q : ℕ) → Sound (f q)) → Sound (onPlace p nothing f)
+unfolding onPlace
+place-sound (At q) f h = h q
+place-sound Off f h = none-sound
+
+number-sound : (n : Number) (f : ℕ → ℕ → Got) → ((v q : ℕ) → Sound (f v q)) → Sound (onNumber n nothing f)
+unfolding onNumber
+number-sound (Is v q) f h = h v q
+number-sound Fault f h = none-sound
+
+runs-sound : (b : ℕ) (f : Fields) → b ≤ 32 → ((p : ℕ) → f .end ≡ At p → length (f .values) ≡ b) → Sound (withRuns b f)
+unfolding Sound onPlace
+runs-sound b f few h e next q = go (f .end) refl q
+  where
+    runsOf : Line → ℕ
+    runsOf (Holds e next) = e .runs
+    runsOf Broken = 0
+
+    go : (p : Place) → f .end ≡ p → onPlace p Broken (λ next. Holds (record { kind = 74; base = b; ruby = 0; runs = b }) next) ≡ Holds e next → Runs e (f .values)
+    go (At p) i j = record { count = h p i ∙ ap runsOf j; few = omega (arith, ap runsOf j) }
+    go Off i j = absurd (let z : _≡_ {A = ℕ} 0 1 = cc in omega arith)
+
+counted-sound : (s : List ℕ) (b q : ℕ) (t u : Bool) → ltb 32 b ≡ u → Sound (cond t nothing (cond u nothing (withRuns b (fields b s q))))
+counted-sound s b q true u e = none-sound
+counted-sound s b q false true e = none-sound
+counted-sound s b q false false e = runs-sound b (fields b s q) (ltb-false 32 b e) (λ p. fields-count b s q p)
+
+jukugo-sound : (s : List ℕ) (at : ℕ) → Sound (jukugo s at)
+unfolding jukugo
+jukugo-sound s at = place-sound _ _ (λ p. number-sound _ _ (λ b q. counted-sound s b q (ltb b 1) (ltb 32 b) refl))
+
+or-sound : (l : Line) (j : Got) → Bare l → Sound j → Sound (orJukugo l j)
+unfolding orJukugo Bare Sound
+or-sound (Holds x p) j b h e next q = record { count = b e next q; few = omega (arith, b e next q) }
+or-sound Broken j b h e next q = h e next q
+
+pub element-runs : (s : List ℕ) (at : ℕ) (e : Element) (next : ℕ) → element s at .line ≡ Holds e next → Runs e (element s at .runs)
+unfolding element Sound
+element-runs s at = or-sound (short s at) (jukugo s at) (short-bare s at) (jukugo-sound s at)
+
+-- Runs are stored one line after the other.
+sets-append : (was xs ys : List ℕ) (a : ℕ) → sets was a (xs ++ ys) ≡ sets (sets was a xs) (a + length xs) ys
+sets-append was [] ys a = ap (λ (k : ℕ). sets was k ys) (sym (add-zero a))
+sets-append was (x ∷ xs) ys a = sets-append (set was a x) xs ys (suc a) ∙ ap (λ (k : ℕ). sets (sets (set was a x) (suc a) xs) k ys) (step a (length xs))
+  where
+    step : (a n : ℕ) → suc a + n ≡ a + suc n
+    step a n = omega arith
+
+-- Of n lines i are read.
+
+pub record LinesLeft (s : List ℕ) (n from first : ℕ) (wasTable wasRuns table runs : List ℕ) (at line used i : ℕ) : Type 0 where
+  pub within : i ≤ n
+  pub counted : line ≡ first + i
+  pub few : used ≤ 32 * i
+  pub long : length table ≡ length wasTable
+  pub longRuns : length runs ≡ length wasRuns
+  pub end : lines n (n - i) s at line used .end ≡ lines n n s from first 0 .end
+  pub stored : laid table i 1024 (lines n (n - i) s at line used .rows) ≡ laid wasTable 0 1024 (lines n n s from first 0 .rows)
+  pub kept : sets runs used (lines n (n - i) s at line used .runs) ≡ sets wasRuns 0 (lines n n s from first 0 .runs)
+
+pub lines-first : (s : List ℕ) (n from first : ℕ) (table runs : List ℕ) → LinesLeft s n from first table runs table runs from first 0 0
+lines-first s n from first table runs =
+    record { within = omega arith; counted = omega arith; few = omega arith; long = refl; longRuns = refl; end = rw sub-zero; stored = rw sub-zero; kept = rw sub-zero }
+
+module _ {s : List ℕ} {n from first : ℕ} {wasTable wasRuns table runs : List ℕ} {at line used i : ℕ} (inv : LinesLeft s n from first wasTable wasRuns table runs at line used i) where
+  abbrev whole : Listed
+  whole = lines n n s from first 0
+
+  pub lines-done : n ≤ i → (Read n used at line ≡ whole .end) × (table ≡ laid wasTable 0 1024 (whole .rows)) × (runs ≡ sets wasRuns 0 (whole .runs))
+  unfolding lines laid
+  lines-done h =
+      let e : n - i ≡ 0 = omega arith in
+      (rw e at (inv .end), rw e at (inv .stored), rw e at (inv .kept))
+
+  module _ (more : i < n) where
+    module _ (ready : LinesReady n first wasTable wasRuns) where
+      pub runs-ready : RunsReady used runs
+      runs-ready = record { room = omega (arith, inv .few, inv .longRuns, ready .few, ready .held); small = omega (arith, inv .longRuns, ready .small) }
+
+      pub put-ready : PutReady i table
+      put-ready = record { few = omega (arith, ready .few); room = omega (arith, inv .long, ready .room) }
+
+      pub line-fits : line + 1 < 2 ^ 32
+      line-fits = omega (arith, ready .lines, inv .counted)
+
+      pub used-fits : (e : Element) (next : ℕ) → Holds e next ≡ element s at .line → used + e .runs < 2 ^ 64
+      used-fits e next h = omega (arith, inv .few, inv .within, ready .few, element-runs s at e next (sym h) .few)
+
+    one-line : lines n (n - i) s at line used ≡
+        onLine (element s at .line)
+        (record { rows = []; runs = element s at .runs; end = Refused (Form line) })
+        (λ e next.
+        record {
+          rows = rowOf e ∷ lines n (n - (i + 1)) s next (line + 1) (used + e .runs) .rows;
+          runs = element s at .runs ++ lines n (n - (i + 1)) s next (line + 1) (used + e .runs) .runs;
+          end = lines n (n - (i + 1)) s next (line + 1) (used + e .runs) .end;
+        })
+    unfolding lines
+    one-line =
+        let e : n - i ≡ suc (n - (i + 1)) = omega arith in
+        ap (λ m. lines n m s at line used) e
+
+    module _ (nowRuns : List ℕ) (put : nowRuns ≡ sets runs used (element s at .runs)) where
+      pub lines-broken : Broken ≡ element s at .line → (Refused (Form line) ≡ whole .end) × (table ≡ laid wasTable 0 1024 (whole .rows)) × (nowRuns ≡ sets wasRuns 0 (whole .runs))
+      unfolding onLine laid
+      lines-broken h = (rw (one-line, ← h) at (inv .end), rw (one-line, ← h) at (inv .stored), put ∙ (rw (one-line, ← h) at (inv .kept)))
+
+      abbrev rest : Element → ℕ → List ℕ
+      rest e next = lines n (n - (i + 1)) s next (line + 1) (used + e .runs) .runs
+
+      pub lines-next : (e : Element) (next : ℕ) → Holds e next ≡ element s at .line → (nowTable : List ℕ) → nowTable ≡ strided table i 1024 (rowOf e) →
+          LinesLeft s n from first wasTable wasRuns nowTable nowRuns next (line + 1) (used + e .runs) (i + 1)
+      unfolding onLine laid
+      lines-next e next h nowTable put-row =
+          let r = element-runs s at e next (sym h) in
+          record {
+            within = omega arith;
+            counted = omega (arith, inv .counted);
+            few = omega (arith, inv .few, r .few);
+            long = ap length put-row ∙ (length-strided table i 1024 (rowOf e) ∙ inv .long);
+            longRuns = ap length put ∙ (length-sets runs used (element s at .runs) ∙ inv .longRuns);
+            end = rw (one-line, ← h) at (inv .end);
+            stored = rw put-row (rw (one-line, ← h) at (inv .stored));
+            kept =
+                ap₂ (λ l k. sets l (used + k) (rest e next)) put (sym (r .count))
+                ∙ (sym (sets-append runs (element s at .runs) (rest e next) used) ∙ (rw (one-line, ← h) at (inv .kept)));
+          }
+
+-- the lines under a head that was read
+pub lines-ready : (head : Part) (table runs : List ℕ) (n at line : ℕ) → head ≡ PartRead n at line → ElementsReady head table runs → LinesReady n line table runs
+lines-ready head table runs n at line e ready =
+    let h = rw e at ready in
+    record { few = h .few; lines = h .lines; room = h .room; held = h .held; small = h .small }
+
+pub elements-of : (s : List ℕ) (head : Part) (n at line : ℕ) → head ≡ PartRead n at line → elements s head ≡ lines n n s at line 0
+unfolding elements onPart
+elements-of s head n at line e = rw e

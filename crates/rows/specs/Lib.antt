@@ -1,0 +1,5 @@
+pub mod Section
+pub mod Table
+pub mod Reading
+pub mod Columns
+pub mod Whole

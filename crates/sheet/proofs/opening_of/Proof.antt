@@ -1,0 +1,48 @@
+-- `sheet::opening_of` meets its contract. Each return rewrites the definition with what was found on the way there.
+use mathlib.Core.Path.{_∙_, sym}
+use borrow.Author.Tests.{lt-ltb, le-ltb}
+use Rattle.rows.specs.Section.{onPlace}
+use Rattle.sheet.specs.Sheet.{opening}
+use borrow.Author.Needs.{needs}
+use Rattle.sheet.proofs.opening_of.Statement.{statement}
+use Rattle.sheet.proofs.opening_of.Tie as tie
+
+returns : tie.Need-returns
+unfolding opening
+returns c = rw (lt-ltb _ _ (c .if1 .taken))
+
+slice-aggregate-read-word : tie.Need-slice-aggregate-read-word
+slice-aggregate-read-word c = search needs
+
+read-word-requires : tie.Need-read-word-requires
+read-word-requires c κs = search needs
+
+enum-known-p : tie.Need-enum-known-p
+enum-known-p c = search needs
+
+enum-told : tie.Need-enum-told
+enum-told c = search needs
+
+returns-2 : tie.Need-returns-2
+unfolding opening onPlace
+returns-2 c =
+    let w = c .before .before in
+    rw (le-ltb _ _ (w .before .before .if1 .left), ← (sym (c .enum-told .given .1) ∙ w .read-word .ensures))
+
+returns-3 : tie.Need-returns-3
+unfolding opening onPlace
+returns-3 c =
+    let w = c .before .before .before in
+    rw (le-ltb _ _ (w .before .before .if1 .left), ← (sym (c .before .p .given .1) ∙ w .read-word .ensures))
+
+pub opening-of-spec : {M : Type 1} → statement M
+opening-of-spec =
+    tie.close
+    (tie.spec
+    returns
+    slice-aggregate-read-word
+    read-word-requires
+    enum-known-p
+    enum-told
+    returns-2
+    returns-3)

@@ -1,0 +1,3 @@
+pub mod Sheet
+pub mod Small
+pub mod Chain
