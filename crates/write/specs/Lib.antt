@@ -1,4 +1,5 @@
 pub mod Lists
 pub mod Piece
+pub mod Walks
 pub mod Line
 pub mod Lines

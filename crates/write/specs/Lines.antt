@@ -11,14 +11,14 @@ use Rattle.door.specs.Passed.{Passed}
 use Rattle.job.specs.Line.{ends, baseIn, rubyIn, byLine}
 use Rattle.job.specs.Refusals.{linesFaults}
 use Rattle.job.specs.Outcome.{over}
-use Rattle.job.specs.Walk.{at-first, at-element}
 use Rattle.job.specs.Promise.{Chain, Filled}
 use Rattle.job.specs.Filled.{chain-few}
 use Rattle.job.specs.Declined.{filled}
 use Rattle.job.specs.Placed.{base-long, ruby-long}
 use Rattle.write.specs.declared.Cursor.{Cursor}
 use Rattle.write.specs.Lists.{sets-append, sets-over}
-use Rattle.write.specs.Line.{Stands, LineReady, LineWritten, rubiesUpto}
+use Rattle.write.specs.Walks.{Stands, walkStart, stands-first}
+use Rattle.write.specs.Line.{LineReady, LineWritten, rubiesUpto}
 
 -- The job passes the door, `table` has at its front the ends of its n lines, no line is refused, and no result list is too short (12).
 pub record LinesReady (job : Job) (n : ℕ) (table base ruby lines : List ℕ) : Type 0 where
@@ -29,9 +29,6 @@ pub record LinesReady (job : Job) (n : ℕ) (table base ruby lines : List ℕ) :
   pub bases : baseCount job ≤ length base
   pub rubies : rubyCount job ≤ length ruby
   pub rows : baseCount job ≤ length lines
-
-abbrev pub walkStart : Cursor
-walkStart = record { k = 0; b = 0; r = 0; u = 0 }
 
 -- Before line l, which begins at base character s: what is written and what is to do make up the whole.
 pub record Going (job : Job) (wasBase wasRuby wasLines : List ℕ) (at : Cursor) (s l : ℕ) (base ruby lines : List ℕ) : Type 0 where
@@ -55,13 +52,7 @@ module _ {job : Job} {n : ℕ} {table wasBase wasRuby wasLines : List ℕ} (read
   pub going-first : Going job wasBase wasRuby wasLines walkStart 0 0 wasBase wasRuby wasLines
   going-first =
       record {
-        stands =
-            record {
-              walk = at-first job;
-              from = zero-le;
-              ahead = λ h. omega (arith, at-element job (ready .passed) 0 0 0 0 h (at-first job) .good .counts .some);
-              whole = λ _. zero-le;
-            };
+        stands = stands-first job (ready .passed);
         upto = zero-le;
         rest = fill;
         bases = refl;
@@ -95,9 +86,7 @@ module _ {job : Job} {n : ℕ} {table wasBase wasRuby wasLines : List ℕ} (read
           record {
             passed = ready .passed;
             stands = going .stands;
-            ahead = chain .0 .at .ahead;
-            within = chain .0 .at .within;
-            permits = chain .0 .at .permits;
+            line = chain .0 .at;
             bases = omega (arith, going .longBase, ready .bases);
             rubies = omega (arith, going .longRuby, ready .rubies);
           }
