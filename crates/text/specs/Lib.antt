@@ -1,0 +1,5 @@
+pub mod Text
+pub mod Print
+pub mod Places
+pub mod Written
+pub mod Back
