@@ -78,7 +78,7 @@ module _ {job : Job} {s e : ℕ} {at : Cursor} (amid : Amid job s e at) where
       go (no l) = absurd (let b = at-end job (amid .passed) (at .k) (at .b) (at .r) (at .u) (omega arith) (amid .walk) .0 in omega (arith, amid .line .within))
 
   module _ (here : at .b < e) where
-    is : IsElement job x
+    pub is : IsElement job x
     is = at-element job (amid .passed) (at .k) (at .b) (at .r) (at .u) (index here) (amid .walk)
 
     some : 0 < x .bases
