@@ -5,3 +5,6 @@ pub mod Rows
 pub mod Extent
 pub mod Line
 pub mod Result
+pub mod Short
+pub mod Accepted
+pub mod Determined

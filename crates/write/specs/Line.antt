@@ -15,6 +15,7 @@ use Rattle.door.specs.Passed.{Passed}
 use Rattle.job.specs.Line.{pieces, seen, baseAt, rubyAt, baseIn, rubyIn}
 use Rattle.job.specs.Promise.{Break}
 use Rattle.job.specs.Walk.{stateOf, base-more, ruby-more, state-none, base-none, ruby-none}
+use Rattle.job.specs.Words.{GoodPiece}
 use Rattle.job.specs.Placed.{baseAlone, rubyAlone, base-counted, ruby-counted}
 use Rattle.fill.specs.Piece.{Into, pieceUpto, more, good}
 use Rattle.write.specs.declared.Cursor.{Cursor}
@@ -55,6 +56,15 @@ pub record Along (job : Job) (s e first : ℕ) (was wasRuby : List ℕ) (at : Cu
   pub state : st ≡ stateOf job s (at .b)
   pub written : Written job s first (at .b) (max s (at .b)) (rubiesUpto job at (max s (at .b))) was wasRuby base ruby
 
+-- a piece has as many positions as characters
+pub base-many : (job : Job) (p : Piece) (o : ℕ) → GoodPiece job p → length (baseAt job p o) ≡ p .bases
+unfolding baseAt
+base-many job p o g = length-map (baseAlone job p) (λ y. o + y) ∙ base-counted job p g
+
+pub ruby-many : (job : Job) (p : Piece) (o : ℕ) → GoodPiece job p → length (rubyAt job p o) ≡ p .rubies
+unfolding rubyAt
+ruby-many job p o g = length-map (rubyAlone job p) (λ y. o + y) ∙ ruby-counted job p g
+
 -- One piece more.
 
 module _ (job : Job) (s c : ℕ) (x : Piece) (in-it : Into job s c x) where
@@ -63,14 +73,6 @@ module _ (job : Job) (s c : ℕ) (x : Piece) (in-it : Into job s c x) where
 
   abbrev o : ℕ
   o = origin (stateOf job s (x .base)) (seen job p)
-
-  base-many : length (baseAt job p o) ≡ p .bases
-  unfolding baseAt
-  base-many = length-map (baseAlone job p) (λ y. o + y) ∙ base-counted job p (good job s c x in-it)
-
-  ruby-many : length (rubyAt job p o) ≡ p .rubies
-  unfolding rubyAt
-  ruby-many = length-map (rubyAlone job p) (λ y. o + y) ∙ ruby-counted job p (good job s c x in-it)
 
   pub written-more : (first : ℕ) (was wasRuby base ruby : List ℕ) → Written job s first (x .base) (p .base) (p .ruby) was wasRuby base ruby →
       Written job s first c c (p .ruby + p .rubies) was wasRuby (baseWith job s c x base) (rubyWith job s c x ruby)
@@ -81,9 +83,9 @@ module _ (job : Job) (s c : ℕ) (x : Piece) (in-it : Into job s c x) where
       let f = ruby-more job s (x .base) c p (more job s c x in-it) in
       record {
         bases = ap₂ (λ l k. sets l k (baseAt job p o)) (w .bases) (sym (w .next)) ∙ sym (sets-append was old (baseAt job p o) s) ∙ ap (sets was s) (sym e);
-        next = omega (arith, w .next, ap length e, length-append old (baseAt job p o), base-many, piece.ends job s c x in-it .upto);
+        next = omega (arith, w .next, ap length e, length-append old (baseAt job p o), base-many job p o (good job s c x in-it), piece.ends job s c x in-it .upto);
         rubies = ap₂ (λ l k. sets l k (rubyAt job p o)) (w .rubies) (sym (w .nextRuby)) ∙ sym (sets-append wasRuby oldRuby (rubyAt job p o) first) ∙ ap (sets wasRuby first) (sym f);
-        nextRuby = omega (arith, w .nextRuby, ap length f, length-append oldRuby (rubyAt job p o), ruby-many);
+        nextRuby = omega (arith, w .nextRuby, ap length f, length-append oldRuby (rubyAt job p o), ruby-many job p o (good job s c x in-it));
       }
 
 -- Along the line.
