@@ -1,4 +1,6 @@
 pub mod Lists
 pub mod Piece
+pub mod Walks
+pub mod Ends
 pub mod Line
 pub mod Lines

@@ -4,21 +4,21 @@ use mathlib.Core.List.{List, [], _∷_}
 use Prim.Native.Nat.{ℕ, suc, _+_, _≤_, _<_, zero-le}
 use native.Mathlib.Numerals.{add-one}
 use native.Mathlib.Omega.{arith}
-use lib.ListN.{length, take, drop, getD, set, length-set, length-take, drop-of-length-le}
-use lib.Seq.{sets, length-sets, drop-cons, getD-take}
+use lib.ListN.{length, take, drop, getD, set, length-set, drop-of-length-le}
+use lib.Seq.{sets, length-sets}
 use Rattle.door.specs.Job.{Job, baseCount, rubyCount}
 use Rattle.door.specs.Passed.{Passed}
 use Rattle.job.specs.Line.{ends, baseIn, rubyIn, byLine}
 use Rattle.job.specs.Refusals.{linesFaults}
 use Rattle.job.specs.Outcome.{over}
-use Rattle.job.specs.Walk.{at-first, at-element}
 use Rattle.job.specs.Promise.{Chain, Filled}
-use Rattle.job.specs.Filled.{chain-few}
-use Rattle.job.specs.Declined.{filled}
 use Rattle.job.specs.Placed.{base-long, ruby-long}
+use Rattle.fill.specs.Lines.{Full}
 use Rattle.write.specs.declared.Cursor.{Cursor}
+use Rattle.write.specs.Ends as all
 use Rattle.write.specs.Lists.{sets-append, sets-over}
-use Rattle.write.specs.Line.{Stands, LineReady, LineWritten, rubiesUpto}
+use Rattle.write.specs.Walks.{Stands, walkStart, stands-first}
+use Rattle.write.specs.Line.{LineReady, LineWritten, rubiesUpto}
 
 -- The job passes the door, `table` has at its front the ends of its n lines, no line is refused, and no result list is too short (12).
 pub record LinesReady (job : Job) (n : ℕ) (table base ruby lines : List ℕ) : Type 0 where
@@ -29,9 +29,6 @@ pub record LinesReady (job : Job) (n : ℕ) (table base ruby lines : List ℕ) :
   pub bases : baseCount job ≤ length base
   pub rubies : rubyCount job ≤ length ruby
   pub rows : baseCount job ≤ length lines
-
-abbrev pub walkStart : Cursor
-walkStart = record { k = 0; b = 0; r = 0; u = 0 }
 
 -- Before line l, which begins at base character s: what is written and what is to do make up the whole.
 pub record Going (job : Job) (wasBase wasRuby wasLines : List ℕ) (at : Cursor) (s l : ℕ) (base ruby lines : List ℕ) : Type 0 where
@@ -49,19 +46,16 @@ module _ {job : Job} {n : ℕ} {table wasBase wasRuby wasLines : List ℕ} (read
   abbrev es : List ℕ
   es = ends job
 
+  full : Full job table n
+  full = record { lines = ready .found; many = ready .many; none = ready .none }
+
   fill : Filled job es
-  fill = filled job (ready .passed) (ready .none)
+  fill = all.all-lines (ready .passed) full
 
   pub going-first : Going job wasBase wasRuby wasLines walkStart 0 0 wasBase wasRuby wasLines
   going-first =
       record {
-        stands =
-            record {
-              walk = at-first job;
-              from = zero-le;
-              ahead = λ h. omega (arith, at-element job (ready .passed) 0 0 0 0 h (at-first job) .good .counts .some);
-              whole = λ _. zero-le;
-            };
+        stands = stands-first job (ready .passed);
         upto = zero-le;
         rest = fill;
         bases = refl;
@@ -72,12 +66,11 @@ module _ {job : Job} {n : ℕ} {table wasBase wasRuby wasLines : List ℕ} (read
         longLines = refl;
       }
 
-  -- the list of ends is read within it, and has what the filling found
   pub table-long : n ≤ length table
-  table-long = omega (arith, ready .many, ap length (ready .found), length-take n table)
+  table-long = all.table-long (ready .passed) full
 
   pub few : n ≤ 1024
-  few = omega (arith, ready .many, chain-few job 0 (baseCount job) es fill, ready .passed .fewBase)
+  few = all.few (ready .passed) full
 
   module _ {at : Cursor} {s l : ℕ} {base ruby lines : List ℕ} (going : Going job wasBase wasRuby wasLines at s l base ruby lines) where
     module _ (h : l < n) where
@@ -85,25 +78,23 @@ module _ {job : Job} {n : ℕ} {table wasBase wasRuby wasLines : List ℕ} (read
       e = getD table l 0
 
       split : drop l es ≡ e ∷ drop (suc l) es
-      split = drop-cons es l 0 (omega (arith, ready .many)) ∙ ap (λ (x : ℕ). x ∷ drop (suc l) es) (ap (λ (xs : List ℕ). getD xs l 0) (sym (ready .found)) ∙ getD-take n table l 0 h)
+      split = all.split (ready .passed) full h
 
       chain : Chain job s (e ∷ drop (suc l) es) (baseCount job)
-      chain = subst (λ xs. Chain job s xs (baseCount job)) split (going .rest)
+      chain = all.chain (ready .passed) full h (going .rest)
 
       pub line-ready : LineReady job s e at base ruby
       line-ready =
           record {
             passed = ready .passed;
             stands = going .stands;
-            ahead = chain .0 .at .ahead;
-            within = chain .0 .at .within;
-            permits = chain .0 .at .permits;
+            line = chain .0 .at;
             bases = omega (arith, going .longBase, ready .bases);
             rubies = omega (arith, going .longRuby, ready .rubies);
           }
 
       pub row : (l < length table) × (l < length lines)
-      row = (omega (arith, table-long), omega (arith, going .longLines, ready .rows, ready .many, chain-few job 0 (baseCount job) es fill))
+      row = (omega (arith, table-long), omega (arith, going .longLines, ready .rows, ready .many, all.few-lines (ready .passed) full))
 
       pub going-next : {next : Cursor} {base2 ruby2 : List ℕ} → LineWritten job s e (rubiesUpto job at s) next base ruby base2 ruby2 →
           Going job wasBase wasRuby wasLines next e (l + 1) base2 ruby2 (set lines l e)
@@ -136,5 +127,5 @@ module _ {job : Job} {n : ℕ} {table wasBase wasRuby wasLines : List ℕ} (read
         let none : drop l es ≡ [] = drop-of-length-le es past in (
           ap (λ xs. sets base s (byLine (baseIn job) s xs)) (sym none) ∙ going .bases ∙ sets-over wasBase (byLine (baseIn job) 0 es) (omega (arith, base-long job (ready .passed) es fill, ready .bases)),
           ap (λ xs. sets ruby (rubiesUpto job at s) (byLine (rubyIn job) s xs)) (sym none) ∙ going .rubies ∙ sets-over wasRuby (byLine (rubyIn job) 0 es) (omega (arith, ruby-long job (ready .passed) es fill, ready .rubies)),
-          ap (sets lines l) (sym none) ∙ going .rows ∙ sets-over wasLines es (omega (arith, chain-few job 0 (baseCount job) es fill, ready .rows)),
+          ap (sets lines l) (sym none) ∙ going .rows ∙ sets-over wasLines es (omega (arith, all.few-lines (ready .passed) full, ready .rows)),
         )

@@ -109,7 +109,7 @@ fn write_piece(
 }
 
 // Where the walk stands once element x, the k-th, is passed.
-fn after_element(k: usize, x: door::Piece) -> Cursor
+pub fn after_element(k: usize, x: door::Piece) -> Cursor
     requires { ⌜ (k < 1024) × (x .base + x .bases < 4096) × (x .ruby + x .rubies < 4096) × (x .run + x .bases < 8192) ⌝ }
     ensures { λ a. ⌜ a ≡ (record { k = k + 1; b = x .base + x .bases; r = x .ruby + x .rubies; u = x .run + takesRuns (x .form) (x .bases) }) ⌝ }
 {

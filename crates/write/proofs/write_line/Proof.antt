@@ -5,6 +5,7 @@ use Rattle.door.specs.Job.{Job, jobOf, element}
 use Rattle.fill.specs.Search.{same-element}
 use Rattle.write.specs.Line.{Along, rubiesUpto}
 use Rattle.write.specs.Line as line
+use Rattle.write.specs.Walks as walks
 use borrow.Author.Needs.{needs}
 use native.Mathlib.Omega.{arith}
 use Rattle.write.proofs.write_line.Statement.{statement}
@@ -31,10 +32,10 @@ loop-holds : tie.Need-loop-holds Inv-loop μ-loop
 loop-holds c = line.along-first (c .before .before .before .before .before .before .before .before .before .before .before .before .before .pre)
 
 element-at-requires : tie.Need-element-at-requires Inv-loop μ-loop
-element-at-requires c κs = line.counts (c .before .before .before .before .before .before .before .before .before .before .before .before .before .before .before .before .pre) (c .before .before .loop .inv) (c .if1 .taken)
+element-at-requires c κs = walks.counts (c .before .before .loop .inv .amid) (c .if1 .taken)
 
 add-end : tie.Need-add-end Inv-loop μ-loop
-add-end c = omega (arith, ap (λ x. x .bases) (the (c .before .before)), line.end-small (c .before .before .before .before .before .before .before .before .before .before .before .before .before .before .before .before .before .before .before .pre) (c .before .before .before .before .before .loop .inv) (c .before .before .before .if1 .taken))
+add-end c = omega (arith, ap (λ x. x .bases) (the (c .before .before)), walks.end-small (c .before .before .before .before .before .loop .inv .amid) (c .before .before .before .if1 .taken))
 
 fewer-requires : tie.Need-fewer-requires Inv-loop μ-loop
 fewer-requires c κs = search needs
@@ -52,10 +53,10 @@ returns : tie.Need-returns Inv-loop μ-loop
 returns c = rw (c .before .before .before .before .before .write-piece .ensures .1, c .before .before .before .before .before .write-piece .ensures .2, c .before .before .before .before .before .before .before .before .fewer .ensures, the (c .before .before .before .before .before .before .before .before .before .before .before)) (line.cut (c .before .before .before .before .before .before .before .before .before .before .before .before .before .before .before .before .before .before .before .before .before .before .before .before .before .before .before .before .pre) (c .before .before .before .before .before .before .before .before .before .before .before .before .before .before .loop .inv) (c .before .before .before .before .before .before .before .before .before .before .before .before .if1 .taken) (rw (the (c .before .before .before .before .before .before .before .before .before .before .before)) at (c .if2 .taken)))
 
 after-element-requires : tie.Need-after-element-requires Inv-loop μ-loop
-after-element-requires c κs = rw (the (c .before .before .before .before .before .before .before .before .before .before .before)) (line.smalls (c .before .before .before .before .before .before .before .before .before .before .before .before .before .before .before .before .before .before .before .before .before .before .before .before .before .before .before .before .pre) (c .before .before .before .before .before .before .before .before .before .before .before .before .before .before .loop .inv) (c .before .before .before .before .before .before .before .before .before .before .before .before .if1 .taken))
+after-element-requires c κs = rw (the (c .before .before .before .before .before .before .before .before .before .before .before)) (walks.smalls (c .before .before .before .before .before .before .before .before .before .before .before .before .before .before .loop .inv .amid) (c .before .before .before .before .before .before .before .before .before .before .before .before .if1 .taken))
 
 loop-less : tie.Need-loop-less Inv-loop μ-loop
-loop-less c = rw (c .after-element .ensures, the (c .before .before .before .before .before .before .before .before .before .before .before .before)) (line.falls (c .before .before .before .before .before .before .before .before .before .before .before .before .before .before .before .before .before .before .before .before .before .before .before .before .before .before .before .before .before .pre) (c .before .before .before .before .before .before .before .before .before .before .before .before .before .before .before .loop .inv) (c .before .before .before .before .before .before .before .before .before .before .before .before .before .if1 .taken) (rw (the (c .before .before .before .before .before .before .before .before .before .before .before .before)) at (c .before .if2 .left)))
+loop-less c = rw (c .after-element .ensures, the (c .before .before .before .before .before .before .before .before .before .before .before .before)) (walks.falls (c .before .before .before .before .before .before .before .before .before .before .before .before .before .before .before .loop .inv .amid) (c .before .before .before .before .before .before .before .before .before .before .before .before .before .if1 .taken))
 
 loop-again : tie.Need-loop-again Inv-loop μ-loop
 loop-again c = rw (c .after-element .ensures, c .before .before .before .before .before .before .write-piece .ensures .0, c .before .before .before .before .before .before .write-piece .ensures .1, c .before .before .before .before .before .before .write-piece .ensures .2, c .before .before .before .before .before .before .before .before .before .fewer .ensures, the (c .before .before .before .before .before .before .before .before .before .before .before .before)) (line.along-next (c .before .before .before .before .before .before .before .before .before .before .before .before .before .before .before .before .before .before .before .before .before .before .before .before .before .before .before .before .before .pre) (c .before .before .before .before .before .before .before .before .before .before .before .before .before .before .before .loop .inv) (c .before .before .before .before .before .before .before .before .before .before .before .before .before .if1 .taken) (rw (the (c .before .before .before .before .before .before .before .before .before .before .before .before)) at (c .before .if2 .left)))

@@ -1,0 +1,10 @@
+pub mod Text
+pub mod Example
+pub mod Left
+pub mod Rows
+pub mod Extent
+pub mod Line
+pub mod Result
+pub mod Short
+pub mod Accepted
+pub mod Determined
