@@ -1,0 +1,4 @@
+pub mod Answer
+pub mod Over
+pub mod Tell
+pub mod Whole

@@ -1,0 +1,74 @@
+-- The text that was written is the job's: the refusal that it was given, or its result.
+use mathlib.Core.List.{List}
+use mathlib.Core.Option.{Option, none, some}
+use mathlib.Core.Path.{_≡_, refl, sym, ap, ap₂, subst, _∙_}
+use Prim.Native.Nat.{ℕ, _≤_}
+use native.Mathlib.Omega.{arith}
+use lib.ListN.{length}
+use Rattle.text.specs.Print.{Wrote}
+use Rattle.refusal.specs.declared.Refusal.{Refusal}
+use Rattle.door.specs.Job.{Job}
+use Rattle.door.specs.Passed.{Passed, passed}
+use Rattle.job.specs.declared.Answer.the-variants.{Set, Refused}
+use Rattle.job.specs.Line.{ends, baseIn, rubyIn, byLine}
+use Rattle.job.specs.Refusals.{fault}
+use Rattle.job.specs.Outcome.{Outcome, after, outcome}
+use Rattle.job.specs.Demands.{filled-exactly, base-told, ruby-told}
+use Rattle.result.specs.Text.{resultText, refusalText}
+use Rattle.setter.specs.Answer.{setText, textBy, jobText, Told}
+use Rattle.setter.specs.Over.{result-over}
+
+module _ (job : Job) (base ruby lines : List ℕ) where
+  abbrev given : Option Refusal
+  given = fault job (length base) (length ruby) (length lines)
+
+  abbrev text : List ℕ
+  text = jobText job (length base) (length ruby) (length lines)
+
+  refused-given : {r : Refusal} → outcome job base ruby lines .answer ≡ Refused r → given ≡ some r
+  unfolding outcome after
+  refused-given {r} = go given
+    where
+      go : (f : Option Refusal) → after job base ruby lines f .answer ≡ Refused r → f ≡ some r
+      go none e = absurd (let z : _≡_ {A = ℕ} 0 1 = cc in omega arith)
+      go (some q) e = let h : q ≡ r = cc in ap {B = Option Refusal} some h
+
+  set-given : {n : ℕ} → outcome job base ruby lines .answer ≡ Set n → given ≡ none
+  unfolding outcome after
+  set-given {n} = go given
+    where
+      go : (f : Option Refusal) → after job base ruby lines f .answer ≡ Set n → f ≡ none
+      go none e = refl
+      go (some q) e = absurd (let z : _≡_ {A = ℕ} 0 1 = cc in omega arith)
+
+  refused-text : {r : Refusal} → outcome job base ruby lines .answer ≡ Refused r → text ≡ refusalText r
+  unfolding jobText textBy
+  refused-text e = rw (refused-given e)
+
+  set-text : {n : ℕ} → outcome job base ruby lines .answer ≡ Set n → text ≡ resultText job (outcome job base ruby lines .base) (outcome job base ruby lines .ruby)
+  unfolding jobText textBy setText
+  set-text e =
+      let ok = set-given e in
+      let b = base-told job base ruby lines ok in
+      let r = ruby-told job base ruby lines ok in
+      let door : Passed job = passed job (length base) (length ruby) (length lines) (filled-exactly job base ruby lines .0 ok .0) in
+      ap (textBy job) ok
+      ∙ sym (result-over job (byLine (baseIn job) 0 (ends job)) (byLine (rubyIn job) 0 (ends job)) base ruby (omega (arith, b .1)) (omega (arith, r .1)) door)
+      ∙ ap₂ (resultText job) (sym (b .0)) (sym (r .0))
+
+-- what the entry point left, and a text after it
+module _ {job : Job} {base ruby lines out : List ℕ} {o : Outcome} (e : o ≡ outcome job base ruby lines) {r : ℕ} {now : List ℕ} where
+  tells : {xs : List ℕ} → jobText job (length base) (length ruby) (length lines) ≡ xs → Wrote out 0 xs r now → Told job base ruby lines out r (o .base) (o .ruby) (o .lines) now
+  tells same wrote =
+      record {
+        bases = ap (λ (x : Outcome). x .base) e;
+        rubies = ap (λ (x : Outcome). x .ruby) e;
+        ends = ap (λ (x : Outcome). x .lines) e;
+        text = subst (λ xs. Wrote out 0 xs r now) (sym same) wrote;
+      }
+
+  pub told-refused : {why : Refusal} → o .answer ≡ Refused why → Wrote out 0 (refusalText why) r now → Told job base ruby lines out r (o .base) (o .ruby) (o .lines) now
+  told-refused is wrote = tells (refused-text job base ruby lines (ap (λ (x : Outcome). x .answer) (sym e) ∙ is)) wrote
+
+  pub told-set : {n : ℕ} → o .answer ≡ Set n → Wrote out 0 (resultText job (o .base) (o .ruby)) r now → Told job base ruby lines out r (o .base) (o .ruby) (o .lines) now
+  told-set is wrote = tells (set-text job base ruby lines (ap (λ (x : Outcome). x .answer) (sym e) ∙ is) ∙ ap (λ (x : Outcome). resultText job (x .base) (x .ruby)) (sym e)) wrote
