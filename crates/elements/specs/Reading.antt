@@ -17,7 +17,7 @@ use Rattle.text.specs.declared.Place.the-variants.{At, Off}
 use Rattle.text.specs.Text.{number, word}
 use Rattle.rows.specs.declared.Part.{Part}
 use Rattle.rows.specs.declared.Part.the-variants.{Read as PartRead}
-use Rattle.rows.specs.Section.{onNumber, onPlace, onPart, Fields, fields}
+use Rattle.rows.specs.Section.{wordAt, numberAt, onNumber, onPlace, onPart, Fields, fields}
 use Rattle.rows.specs.Table.{strided, laid, length-strided}
 use Rattle.rows.specs.Whole.{fields-count}
 use Rattle.elements.specs.declared.Element.{Element}
@@ -75,9 +75,11 @@ either-bare Broken b h k = k
 short-bare : (s : List ℕ) (at : ℕ) → Bare (short s at)
 unfolding short plain mono group
 short-bare s at =
-    either-bare (plain s at) (either (mono s at) (group s at)) (place-bare _ _ (λ q. holds-bare 80 0 0 q))
-    (either-bare (mono s at) (group s at) (place-bare _ _ (λ p. number-bare _ _ (λ r q. holds-bare 77 0 r q)))
-    (place-bare _ _ (λ p. number-bare _ _ (λ b q. number-bare _ _ (λ r n. holds-bare 71 b r n)))))
+    either-bare (plain s at) (either (mono s at) (group s at))
+    (place-bare (wordAt (80 ∷ 10 ∷ []) s at) _ (λ q. holds-bare 80 0 0 q))
+    (either-bare (mono s at) (group s at)
+    (place-bare (wordAt (77 ∷ 32 ∷ []) s at) _ (λ p. number-bare (numberAt s 10 p) _ (λ r q. holds-bare 77 0 r q)))
+    (place-bare (wordAt (71 ∷ 32 ∷ []) s at) _ (λ p. number-bare (numberAt s 32 p) _ (λ b q. number-bare (numberAt s 10 q) _ (λ r n. holds-bare 71 b r n)))))
 
 -- and a J holds those that it counts
 place-sound : (p : Place) (f : ℕ → Got) → ((q : ℕ) → Sound (f q)) → Sound (onPlace p nothing f)
@@ -109,7 +111,7 @@ counted-sound s b q false false e = runs-sound b (fields b s q) (ltb-false 32 b 
 
 jukugo-sound : (s : List ℕ) (at : ℕ) → Sound (jukugo s at)
 unfolding jukugo
-jukugo-sound s at = place-sound _ _ (λ p. number-sound _ _ (λ b q. counted-sound s b q (ltb b 1) (ltb 32 b) refl))
+jukugo-sound s at = place-sound (wordAt (74 ∷ 32 ∷ []) s at) _ (λ p. number-sound (numberAt s 32 p) _ (λ b q. counted-sound s b q (ltb b 1) (ltb 32 b) refl))
 
 or-sound : (l : Line) (j : Got) → Bare l → Sound j → Sound (orJukugo l j)
 unfolding orJukugo Bare Sound

@@ -10,6 +10,7 @@ use Rattle.refusal.specs.declared.Refusal.the-variants.{Form}
 use Rattle.rows.specs.declared.Part.{Part}
 use Rattle.rows.specs.declared.Part.the-variants.{Read as PartRead, Refused as PartRefused}
 use Rattle.rows.specs.Section.{onPart, countOf}
+use Rattle.rows.specs.Whole.{Came}
 use Rattle.elements.specs.declared.Element.{Element}
 use Rattle.elements.specs.declared.Line.{Line}
 use Rattle.elements.specs.declared.Line.the-variants.{Holds, Broken}
@@ -65,3 +66,8 @@ elements-whole s (PartRead m at line) n u next l e =
     let w = lines-whole m m s at line 0 n u next l e in
     (w .0, rw (w .0) (w .1))
 elements-whole s (PartRefused r) n u next l e = absurd (let z : _≡_ {A = ℕ} 0 1 = cc in omega arith)
+
+pub elements-came : (s : List ℕ) (head : Part) (n u next l : ℕ) → elements s head .end ≡ Read n u next l → Came head
+unfolding elements onPart
+elements-came s (PartRead m at line) n u next l e = record { count = m; at = at; line = line; is = refl }
+elements-came s (PartRefused r) n u next l e = absurd (let z : _≡_ {A = ℕ} 0 1 = cc in omega arith)

@@ -97,3 +97,20 @@ module _ (w : List ℕ) (k most which : ℕ) (s : List ℕ) (last : Part) where
 
   pub section-lines : lineOf (section w k most which s last .end) ≤ lineOf last + 1 + most
   section-lines = omega (arith, rows-counted k s (headOf w most which s last), head-small w s most which last .0, head-small w s most which last .1)
+
+-- What was read was reached: the part before it was read too.
+pub record Came (p : Part) : Type 0 where
+  pub count : ℕ
+  pub at : ℕ
+  pub line : ℕ
+  pub is : p ≡ Read count at line
+
+pub head-came : (w : List ℕ) (most which : ℕ) (s : List ℕ) (last : Part) → Came (headOf w most which s last) → Came last
+unfolding headOf onPart
+head-came w most which s (Read n at line) c = record { count = n; at = at; line = line; is = refl }
+head-came w most which s (Refused r) c = absurd (let e = c .is in let z : _≡_ {A = ℕ} 0 1 = cc in omega arith)
+
+pub rows-came : (k : ℕ) (s : List ℕ) (head : Part) → Came (rowsOf k s head .end) → Came head
+unfolding rowsOf onPart
+rows-came k s (Read n at line) c = record { count = n; at = at; line = line; is = refl }
+rows-came k s (Refused r) c = absurd (let e = c .is in let z : _≡_ {A = ℕ} 0 1 = cc in omega arith)

@@ -1,3 +1,6 @@
 pub mod Sheet
 pub mod Small
 pub mod Chain
+pub mod Sound
+pub mod Determined
+pub mod Cases

@@ -33,22 +33,27 @@ elemWord = 101 ∷ 108 ∷ 101 ∷ 109 ∷ 32 ∷ []
 
 -- "0 if over 65,535 bytes", "over-length comes before both"; `set 2` is a fixed text, and two lines follow it
 unfoldable pub opening : List ℕ → Part
+unfolding onPlace word
 opening s = cond (ltb 65535 (length s)) (Refused (Form 0)) (onPlace (word setWord s 0) (Refused (Form 1)) (λ p. Read 2 p 2))
 
 -- "`set 2` with em and measure, one a line"
 unfoldable pub setOf : List ℕ → Table
+unfolding rowsOf opening
 setOf s = rowsOf 1 s (opening s)
 
 -- "`base` (class, width, blank before, blank after, flag)", at most 1,024
 unfoldable pub baseOf : List ℕ → Table
+unfolding rowsOf headOf setOf
 baseOf s = section baseWord 5 1024 0 s (setOf s .end)
 
 -- "`ruby` (class, width)", at most 2,048
 unfoldable pub rubyOf : List ℕ → Table
+unfolding rowsOf headOf baseOf
 rubyOf s = section rubyWord 2 2048 1 s (baseOf s .end)
 
 -- "`elem`", at most 1,024
 unfoldable pub elemOf : List ℕ → Listed
+unfolding elements headOf rubyOf
 elemOf s = elements s (headOf elemWord 1024 2 s (rubyOf s .end))
 
 -- "each line ended by LF, nothing after", else the number of the next line
@@ -66,6 +71,7 @@ pub record Sheet : Type 0 where
   pub end : Reading
 
 unfoldable pub reading : List ℕ → Sheet
+unfolding setOf baseOf rubyOf elemOf endOf
 reading s =
     record {
       set = setOf s .rows;
