@@ -3,7 +3,6 @@ use mathlib.Core.Bool.{cond}
 use mathlib.Core.List.{List, [], _∷_}
 use Prim.Native.Nat.{ℕ}
 use lib.Dec.{ltb}
-use Rattle.text.specs.declared.Place.{Place}
 use Rattle.text.specs.Text.{number, word}
 use Rattle.rows.specs.Section.{wordAt, numberAt, onNumber, onPlace, Fields, fields}
 use Rattle.elements.specs.declared.Element.{Element}

@@ -59,12 +59,12 @@ fields (suc k) s at =
     (λ v next. record { values = v ∷ fields k s next .values; end = fields k s next .end })
 
 -- The lines that were read, of a line with a fault what was read of it, and how the reading ended.
-pub record Table : Type 0 where
+pub record Rows : Type 0 where
   pub rows : List (List ℕ)
   pub end : Part
 
 -- the lines of a section of n of which some are left, k numbers each: "the first fault met, 13 ..", with the number of its line
-unfoldable pub lines : ℕ → ℕ → ℕ → List ℕ → ℕ → ℕ → Table
+unfoldable pub lines : ℕ → ℕ → ℕ → List ℕ → ℕ → ℕ → Rows
 unfolding onPlace fields
 lines k n zero s at line = record { rows = []; end = Read n at line }
 lines k n (suc left) s at line =
@@ -85,10 +85,10 @@ headOf w most which s last =
     cond (ltb most n) (Refused (Count which)) (Read n next (line + 1)))))
 
 -- the lines under a section's first line
-unfoldable pub rowsOf : ℕ → List ℕ → Part → Table
+unfoldable pub rowsOf : ℕ → List ℕ → Part → Rows
 unfolding onPart lines
 rowsOf k s head = onPart head (λ r. record { rows = []; end = Refused r }) (λ n at line. lines k n n s at line)
 
 -- a section: its first line and as many lines of k numbers as that says
-abbrev pub section : List ℕ → ℕ → ℕ → ℕ → List ℕ → Part → Table
+abbrev pub section : List ℕ → ℕ → ℕ → ℕ → List ℕ → Part → Rows
 section w k most which s last = rowsOf k s (headOf w most which s last)

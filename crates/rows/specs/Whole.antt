@@ -1,8 +1,7 @@
 -- A section that was read to its end: as many lines as its count, k numbers in each, and not more lines than the most.
-use mathlib.Core.Bool.{Bool, true, false, cond}
 use mathlib.Core.List.{List, [], _∷_}
-use mathlib.Core.Path.{_≡_, refl, _∙_, ap, sym}
-use Prim.Native.Nat.{ℕ, zero, suc, _+_, _≤_, _<_}
+use mathlib.Core.Path.{_≡_, refl, ap}
+use Prim.Native.Nat.{ℕ, zero, suc, _+_, _≤_}
 use native.Mathlib.Omega.{arith}
 use lib.ListN.{length, drop}
 use Rattle.basics.specs.Lists.{All}
@@ -15,10 +14,10 @@ use Rattle.text.specs.declared.Place.the-variants.{At, Off}
 use Rattle.text.specs.Text.{number, stopOf}
 use Rattle.rows.specs.declared.Part.{Part}
 use Rattle.rows.specs.declared.Part.the-variants.{Read, Refused}
-use Rattle.rows.specs.Section.{onNumber, onPlace, onPart, Fields, fields, Table, lines, headOf, rowsOf, section, countOf, lineOf}
-use Rattle.rows.specs.Reading.{head-small, rows-of}
+use Rattle.rows.specs.Section.{onNumber, onPlace, onPart, Fields, fields, Rows, lines, headOf, rowsOf, section, countOf, lineOf}
+use Rattle.rows.specs.Reading.{head-small}
 
-pub record Whole (k n : ℕ) (t : Table) : Type 0 where
+pub record Whole (k n : ℕ) (t : Rows) : Type 0 where
   pub count : length (t .rows) ≡ n
   pub wide : All (λ (r : List ℕ). length r ≡ k) (t .rows)
 
@@ -36,7 +35,7 @@ fields-count zero s at next e = refl
 fields-count (suc k) s at next e = one-more k next (number (drop at s) (stopOf k) at) (λ p. fields k s p) (λ p. fields-count k s p next) e
 
 -- lines that were read to their end
-line-more : (k n left m next l : ℕ) (r : List ℕ) (x : Place) (f : ℕ → Table) (broken : Table) (q : Refusal) → broken .end ≡ Refused q → ((p : ℕ) → x ≡ At p → length r ≡ k) →
+line-more : (k n left m next l : ℕ) (r : List ℕ) (x : Place) (f : ℕ → Rows) (broken : Rows) (q : Refusal) → broken .end ≡ Refused q → ((p : ℕ) → x ≡ At p → length r ≡ k) →
     ((p : ℕ) → f p .end ≡ Read m next l → (m ≡ n) × Whole k left (f p)) →
     let g = onPlace x broken (λ p. record { rows = r ∷ f p .rows; end = f p .end }) in
     g .end ≡ Read m next l → (m ≡ n) × Whole k (suc left) g
@@ -59,7 +58,7 @@ lines-whole k n (suc left) s at line m next l e =
     e
 
 -- and a line for each
-line-counted : (line left : ℕ) (r : List ℕ) (x : Place) (f : ℕ → Table) (broken : Table) (q : Refusal) → broken .end ≡ Refused q →
+line-counted : (line left : ℕ) (r : List ℕ) (x : Place) (f : ℕ → Rows) (broken : Rows) (q : Refusal) → broken .end ≡ Refused q →
     ((p : ℕ) → lineOf (f p .end) ≤ line + 1 + left) → lineOf (onPlace x broken (λ p. record { rows = r ∷ f p .rows; end = f p .end }) .end) ≤ line + suc left
 unfolding onPlace
 line-counted line left r (At p) f broken q b h = omega (arith, h p)

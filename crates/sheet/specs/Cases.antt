@@ -4,11 +4,10 @@ use mathlib.Core.Path.{_≡_, refl}
 use Prim.Native.Nat.{ℕ, _<_}
 use borrow.Author.Tests.{lt-ltb}
 use lib.ListN.{length, replicate}
-use Rattle.refusal.specs.declared.Refusal.{Refusal}
 use Rattle.refusal.specs.declared.Refusal.the-variants.{Count, Form}
 use Rattle.sheet.specs.declared.Reading.{Reading}
 use Rattle.sheet.specs.declared.Reading.the-variants.{Sound, Refused}
-use Rattle.sheet.specs.Sheet.{Sheet, reading}
+use Rattle.sheet.specs.Sheet.{reading}
 
 -- `set 2/10/35/`
 abbrev set : List ℕ

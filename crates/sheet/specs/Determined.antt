@@ -13,9 +13,9 @@ module _ {s was wasBase wasRuby wasElem wasRuns : List ℕ} {r r' : Reading} {se
   pub one-reading : (r ≡ r') × (set ≡ set') × (base ≡ base') × (ruby ≡ ruby') × (elem ≡ elem') × (runs ≡ runs')
   one-reading = (
     determined (reading s .end) r r' (p .answer) (q .answer),
-    determined (laid was 0 2 (reading s .set)) set set' (p .sets-em) (q .sets-em),
-    determined (laid wasBase 0 1024 (reading s .base)) base base' (p .sets-base) (q .sets-base),
-    determined (laid wasRuby 0 2048 (reading s .ruby)) ruby ruby' (p .sets-ruby) (q .sets-ruby),
-    determined (laid wasElem 0 1024 (reading s .elem)) elem elem' (p .sets-elem) (q .sets-elem),
-    determined (sets wasRuns 0 (reading s .runs)) runs runs' (p .sets-runs) (q .sets-runs),
+    determined (laid was 0 2 (reading s .set)) set set' (p .setHolds) (q .setHolds),
+    determined (laid wasBase 0 1024 (reading s .base)) base base' (p .baseHolds) (q .baseHolds),
+    determined (laid wasRuby 0 2048 (reading s .ruby)) ruby ruby' (p .rubyHolds) (q .rubyHolds),
+    determined (laid wasElem 0 1024 (reading s .elem)) elem elem' (p .elemHolds) (q .elemHolds),
+    determined (sets wasRuns 0 (reading s .runs)) runs runs' (p .runsHold) (q .runsHold),
   )

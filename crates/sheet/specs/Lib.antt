@@ -4,3 +4,4 @@ pub mod Chain
 pub mod Sound
 pub mod Determined
 pub mod Cases
+pub mod Faults

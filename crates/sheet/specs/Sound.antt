@@ -1,8 +1,8 @@
 -- A sound sheet, for those who set its job: its counts are those of the lines read and within their maxima, and each part of a table that is lent holds one field of all lines.
 use mathlib.Core.Bool.{Bool, true, false, cond}
-use mathlib.Core.List.{List, map}
+use mathlib.Core.List.{List}
 use mathlib.Core.Path.{_≡_, refl, _∙_, ap, sym}
-use Prim.Native.Nat.{ℕ, _+_, _-_, _*_, _≤_, _<_}
+use Prim.Native.Nat.{ℕ, _+_, _*_, _≤_, _<_}
 use native.Mathlib.Omega.{arith}
 use lib.Dec.{eqb, ltb}
 use lib.ListN.{length, getD, take, drop}
@@ -14,7 +14,7 @@ use Rattle.text.specs.declared.Place.the-variants.{At, Off}
 use Rattle.text.specs.Text.{word}
 use Rattle.rows.specs.declared.Part.{Part}
 use Rattle.rows.specs.declared.Part.the-variants.{Read, Refused}
-use Rattle.rows.specs.Section.{onPlace, Table, section, headOf, countOf}
+use Rattle.rows.specs.Section.{onPlace, section, headOf, countOf}
 use Rattle.rows.specs.Table.{laid, column, length-laid}
 use Rattle.rows.specs.Columns.{column-part}
 use Rattle.rows.specs.Reading.{head-small}
@@ -22,12 +22,11 @@ use Rattle.rows.specs.Whole as rows
 use Rattle.rows.specs.Whole.{Came}
 use Rattle.elements.specs.declared.Elements.{Elements}
 use Rattle.elements.specs.declared.Elements.the-variants.{Read as ElementsRead, Refused as ElementsRefused}
-use Rattle.elements.specs.Elements.{Listed}
 use Rattle.elements.specs.Whole as elements
 use Rattle.sheet.specs.declared.Counts.{Counts}
 use Rattle.sheet.specs.declared.Reading.{Reading}
 use Rattle.sheet.specs.declared.Reading.the-variants.{Sound}
-use Rattle.sheet.specs.Sheet.{setWord, baseWord, rubyWord, elemWord, opening, setOf, baseOf, rubyOf, elemOf, endOf, Sheet, reading}
+use Rattle.sheet.specs.Sheet.{setWord, baseWord, rubyWord, elemWord, opening, setOf, baseOf, rubyOf, elemOf, endOf, Sheet, reading, emOf, measureOf}
 
 -- n lines of k numbers, at most so many
 pub record Lines (k most n : ℕ) (rows : List (List ℕ)) : Type 0 where
@@ -159,8 +158,14 @@ module _ (s : List ℕ) (c : Counts) (is : reading s .end ≡ Sound c) where
       ap (take m) (sets-eq (reading s .runs) t 0 h) ∙ take-at (reading s .runs) _ m (sound .runs ∙ sym f)
 
   -- em and measure, one after the other
-  pub set-part : (t : List ℕ) → length t ≡ 2 → laid t 0 2 (reading s .set) ≡ column 0 (reading s .set)
+  set-part : (t : List ℕ) → length t ≡ 2 → laid t 0 2 (reading s .set) ≡ column 0 (reading s .set)
   set-part t l =
       let w = sound .set in
       sym (take-all 2 (laid t 0 2 (reading s .set)) (omega (arith, length-laid t 0 2 (reading s .set))))
       ∙ column-part 1 2 0 2 (reading s .set) t (omega arith) (w .count) (w .few) (w .wide) (omega arith) 0 2 (omega arith) refl
+
+  pub em-part : (t : List ℕ) → length t ≡ 2 → getD (laid t 0 2 (reading s .set)) 0 0 ≡ emOf (reading s)
+  em-part t l = ap (λ (u : List ℕ). getD u 0 0) (set-part t l)
+
+  pub measure-part : (t : List ℕ) → length t ≡ 2 → getD (laid t 0 2 (reading s .set)) 1 0 ≡ measureOf (reading s)
+  measure-part t l = ap (λ (u : List ℕ). getD u 1 0) (set-part t l)
