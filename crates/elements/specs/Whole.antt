@@ -17,7 +17,7 @@ use Rattle.elements.specs.declared.Line.the-variants.{Holds, Broken}
 use Rattle.elements.specs.declared.Elements.the-variants.{Read, Refused}
 use Rattle.elements.specs.Element.{element, rowOf}
 use Rattle.elements.specs.Elements.{Listed, onLine, lines, elements}
-use Rattle.elements.specs.Reading.{Runs, element-runs}
+use Rattle.elements.specs.Runs.{Runs, element-runs}
 
 -- after `used` runs: n elements, and up to `upto` runs
 pub record Whole (n used upto : ℕ) (t : Listed) : Type 0 where

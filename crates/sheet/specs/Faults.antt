@@ -14,7 +14,7 @@ use Rattle.text.specs.declared.Place.{Place}
 use Rattle.text.specs.declared.Place.the-variants.{At, Off}
 use Rattle.rows.specs.declared.Part.{Part}
 use Rattle.rows.specs.declared.Part.the-variants.{Read, Refused}
-use Rattle.rows.specs.Section.{wordAt, numberAt, onNumber, onPlace, onPart, Rows, fields, lines, headOf, rowsOf}
+use Rattle.rows.specs.Section.{wordAt, numberAt, onNumber, onPlace, Rows, fields, lines, headOf, rowsOf}
 use Rattle.elements.specs.declared.Element.{Element}
 use Rattle.elements.specs.declared.Line.{Line}
 use Rattle.elements.specs.declared.Line.the-variants.{Holds, Broken}

@@ -1,12 +1,11 @@
--- A sound sheet, for those who set its job: its counts are those of the lines read and within their maxima, and each part of a table that is lent holds one field of all lines.
+-- A sound sheet: its counts are those of the lines that were read, each within its maximum, and every line has all its numbers.
 use mathlib.Core.Bool.{Bool, true, false, cond}
 use mathlib.Core.List.{List}
-use mathlib.Core.Path.{_≡_, refl, _∙_, ap, sym}
-use Prim.Native.Nat.{ℕ, _+_, _*_, _≤_, _<_}
+use mathlib.Core.Path.{_≡_, _∙_, ap, sym}
+use Prim.Native.Nat.{ℕ, _≤_}
 use native.Mathlib.Omega.{arith}
 use lib.Dec.{eqb, ltb}
-use lib.ListN.{length, getD, take, drop}
-use lib.Seq.{sets, sets-eq, take-at, take-all}
+use lib.ListN.{length}
 use Rattle.basics.specs.Lists.{All}
 use Rattle.refusal.specs.declared.Refusal.the-variants.{Form}
 use Rattle.text.specs.declared.Place.{Place}
@@ -15,8 +14,6 @@ use Rattle.text.specs.Text.{word}
 use Rattle.rows.specs.declared.Part.{Part}
 use Rattle.rows.specs.declared.Part.the-variants.{Read, Refused}
 use Rattle.rows.specs.Section.{onPlace, section, headOf, countOf}
-use Rattle.rows.specs.Table.{laid, column, length-laid}
-use Rattle.rows.specs.Columns.{column-part}
 use Rattle.rows.specs.Reading.{head-small}
 use Rattle.rows.specs.Whole as rows
 use Rattle.rows.specs.Whole.{Came}
@@ -26,7 +23,7 @@ use Rattle.elements.specs.Whole as elements
 use Rattle.sheet.specs.declared.Counts.{Counts}
 use Rattle.sheet.specs.declared.Reading.{Reading}
 use Rattle.sheet.specs.declared.Reading.the-variants.{Sound}
-use Rattle.sheet.specs.Sheet.{setWord, baseWord, rubyWord, elemWord, opening, setOf, baseOf, rubyOf, elemOf, endOf, Sheet, reading, emOf, measureOf}
+use Rattle.sheet.specs.Sheet.{setWord, baseWord, rubyWord, elemWord, opening, setOf, baseOf, rubyOf, elemOf, endOf, Sheet, reading}
 
 -- n lines of k numbers, at most so many
 pub record Lines (k most n : ℕ) (rows : List (List ℕ)) : Type 0 where
@@ -130,42 +127,3 @@ module _ (s : List ℕ) (c : Counts) (is : reading s .end ≡ Sound c) where
         runs = omega (arith, h .1 .held);
         fewRuns = omega (arith, h .1 .few);
       }
-
-  -- Parts of the tables that are lent: from a on, m of them.
-
-  -- field j of all base characters: class, width, blank before, blank after, flag
-  pub base-part : (t : List ℕ) → length t ≡ 5120 → (j a m : ℕ) → j < 5 → a ≡ j * 1024 → m ≡ c .bases → take m (drop a (laid t 0 1024 (reading s .base))) ≡ column j (reading s .base)
-  base-part t l j a m h e f =
-      let w = sound .base in
-      column-part 5 1024 j (c .bases) (reading s .base) t h (w .count) (w .few) (w .wide) (omega arith) a m e f
-
-  -- field j of all ruby characters: class, width
-  pub ruby-part : (t : List ℕ) → length t ≡ 4096 → (j a m : ℕ) → j < 2 → a ≡ j * 2048 → m ≡ c .rubies → take m (drop a (laid t 0 2048 (reading s .ruby))) ≡ column j (reading s .ruby)
-  ruby-part t l j a m h e f =
-      let w = sound .ruby in
-      column-part 2 2048 j (c .rubies) (reading s .ruby) t h (w .count) (w .few) (w .wide) (omega arith) a m e f
-
-  -- field j of all elements: kind, base count, ruby count
-  pub elem-part : (t : List ℕ) → length t ≡ 3072 → (j a m : ℕ) → j < 3 → a ≡ j * 1024 → m ≡ c .elements → take m (drop a (laid t 0 1024 (reading s .elem))) ≡ column j (reading s .elem)
-  elem-part t l j a m h e f =
-      let w = sound .elem in
-      column-part 3 1024 j (c .elements) (reading s .elem) t h (w .count) (w .few) (w .wide) (omega arith) a m e f
-
-  -- the runs
-  pub runs-part : (t : List ℕ) → length t ≡ 32768 → (m : ℕ) → m ≡ c .runs → take m (sets t 0 (reading s .runs)) ≡ reading s .runs
-  runs-part t l m f =
-      let h : 0 + length (reading s .runs) ≤ length t = omega (arith, sound .runs, sound .fewRuns) in
-      ap (take m) (sets-eq (reading s .runs) t 0 h) ∙ take-at (reading s .runs) _ m (sound .runs ∙ sym f)
-
-  -- em and measure, one after the other
-  set-part : (t : List ℕ) → length t ≡ 2 → laid t 0 2 (reading s .set) ≡ column 0 (reading s .set)
-  set-part t l =
-      let w = sound .set in
-      sym (take-all 2 (laid t 0 2 (reading s .set)) (omega (arith, length-laid t 0 2 (reading s .set))))
-      ∙ column-part 1 2 0 2 (reading s .set) t (omega arith) (w .count) (w .few) (w .wide) (omega arith) 0 2 (omega arith) refl
-
-  pub em-part : (t : List ℕ) → length t ≡ 2 → getD (laid t 0 2 (reading s .set)) 0 0 ≡ emOf (reading s)
-  em-part t l = ap (λ (u : List ℕ). getD u 0 0) (set-part t l)
-
-  pub measure-part : (t : List ℕ) → length t ≡ 2 → getD (laid t 0 2 (reading s .set)) 1 0 ≡ measureOf (reading s)
-  measure-part t l = ap (λ (u : List ℕ). getD u 1 0) (set-part t l)
