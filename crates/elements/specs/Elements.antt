@@ -23,6 +23,7 @@ onLine Broken off f = off
 
 -- the lines of a section of n of which some are left, after `used` runs
 unfoldable pub lines : ℕ → ℕ → List ℕ → ℕ → ℕ → ℕ → Listed
+unfolding onLine element
 lines n zero s at line used = record { rows = []; runs = []; end = Read n used at line }
 lines n (suc left) s at line used =
     onLine (element s at .line)
@@ -36,4 +37,5 @@ lines n (suc left) s at line used =
 
 -- the lines under the section's first line; a refusal is handed on
 unfoldable pub elements : List ℕ → Part → Listed
+unfolding onPart lines
 elements s head = onPart head (λ r. record { rows = []; runs = []; end = Refused r }) (λ n at line. lines n n s at line 0)

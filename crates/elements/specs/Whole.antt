@@ -1,6 +1,6 @@
 -- A section `elem` that was read to its end: as many elements as its count, three numbers each, and as many runs as it says, 32 an element at most.
 use mathlib.Core.List.{List, [], _∷_, _++_}
-use mathlib.Core.Path.{_≡_, refl, _∙_, ap, sym}
+use mathlib.Core.Path.{_≡_, refl, ap}
 use Prim.Native.Nat.{ℕ, zero, suc, _+_, _*_, _≤_}
 use native.Mathlib.Omega.{arith}
 use lib.ListN.{length, length-append}
@@ -10,13 +10,14 @@ use Rattle.refusal.specs.declared.Refusal.the-variants.{Form}
 use Rattle.rows.specs.declared.Part.{Part}
 use Rattle.rows.specs.declared.Part.the-variants.{Read as PartRead, Refused as PartRefused}
 use Rattle.rows.specs.Section.{onPart, countOf}
+use Rattle.rows.specs.Whole.{Came}
 use Rattle.elements.specs.declared.Element.{Element}
 use Rattle.elements.specs.declared.Line.{Line}
 use Rattle.elements.specs.declared.Line.the-variants.{Holds, Broken}
 use Rattle.elements.specs.declared.Elements.the-variants.{Read, Refused}
 use Rattle.elements.specs.Element.{element, rowOf}
 use Rattle.elements.specs.Elements.{Listed, onLine, lines, elements}
-use Rattle.elements.specs.Reading.{Runs, element-runs}
+use Rattle.elements.specs.Runs.{Runs, element-runs}
 
 -- after `used` runs: n elements, and up to `upto` runs
 pub record Whole (n used upto : ℕ) (t : Listed) : Type 0 where
@@ -65,3 +66,8 @@ elements-whole s (PartRead m at line) n u next l e =
     let w = lines-whole m m s at line 0 n u next l e in
     (w .0, rw (w .0) (w .1))
 elements-whole s (PartRefused r) n u next l e = absurd (let z : _≡_ {A = ℕ} 0 1 = cc in omega arith)
+
+pub elements-came : (s : List ℕ) (head : Part) (n u next l : ℕ) → elements s head .end ≡ Read n u next l → Came head
+unfolding elements onPart
+elements-came s (PartRead m at line) n u next l e = record { count = m; at = at; line = line; is = refl }
+elements-came s (PartRefused r) n u next l e = absurd (let z : _≡_ {A = ℕ} 0 1 = cc in omega arith)

@@ -2,12 +2,11 @@
 use mathlib.Core.List.{List, [], _∷_}
 use mathlib.Core.Logic.{_≢_}
 use mathlib.Core.Path.{_≡_, refl, _∙_, ap, ap₂, sym}
-use Prim.Native.Nat.{ℕ, zero, suc, _+_, _-_, _*_, _≤_, _<_}
+use Prim.Native.Nat.{ℕ, zero, suc, _+_, _*_, _≤_, _<_}
 use native.Mathlib.Decide.{decLt}
-use native.Mathlib.Nat.{suc-mul, add-assoc, add-comm, add-zero, zero-add, add-sub-cancel-left, mul-le-mul-right, le-of-suc-le-suc, not-suc-le-zero}
-use native.Mathlib.Numerals.{add-one}
+use native.Mathlib.Nat.{suc-mul, zero-add, mul-le-mul-right, le-of-suc-le-suc}
 use native.Mathlib.Omega.{arith}
-use lib.ListN.{length, getD, set, take, drop, length-set}
+use lib.ListN.{length, getD, set, take, drop, length-set, length-map}
 use lib.Seq.{drop-cons, getD-set-same, getD-set-other}
 use Rattle.basics.specs.Lists.{All}
 use Rattle.rows.specs.Table.{strided, laid, column, length-strided, length-laid}
@@ -81,10 +80,13 @@ column-from k step j h (r ∷ rows) t i a l s =
     shift : (i x : ℕ) → suc (i + x) ≡ i + 1 + x
     shift i x = omega arith
 
--- The part of the table from j * step on, as long as there are lines, is number j of each line: `&table[a..a + n]` with a = j * step.
+-- The part of the table from a = j * step on, as long as there are lines, is number j of each line: `&table[a..a + n]`.
 pub column-part : (k step j n : ℕ) (rows : List (List ℕ)) (t : List ℕ) → j < k → length rows ≡ n → n ≤ step → All (λ (r : List ℕ). length r ≡ k) rows → k * step ≤ length t →
-    take (j * step + n - j * step) (drop (j * step) (laid t 0 step rows)) ≡ column j rows
-column-part k step j n rows t h e l a s =
-    ap (λ m. take m (drop (j * step) (laid t 0 step rows))) (add-sub-cancel-left (j * step) n ∙ sym e)
-    ∙ ap (λ q. take (length rows) (drop q (laid t 0 step rows))) (sym (zero-add (j * step)))
-    ∙ column-from k step j h rows t 0 a (omega arith) s
+    (a m : ℕ) → a ≡ j * step → m ≡ n → take m (drop a (laid t 0 step rows)) ≡ column j rows
+column-part k step j n rows t h e l w s a m f g =
+    ap₂ (λ m a. take m (drop a (laid t 0 step rows))) (g ∙ sym e) (f ∙ sym (zero-add (j * step)))
+    ∙ column-from k step j h rows t 0 w (omega arith) s
+
+-- as many as there are lines
+pub column-length : (j : ℕ) (rows : List (List ℕ)) → length (column j rows) ≡ length rows
+column-length j rows = length-map rows (λ (r : List ℕ). getD r j 0)

@@ -1,10 +1,9 @@
 -- How the loops come along: what is left to read, stored after what was read, makes up the whole.
 use mathlib.Core.Bool.{Bool, true, false, cond}
 use mathlib.Core.List.{List, [], _∷_}
-use mathlib.Core.Path.{_≡_, refl, _∙_, ap, sym}
-use Prim.Native.Nat.{ℕ, zero, suc, _+_, _-_, _*_, _^_, _≤_, _<_}
-use native.Mathlib.Nat.{suc-mul, add-zero, sub-zero, sub-self}
-use native.Mathlib.Numerals.{add-one}
+use mathlib.Core.Path.{_≡_, refl, _∙_, ap}
+use Prim.Native.Nat.{ℕ, suc, _+_, _-_, _*_, _^_, _≤_, _<_}
+use native.Mathlib.Nat.{suc-mul, sub-zero}
 use native.Mathlib.Omega.{arith}
 use borrow.Author.Tests.{ltb-false}
 use lib.Dec.{ltb}
@@ -17,7 +16,7 @@ use Rattle.text.specs.declared.Place.the-variants.{At, Off}
 use Rattle.text.specs.Text.{number, word, stopOf}
 use Rattle.rows.specs.declared.Part.{Part}
 use Rattle.rows.specs.declared.Part.the-variants.{Read, Refused}
-use Rattle.rows.specs.Section.{onNumber, onPlace, onPart, fields, Fields, Table, lines, headOf, rowsOf, countOf, lineOf}
+use Rattle.rows.specs.Section.{onNumber, onPlace, onPart, fields, lines, headOf, rowsOf, countOf, lineOf}
 use Rattle.rows.specs.Table.{strided, laid, length-strided, FieldsReady, RowsReady, SectionReady}
 
 -- A line: `left` of its k numbers are still to be read.

@@ -14,6 +14,13 @@ use Rattle.text.specs.Text.{number, word, stopOf}
 use Rattle.rows.specs.declared.Part.{Part}
 use Rattle.rows.specs.declared.Part.the-variants.{Read, Refused}
 
+-- a word and a number at a place of a sheet
+abbrev pub wordAt : List ℕ → List ℕ → ℕ → Place
+wordAt w s at = word w (drop at s) at
+
+abbrev pub numberAt : List ℕ → ℕ → ℕ → Number
+numberAt s stop at = number (drop at s) stop at
+
 -- What follows a number, a word or a part that was read: f of it, or `off`.
 module _ {A : Type 0} where
   unfoldable pub onNumber : Number → A → (ℕ → ℕ → A) → A
@@ -44,19 +51,21 @@ pub record Fields : Type 0 where
 
 -- k numbers: "Single spaces", "each line ended by LF"
 unfoldable pub fields : ℕ → List ℕ → ℕ → Fields
+unfolding onNumber number
 fields zero s at = record { values = []; end = At at }
 fields (suc k) s at =
-    onNumber (number (drop at s) (stopOf k) at)
+    onNumber (numberAt s (stopOf k) at)
     (record { values = []; end = Off })
     (λ v next. record { values = v ∷ fields k s next .values; end = fields k s next .end })
 
 -- The lines that were read, of a line with a fault what was read of it, and how the reading ended.
-pub record Table : Type 0 where
+pub record Rows : Type 0 where
   pub rows : List (List ℕ)
   pub end : Part
 
 -- the lines of a section of n of which some are left, k numbers each: "the first fault met, 13 ..", with the number of its line
-unfoldable pub lines : ℕ → ℕ → ℕ → List ℕ → ℕ → ℕ → Table
+unfoldable pub lines : ℕ → ℕ → ℕ → List ℕ → ℕ → ℕ → Rows
+unfolding onPlace fields
 lines k n zero s at line = record { rows = []; end = Read n at line }
 lines k n (suc left) s at line =
     onPlace (fields k s at .end)
@@ -65,19 +74,21 @@ lines k n (suc left) s at line =
 
 -- "Sections .. each after its count": the word, the count and LF. "Within a line form comes before count": 13 with the line, then 2 with the section's place.
 unfoldable pub headOf : List ℕ → ℕ → ℕ → List ℕ → Part → Part
+unfolding onPart onPlace onNumber word number
 headOf w most which s last =
     onPart last Refused
     (λ _ at line.
-    onPlace (word w (drop at s) at) (Refused (Form line))
+    onPlace (wordAt w s at) (Refused (Form line))
     (λ p.
-    onNumber (number (drop p s) 10 p) (Refused (Form line))
+    onNumber (numberAt s 10 p) (Refused (Form line))
     (λ n next.
     cond (ltb most n) (Refused (Count which)) (Read n next (line + 1)))))
 
 -- the lines under a section's first line
-unfoldable pub rowsOf : ℕ → List ℕ → Part → Table
+unfoldable pub rowsOf : ℕ → List ℕ → Part → Rows
+unfolding onPart lines
 rowsOf k s head = onPart head (λ r. record { rows = []; end = Refused r }) (λ n at line. lines k n n s at line)
 
 -- a section: its first line and as many lines of k numbers as that says
-abbrev pub section : List ℕ → ℕ → ℕ → ℕ → List ℕ → Part → Table
+abbrev pub section : List ℕ → ℕ → ℕ → ℕ → List ℕ → Part → Rows
 section w k most which s last = rowsOf k s (headOf w most which s last)

@@ -1,8 +1,7 @@
 -- A section that was read to its end: as many lines as its count, k numbers in each, and not more lines than the most.
-use mathlib.Core.Bool.{Bool, true, false, cond}
 use mathlib.Core.List.{List, [], _∷_}
-use mathlib.Core.Path.{_≡_, refl, _∙_, ap, sym}
-use Prim.Native.Nat.{ℕ, zero, suc, _+_, _≤_, _<_}
+use mathlib.Core.Path.{_≡_, refl, ap}
+use Prim.Native.Nat.{ℕ, zero, suc, _+_, _≤_}
 use native.Mathlib.Omega.{arith}
 use lib.ListN.{length, drop}
 use Rattle.basics.specs.Lists.{All}
@@ -15,10 +14,10 @@ use Rattle.text.specs.declared.Place.the-variants.{At, Off}
 use Rattle.text.specs.Text.{number, stopOf}
 use Rattle.rows.specs.declared.Part.{Part}
 use Rattle.rows.specs.declared.Part.the-variants.{Read, Refused}
-use Rattle.rows.specs.Section.{onNumber, onPlace, onPart, Fields, fields, Table, lines, headOf, rowsOf, section, countOf, lineOf}
-use Rattle.rows.specs.Reading.{head-small, rows-of}
+use Rattle.rows.specs.Section.{onNumber, onPlace, onPart, Fields, fields, Rows, lines, headOf, rowsOf, section, countOf, lineOf}
+use Rattle.rows.specs.Reading.{head-small}
 
-pub record Whole (k n : ℕ) (t : Table) : Type 0 where
+pub record Whole (k n : ℕ) (t : Rows) : Type 0 where
   pub count : length (t .rows) ≡ n
   pub wide : All (λ (r : List ℕ). length r ≡ k) (t .rows)
 
@@ -36,7 +35,7 @@ fields-count zero s at next e = refl
 fields-count (suc k) s at next e = one-more k next (number (drop at s) (stopOf k) at) (λ p. fields k s p) (λ p. fields-count k s p next) e
 
 -- lines that were read to their end
-line-more : (k n left m next l : ℕ) (r : List ℕ) (x : Place) (f : ℕ → Table) (broken : Table) (q : Refusal) → broken .end ≡ Refused q → ((p : ℕ) → x ≡ At p → length r ≡ k) →
+line-more : (k n left m next l : ℕ) (r : List ℕ) (x : Place) (f : ℕ → Rows) (broken : Rows) (q : Refusal) → broken .end ≡ Refused q → ((p : ℕ) → x ≡ At p → length r ≡ k) →
     ((p : ℕ) → f p .end ≡ Read m next l → (m ≡ n) × Whole k left (f p)) →
     let g = onPlace x broken (λ p. record { rows = r ∷ f p .rows; end = f p .end }) in
     g .end ≡ Read m next l → (m ≡ n) × Whole k (suc left) g
@@ -59,7 +58,7 @@ lines-whole k n (suc left) s at line m next l e =
     e
 
 -- and a line for each
-line-counted : (line left : ℕ) (r : List ℕ) (x : Place) (f : ℕ → Table) (broken : Table) (q : Refusal) → broken .end ≡ Refused q →
+line-counted : (line left : ℕ) (r : List ℕ) (x : Place) (f : ℕ → Rows) (broken : Rows) (q : Refusal) → broken .end ≡ Refused q →
     ((p : ℕ) → lineOf (f p .end) ≤ line + 1 + left) → lineOf (onPlace x broken (λ p. record { rows = r ∷ f p .rows; end = f p .end }) .end) ≤ line + suc left
 unfolding onPlace
 line-counted line left r (At p) f broken q b h = omega (arith, h p)
@@ -97,3 +96,20 @@ module _ (w : List ℕ) (k most which : ℕ) (s : List ℕ) (last : Part) where
 
   pub section-lines : lineOf (section w k most which s last .end) ≤ lineOf last + 1 + most
   section-lines = omega (arith, rows-counted k s (headOf w most which s last), head-small w s most which last .0, head-small w s most which last .1)
+
+-- What was read was reached: the part before it was read too.
+pub record Came (p : Part) : Type 0 where
+  pub count : ℕ
+  pub at : ℕ
+  pub line : ℕ
+  pub is : p ≡ Read count at line
+
+pub head-came : (w : List ℕ) (most which : ℕ) (s : List ℕ) (last : Part) → Came (headOf w most which s last) → Came last
+unfolding headOf onPart
+head-came w most which s (Read n at line) c = record { count = n; at = at; line = line; is = refl }
+head-came w most which s (Refused r) c = absurd (let e = c .is in let z : _≡_ {A = ℕ} 0 1 = cc in omega arith)
+
+pub rows-came : (k : ℕ) (s : List ℕ) (head : Part) → Came (rowsOf k s head .end) → Came head
+unfolding rowsOf onPart
+rows-came k s (Read n at line) c = record { count = n; at = at; line = line; is = refl }
+rows-came k s (Refused r) c = absurd (let e = c .is in let z : _≡_ {A = ℕ} 0 1 = cc in omega arith)

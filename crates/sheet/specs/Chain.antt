@@ -3,7 +3,7 @@ use mathlib.Core.List.{List}
 use mathlib.Core.Path.{_≡_, _∙_, ap}
 use Prim.Native.Nat.{ℕ}
 use Rattle.rows.specs.declared.Part.{Part}
-use Rattle.rows.specs.Section.{Table, rowsOf, section, headOf}
+use Rattle.rows.specs.Section.{rowsOf, section, headOf}
 use Rattle.sheet.specs.Sheet.{baseWord, rubyWord, elemWord, opening, setOf, baseOf, rubyOf}
 
 module _ (s : List ℕ) where

@@ -1,8 +1,8 @@
 -- Counts and line numbers of a sheet are small: what each section asks of its caller.
 use mathlib.Core.Bool.{Bool, true, false, cond}
 use mathlib.Core.List.{List}
-use mathlib.Core.Path.{_≡_, refl, _∙_, ap, sym}
-use Prim.Native.Nat.{ℕ, _+_, _≤_, _<_}
+use mathlib.Core.Path.{_≡_}
+use Prim.Native.Nat.{ℕ, _≤_}
 use native.Mathlib.Omega.{arith}
 use lib.Dec.{ltb}
 use lib.ListN.{length}
@@ -10,7 +10,6 @@ use Rattle.refusal.specs.declared.Refusal.the-variants.{Form}
 use Rattle.text.specs.declared.Place.{Place}
 use Rattle.text.specs.declared.Place.the-variants.{At, Off}
 use Rattle.text.specs.Text.{word}
-use Rattle.rows.specs.declared.Part.{Part}
 use Rattle.rows.specs.declared.Part.the-variants.{Read, Refused}
 use Rattle.rows.specs.Section.{onPlace, countOf, lineOf, headOf}
 use Rattle.rows.specs.Table.{RowsReady, SectionReady}

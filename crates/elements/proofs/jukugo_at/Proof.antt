@@ -1,10 +1,9 @@
--- `elements::jukugo_at` meets its contract. Each return rewrites the definition with what was read on the way there (`e` the word, `d` the count);
+-- `elements::jukugo_at` meets its contract. Each return rewrites the J by what was read of its line (`Runs`);
 -- numbers stored a stride of 1 apart are a list stored.
 use mathlib.Core.Path.{_∙_, sym}
-use borrow.Author.Tests.{lt-ltb, le-ltb}
-use Rattle.rows.specs.Section.{onPlace, onNumber}
+use Rattle.rows.specs.Section.{onPlace}
 use Rattle.rows.specs.Table.{strided-one}
-use Rattle.elements.specs.Element.{jukugo}
+use Rattle.elements.specs.Runs as runs
 use borrow.Author.Needs.{needs}
 use Rattle.elements.proofs.jukugo_at.Statement.{statement}
 use Rattle.elements.proofs.jukugo_at.Tie as tie
@@ -22,10 +21,11 @@ enum-told : tie.Need-enum-told
 enum-told c = search needs
 
 returns : tie.Need-returns
-unfolding jukugo onPlace
 returns c =
-    let e = sym (c .enum-told .given .1) ∙ c .before .before .read-word .ensures in
-    (rw (← e), rw (← e))
+    let w = c .before .before in
+    let a = w .before .before .before .before .args in
+    let j = runs.jukugo-no-word (a .s .now) (a .at) (sym (c .enum-told .given .1) ∙ w .read-word .ensures) in
+    (rw j, rw j)
 
 read-number-requires : tie.Need-read-number-requires
 read-number-requires c κs = search needs
@@ -37,30 +37,34 @@ enum-told-2 : tie.Need-enum-told-2
 enum-told-2 c = search needs
 
 returns-2 : tie.Need-returns-2
-unfolding jukugo onPlace onNumber
 returns-2 c =
     let n = c .before .before in
-    let e = (sym (n .before .before .p .given .1) ∙ n .before .before .before .before .read-word .ensures) in
-    let d = sym (c .enum-told2 .given .1) ∙ n .read-number .ensures in
-    (rw (← e, ← d), rw (← e, ← d))
+    let w = n .before .before .before .before in
+    let a = w .before .before .before .before .args in
+    let j = runs.jukugo-no-count (a .s .now) (a .at) (sym (n .before .before .p .given .1) ∙ w .read-word .ensures) (sym (c .enum-told2 .given .1) ∙ n .read-number .ensures) in
+    (rw j, rw j)
 
 returns-3 : tie.Need-returns-3
-unfolding jukugo onPlace onNumber
 returns-3 c =
     let k = c .before in
     let n = k .before .before .before in
-    let e = ((sym (n .before .before .p .given .1) ∙ n .before .before .before .before .read-word .ensures)) in
-    let d = ((sym (k .before .b .given .1) ∙ n .read-number .ensures)) in
-    (rw (← e, ← d, lt-ltb _ _ (c .if1 .taken)), rw (← e, ← d, lt-ltb _ _ (c .if1 .taken)))
+    let w = n .before .before .before .before in
+    let a = w .before .before .before .before .args in
+    let word = sym (n .before .before .p .given .1) ∙ w .read-word .ensures in
+    let count = sym (k .before .b .given .1) ∙ n .read-number .ensures in
+    let j = runs.jukugo-none (a .s .now) (a .at) word count (c .if1 .taken) in
+    (rw j, rw j)
 
 returns-4 : tie.Need-returns-4
-unfolding jukugo onPlace onNumber
 returns-4 c =
     let k = c .before .before in
     let n = k .before .before .before in
-    let e = ((sym (n .before .before .p .given .1) ∙ n .before .before .before .before .read-word .ensures)) in
-    let d = ((sym (k .before .b .given .1) ∙ n .read-number .ensures)) in
-    (rw (← e, ← d, le-ltb _ _ (c .before .if1 .left), lt-ltb _ _ (c .if2 .taken)), rw (← e, ← d, le-ltb _ _ (c .before .if1 .left), lt-ltb _ _ (c .if2 .taken)))
+    let w = n .before .before .before .before in
+    let a = w .before .before .before .before .args in
+    let word = sym (n .before .before .p .given .1) ∙ w .read-word .ensures in
+    let count = sym (k .before .b .given .1) ∙ n .read-number .ensures in
+    let j = runs.jukugo-many (a .s .now) (a .at) word count (c .before .if1 .left) (c .if2 .taken) in
+    (rw j, rw j)
 
 cast-n : tie.Need-cast-n
 cast-n c = search needs
@@ -78,29 +82,35 @@ same-length : tie.Need-same-length
 same-length c = search needs
 
 returns-5 : tie.Need-returns-5
-unfolding jukugo onPlace onNumber
+unfolding onPlace
 returns-5 c =
     let f = c .before .before .before .before in
     let t = f .before .before in
     let k = t .before .before in
     let n = k .before .before .before in
-    let e = ((sym (n .before .before .p .given .1) ∙ n .before .before .before .before .read-word .ensures)) in
-    let d = ((sym (k .before .b .given .1) ∙ n .read-number .ensures)) in
-    (rw (← e, ← d, le-ltb _ _ (t .before .if1 .left), le-ltb _ _ (t .if2 .left), ← (sym (c .enum-told3 .given .1) ∙ f .fields-at .ensures .0)), rw (← e, ← d, le-ltb _ _ (t .before .if1 .left), le-ltb _ _ (t .if2 .left)) (f .fields-at .ensures .1 ∙ strided-one _ _ _))
+    let w = n .before .before .before .before in
+    let a = w .before .before .before .before .args in
+    let word = sym (n .before .before .p .given .1) ∙ w .read-word .ensures in
+    let count = sym (k .before .b .given .1) ∙ n .read-number .ensures in
+    let j = runs.jukugo-runs (a .s .now) (a .at) word count (t .before .if1 .left) (t .if2 .left) in
+    (rw (j, ← (sym (c .enum-told3 .given .1) ∙ f .fields-at .ensures .0)), rw j (f .fields-at .ensures .1 ∙ strided-one _ _ _))
 
 same-length-2 : tie.Need-same-length-2
 same-length-2 c = search needs
 
 returns-6 : tie.Need-returns-6
-unfolding jukugo onPlace onNumber
+unfolding onPlace
 returns-6 c =
     let f = c .before .before .before .before .before in
     let t = f .before .before in
     let k = t .before .before in
     let n = k .before .before .before in
-    let e = ((sym (n .before .before .p .given .1) ∙ n .before .before .before .before .read-word .ensures)) in
-    let d = ((sym (k .before .b .given .1) ∙ n .read-number .ensures)) in
-    (rw (← e, ← d, le-ltb _ _ (t .before .if1 .left), le-ltb _ _ (t .if2 .left), ← (sym (c .before .next .given .1) ∙ f .fields-at .ensures .0)), rw (← e, ← d, le-ltb _ _ (t .before .if1 .left), le-ltb _ _ (t .if2 .left)) (f .fields-at .ensures .1 ∙ strided-one _ _ _))
+    let w = n .before .before .before .before in
+    let a = w .before .before .before .before .args in
+    let word = sym (n .before .before .p .given .1) ∙ w .read-word .ensures in
+    let count = sym (k .before .b .given .1) ∙ n .read-number .ensures in
+    let j = runs.jukugo-runs (a .s .now) (a .at) word count (t .before .if1 .left) (t .if2 .left) in
+    (rw (j, ← (sym (c .before .next .given .1) ∙ f .fields-at .ensures .0)), rw j (f .fields-at .ensures .1 ∙ strided-one _ _ _))
 
 pub jukugo-at-spec : {M : Type 1} → statement M
 jukugo-at-spec =

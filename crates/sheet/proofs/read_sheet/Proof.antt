@@ -83,11 +83,11 @@ returns c =
     let eh = chain.head-end _ er (h .head-at .ensures) in
     record {
       answer = c .ending .ensures ∙ rw (d .elements-at .ensures .0, eh, er, eb);
-      sets-em = rw (o .opening-of .ensures) at (a .rows-at .ensures .1);
-      sets-base = rw ea at (b .section-at .ensures .1);
-      sets-ruby = rw eb at (r .section-at2 .ensures .1);
-      sets-elem = rw eh at (d .elements-at .ensures .1);
-      sets-runs = rw eh at (d .elements-at .ensures .2);
+      setHolds = rw (o .opening-of .ensures) at (a .rows-at .ensures .1);
+      baseHolds = rw ea at (b .section-at .ensures .1);
+      rubyHolds = rw eb at (r .section-at2 .ensures .1);
+      elemHolds = rw eh at (d .elements-at .ensures .1);
+      runsHold = rw eh at (d .elements-at .ensures .2);
     }
 
 pub read-sheet-spec : {M : Type 1} → statement M
