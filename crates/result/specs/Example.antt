@@ -5,7 +5,7 @@ use Prim.Native.Nat.{ℕ}
 use lib.ListN.{length, replicate}
 use Rattle.refusal.specs.declared.Refusal.the-variants.{NoBreak}
 use Rattle.door.specs.Job.{Job}
-use Rattle.job.specs.Outcome.{Outcome, outcome}
+use Rattle.job.specs.Outcome.{outcome}
 use Rattle.result.specs.Text.{bytes, resultText, refusalText}
 
 -- em 10, all base characters 10 wide without blanks, flag 1, all ruby characters of class 15 and 5 wide

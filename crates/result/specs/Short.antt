@@ -1,7 +1,7 @@
 -- How long a text can be. A number takes at most ten digits, so a row at most 24 bytes and a line's head at most 16; and there are at most 1,024 lines, 1,024 base
 -- characters and 2,048 ruby characters.
 use mathlib.Core.Path.{_≡_}
-use mathlib.Core.List.{List, [], _∷_, _++_}
+use mathlib.Core.List.{List, [], _∷_}
 use Prim.Native.Nat.{ℕ, _+_, _*_, _≤_, zero-le}
 use native.Mathlib.Omega.{arith}
 use lib.ListN.{length, length-append}
