@@ -1,6 +1,6 @@
 -- An accepted job can be printed: what the entry point leaves is all that `write_result` asks for, given room for the longest text.
 use mathlib.Core.Path.{_≡_, refl, sym, ap, _∙_}
-use mathlib.Core.List.{List, _++_}
+use mathlib.Core.List.{List}
 use mathlib.Core.Option.{Option, none, some}
 use Prim.Native.Nat.{ℕ, _≤_}
 use native.Mathlib.Omega.{arith}
@@ -11,7 +11,7 @@ use Rattle.door.specs.Job.{Job}
 use Rattle.door.specs.Passed.{Passed, passed}
 use Rattle.job.specs.declared.Answer.the-variants.{Set}
 use Rattle.job.specs.Line.{ends, baseIn, rubyIn, byLine}
-use Rattle.job.specs.Outcome.{Outcome, over, after, outcome}
+use Rattle.job.specs.Outcome.{Outcome, after, outcome}
 use Rattle.job.specs.Declined.{fills}
 use Rattle.job.specs.Demands.{Accepted, given-refusal, filled-exactly, lines-filled, lines-told, base-told, ruby-told}
 use Rattle.result.specs.Result.{ResultReady}

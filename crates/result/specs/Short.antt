@@ -1,7 +1,7 @@
 -- How long a text can be. A number takes at most ten digits, so a row at most 24 bytes and a line's head at most 16; and there are at most 1,024 lines, 1,024 base
 -- characters and 2,048 ruby characters.
 use mathlib.Core.Path.{_≡_}
-use mathlib.Core.List.{List, [], _∷_, _++_}
+use mathlib.Core.List.{List, [], _∷_}
 use Prim.Native.Nat.{ℕ, _+_, _*_, _≤_, zero-le}
 use native.Mathlib.Omega.{arith}
 use lib.ListN.{length, length-append}
@@ -89,3 +89,7 @@ module _ (job : Job) (base ruby : List ℕ) where
 pub refusal-short : (r : Refusal) → length (refusalText r) ≤ 30
 unfolding refusalText
 refusal-short r = omega (arith, length-two (bytes "refused") (numberOf r) (placeOf r), decimal-le (numberOf r), decimal-le (placeOf r))
+
+-- so the room for any result is room for any refusal
+pub refusal-fits : (r : Refusal) {room : ℕ} → longest ≤ room → length (refusalText r) ≤ room
+refusal-fits r h = omega (arith, refusal-short r)

@@ -1,11 +1,11 @@
 -- The text of a result and of a refusal, in bytes (document 01, "The job sheet": "writes `refused N P`, or a result").
 use mathlib.Core.List.{List, [], _∷_, _++_}
-use Prim.Native.Nat.{ℕ, zero, suc}
+use Prim.Native.Nat.{ℕ}
 use Prim.Native.Char.{code}
 use Prim.Native.String.{String}
 use Prim.Native.String as text
 use lib.ListN.{length, getD}
-use Rattle.basics.specs.Lists.{each}
+use Rattle.basics.specs.Lists.{count, each}
 use Rattle.text.specs.Print.{decimal}
 use Rattle.refusal.specs.declared.Refusal.{Refusal}
 use Rattle.refusal.specs.Refusal.{numberOf, placeOf}
@@ -27,11 +27,10 @@ unfoldable pub lineTwo : List ℕ → ℕ → ℕ → List ℕ
 unfolding decimal
 lineTwo word i p = word ++ (32 ∷ (decimal i ++ (32 ∷ (decimal p ++ (10 ∷ [])))))
 
--- "`b` and `r` have index and position": of n characters from the i-th on; the index counts over the job
+-- "`b` and `r` have index and position": a row for each of n characters from the i-th on; the index counts over the job
 unfoldable pub rows : List ℕ → List ℕ → ℕ → ℕ → List ℕ
 unfolding lineTwo
-rows word positions i zero = []
-rows word positions i (suc n) = lineTwo word i (getD positions i 0) ++ rows word positions (suc i) n
+rows word positions i n = each (λ k. lineTwo word k (getD positions k 0)) (count i n)
 
 -- "element by element, base before ruby"
 unfoldable pub ofPiece : List ℕ → List ℕ → Piece → List ℕ

@@ -1,5 +1,5 @@
 -- One line: what is written of it so far, and what each piece adds. The walk over its elements is that of `Walks`.
-use mathlib.Core.Path.{_≡_, refl, sym, ap, ap₂, _∙_}
+use mathlib.Core.Path.{_≡_, sym, ap, ap₂, _∙_}
 use mathlib.Core.List.{List}
 use Prim.Native.Nat.{ℕ, _+_, _-_, _≤_, _<_, min, max}
 use native.Mathlib.Nat.{add-zero}
@@ -12,7 +12,7 @@ use Rattle.line.specs.Setting.{start, origin}
 use Rattle.door.specs.declared.Piece.{Piece}
 use Rattle.door.specs.Job.{Job, baseCount, rubyCount, entries, takesRuns, element}
 use Rattle.door.specs.Passed.{Passed}
-use Rattle.job.specs.Line.{pieces, seen, baseAt, rubyAt, baseIn, rubyIn}
+use Rattle.job.specs.Line.{seen, baseAt, rubyAt, baseIn, rubyIn}
 use Rattle.job.specs.Promise.{Break}
 use Rattle.job.specs.Walk.{stateOf, base-more, ruby-more, state-none, base-none, ruby-none}
 use Rattle.job.specs.Words.{GoodPiece}

@@ -1,7 +1,5 @@
 -- Before each character, what is written and the rows from there on make up the whole. Each row is the next part of what is left.
 use Prim.Native.Nat.{_+_, _-_}
-use mathlib.Core.Path.{_∙_}
-use Rattle.text.specs.Written.{same-long}
 use Rattle.result.specs.Text.{rows}
 use Rattle.result.specs.Rows.{Going}
 use Rattle.result.specs.Rows as going

@@ -1,5 +1,4 @@
 -- The room for the line is room for each of its parts; parts that are written one after the other make up the line.
-use mathlib.Core.Path.{_∙_}
 use Rattle.text.specs.Written.{then, same-long}
 use Rattle.result.specs.Text.{lineTwo}
 use Rattle.result.specs.Rows.{length-two}

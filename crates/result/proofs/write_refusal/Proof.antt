@@ -2,7 +2,6 @@
 use native.Mathlib.Nat.{zero-add}
 use Rattle.result.specs.Text.{refusalText}
 use borrow.Author.Needs.{needs}
-use native.Mathlib.Omega.{arith}
 use Rattle.result.proofs.write_refusal.Statement.{statement}
 use Rattle.result.proofs.write_refusal.Tie as tie
 
