@@ -11,7 +11,7 @@ use Rattle.rows.specs.Table.{laid, column}
 use Rattle.sheet.specs.declared.Counts.{Counts}
 use Rattle.sheet.specs.declared.Reading.{Reading}
 use Rattle.sheet.specs.declared.Reading.the-variants.{Sound, Refused}
-use Rattle.sheet.specs.Sheet.{Sheet, reading}
+use Rattle.sheet.specs.Sheet.{Sheet, reading, emOf, measureOf}
 use Rattle.door.specs.Job.{Job, jobOf}
 use Rattle.job.specs.Line.{ends, baseIn, rubyIn, byLine}
 use Rattle.job.specs.Refusals.{fault}
@@ -39,8 +39,8 @@ jobText job base ruby lines = textBy job (fault job base ruby lines)
 unfoldable pub sheetJob : Sheet → Job
 sheetJob t =
     jobOf
-    (getD (column 0 (t .set)) 0 0)
-    (getD (column 0 (t .set)) 1 0)
+    (emOf t)
+    (measureOf t)
     (column 0 (t .base))
     (column 1 (t .base))
     (column 2 (t .base))
@@ -76,6 +76,7 @@ pub record Told (job : Job) (base ruby lines out : List ℕ) (r : ℕ) (newBase 
   pub rubies : newRuby ≡ outcome job base ruby lines .ruby
   pub ends : newLines ≡ outcome job base ruby lines .lines
   pub text : Wrote out 0 (jobText job (length base) (length ruby) (length lines)) r newOut
+  pub short : r ≤ longest
 
 -- the part of a table from a up to e
 abbrev pub part : ℕ → ℕ → List ℕ → List ℕ
@@ -115,12 +116,17 @@ pub record TablesReady (n : Counts) (set base ruby elem runs out : List ℕ) : T
   pub rubies : n .rubies ≤ 2048
   pub rest : ElementsReady (n .elements) (n .runs) elem runs out
 
+-- n bytes at the front of a list, for those who write them out
+abbrev pub Fits : ℕ → List ℕ → Type 0
+Fits n xs = (n ≤ length xs) × (n ≡ length (take n xs))
+
 -- A sheet is answered: the tables hold what was read, the result lists what the job's outcome leaves in them, and `out` begins with the answer.
 pub record Answered (s set base ruby elem runs bases rubies lines out : List ℕ) (r : ℕ) (newSet newBase newRuby newElem newRuns newBases newRubies newLines newOut : List ℕ) : Type 0 where
   pub text : Wrote out 0 (answerText s) r newOut
+  pub short : r ≤ longest
   pub lists : (newBases, newRubies, newLines) ≡ listsBy (reading s) (reading s .end) bases rubies lines
-  pub sets-em : newSet ≡ laid set 0 2 (reading s .set)
-  pub sets-base : newBase ≡ laid base 0 1024 (reading s .base)
-  pub sets-ruby : newRuby ≡ laid ruby 0 2048 (reading s .ruby)
-  pub sets-elem : newElem ≡ laid elem 0 1024 (reading s .elem)
-  pub sets-runs : newRuns ≡ sets runs 0 (reading s .runs)
+  pub setHolds : newSet ≡ laid set 0 2 (reading s .set)
+  pub baseHolds : newBase ≡ laid base 0 1024 (reading s .base)
+  pub rubyHolds : newRuby ≡ laid ruby 0 2048 (reading s .ruby)
+  pub elemHolds : newElem ≡ laid elem 0 1024 (reading s .elem)
+  pub runsHold : newRuns ≡ sets runs 0 (reading s .runs)

@@ -13,8 +13,9 @@ use Rattle.job.specs.declared.Answer.the-variants.{Set, Refused}
 use Rattle.job.specs.Line.{ends, baseIn, rubyIn, byLine}
 use Rattle.job.specs.Refusals.{fault}
 use Rattle.job.specs.Outcome.{Outcome, after, outcome}
-use Rattle.job.specs.Demands.{filled-exactly, base-told, ruby-told}
+use Rattle.job.specs.Demands.{filled-exactly, lines-filled, base-told, ruby-told}
 use Rattle.result.specs.Text.{resultText, refusalText}
+use Rattle.result.specs.Short.{longest, result-short, refusal-short}
 use Rattle.setter.specs.Answer.{setText, textBy, jobText, Told}
 use Rattle.setter.specs.Over.{result-over}
 
@@ -56,19 +57,25 @@ module _ (job : Job) (base ruby lines : List ℕ) where
       ∙ sym (result-over job (byLine (baseIn job) 0 (ends job)) (byLine (rubyIn job) 0 (ends job)) base ruby (omega (arith, b .1)) (omega (arith, r .1)) door)
       ∙ ap₂ (resultText job) (sym (b .0)) (sym (r .0))
 
+  set-short : {n : ℕ} → outcome job base ruby lines .answer ≡ Set n → (b r : List ℕ) → length (resultText job b r) ≤ longest
+  set-short e b r =
+      let ok = set-given e in
+      result-short job b r (passed job (length base) (length ruby) (length lines) (filled-exactly job base ruby lines .0 ok .0)) (lines-filled job base ruby lines ok)
+
 -- what the entry point left, and a text after it
 module _ {job : Job} {base ruby lines out : List ℕ} {o : Outcome} (e : o ≡ outcome job base ruby lines) {r : ℕ} {now : List ℕ} where
-  tells : {xs : List ℕ} → jobText job (length base) (length ruby) (length lines) ≡ xs → Wrote out 0 xs r now → Told job base ruby lines out r (o .base) (o .ruby) (o .lines) now
-  tells same wrote =
+  tells : {xs : List ℕ} → jobText job (length base) (length ruby) (length lines) ≡ xs → length xs ≤ longest → Wrote out 0 xs r now → Told job base ruby lines out r (o .base) (o .ruby) (o .lines) now
+  tells same few wrote =
       record {
         bases = ap (λ (x : Outcome). x .base) e;
         rubies = ap (λ (x : Outcome). x .ruby) e;
         ends = ap (λ (x : Outcome). x .lines) e;
         text = subst (λ xs. Wrote out 0 xs r now) (sym same) wrote;
+        short = omega (arith, wrote .next);
       }
 
   pub told-refused : {why : Refusal} → o .answer ≡ Refused why → Wrote out 0 (refusalText why) r now → Told job base ruby lines out r (o .base) (o .ruby) (o .lines) now
-  told-refused is wrote = tells (refused-text job base ruby lines (ap (λ (x : Outcome). x .answer) (sym e) ∙ is)) wrote
+  told-refused {why} is wrote = tells (refused-text job base ruby lines (ap (λ (x : Outcome). x .answer) (sym e) ∙ is)) (omega (arith, refusal-short why)) wrote
 
   pub told-set : {n : ℕ} → o .answer ≡ Set n → Wrote out 0 (resultText job (o .base) (o .ruby)) r now → Told job base ruby lines out r (o .base) (o .ruby) (o .lines) now
-  told-set is wrote = tells (set-text job base ruby lines (ap (λ (x : Outcome). x .answer) (sym e) ∙ is) ∙ ap (λ (x : Outcome). resultText job (x .base) (x .ruby)) (sym e)) wrote
+  told-set is wrote = tells (set-text job base ruby lines (ap (λ (x : Outcome). x .answer) (sym e) ∙ is) ∙ ap (λ (x : Outcome). resultText job (x .base) (x .ruby)) (sym e)) (set-short job base ruby lines (ap (λ (x : Outcome). x .answer) (sym e) ∙ is) (o .base) (o .ruby)) wrote

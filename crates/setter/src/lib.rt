@@ -6,7 +6,7 @@ ghost use Prim.Native.Nat.{_+_, _≤_};
 ghost use lib.ListN.{length};
 ghost use Rattle.door.specs.Job.{jobOf};
 ghost use Rattle.result.specs.Short.{longest};
-ghost use Rattle.setter.specs.Answer.{part, Told, ElementsReady, TablesReady, tablesJob, Answered};
+ghost use Rattle.setter.specs.Answer.{part, Told, ElementsReady, TablesReady, tablesJob, Fits, Answered};
 
 // Sets a job in lists and writes its text.
 fn set_lists(
@@ -177,6 +177,7 @@ pub fn set_sheet(
     out: &mut [u8; 131072],
 ) -> usize
     ensures { λ r. ⌜ Answered (now (s .entry)) (now (set .entry)) (now (base .entry)) (now (ruby .entry)) (now (elem .entry)) (now (runs .entry)) (now (bases .entry)) (now (rubies .entry)) (now (lines .entry)) (now (out .entry)) r (now (set .exit)) (now (base .exit)) (now (ruby .exit)) (now (elem .exit)) (now (runs .exit)) (now (bases .exit)) (now (rubies .exit)) (now (lines .exit)) (now (out .exit)) ⌝ }
+    ensures { λ r. ⌜ Fits r (now (out .exit)) ⌝ }
 {
     match sheet::read_sheet(s, set, base, ruby, elem, runs) {
         sheet::Reading::Refused(why) => result::write_refusal(why, out),
