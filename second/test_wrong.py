@@ -162,6 +162,15 @@ def _():
     return {'broken_between': broken_between}
 
 
+@wrong('base brought to the line\'s edge with ruby outside it')
+def _():
+    def least_setting(words, limit):
+        origins = right['least_setting'](words, limit)
+        edge = words[0].block_start
+        return origins and [origin - edge for origin in origins]
+    return {'least_setting': least_setting}
+
+
 @wrong('ruby that comes out behind a narrow blank')
 def _():
     def broken_2_forward(earlier, earlier_at, later, later_at, neighbours):
