@@ -1,11 +1,13 @@
 """Compares an engine with the second program, byte for byte.
 
-    python3 compare.py --engine CMD --seed S --count N
+    python3 compare.py --engine CMD --seed S --count N [--single]
 
 CMD reads framed sheets on standard input (`sheet LENGTH`, then the bytes) and
-writes for each of them `answer LENGTH` and the answer's bytes.  Every sheet
-in kept/ is compared first, then the first N sheets of the seed.  A sheet that
-shows a difference is printed with both answers and put into kept/.
+writes for each of them `answer LENGTH` and the answer's bytes.  With --single
+CMD is run once for each sheet: the sheet's bytes in, the answer's bytes out.
+Every sheet in kept/ is compared first, then the first N sheets of the seed.
+A sheet that shows a difference is printed with both answers and put into
+kept/, up to twenty of them in one run; the rest are counted.
 
 The last line is `compared N sheets, D differences`; the exit status is 0 only
 if D is 0.
@@ -26,6 +28,8 @@ import generate     # noqa: E402  (found through the path set above)
 import second       # noqa: E402
 
 BATCH = 200     # sheets for one run of the engine
+LONGEST = 300   # seconds that one run of the engine may take
+SHOWN = 20      # differences that are printed and kept
 
 
 def kept_sheets(folder):
@@ -64,24 +68,31 @@ def batches(sheets):
         yield batch
 
 
+def run_once(command, content):
+    """(what one run of the engine wrote, what was odd about the run)"""
+    try:
+        done = subprocess.run(command, input=content, stdout=subprocess.PIPE,
+                              timeout=LONGEST)
+    except subprocess.TimeoutExpired as late:
+        return late.output or b'', 'not ended after %d s' % LONGEST
+    odd = '' if done.returncode == 0 else 'status %d' % done.returncode
+    return done.stdout, odd
+
+
 def run_engine(command, batch):
     """One run of the engine: the whole frames it wrote, and what was odd."""
     frames = io.BytesIO()
     for sheet in batch:
         second.write_frame(frames, b'sheet', sheet)
-    done = subprocess.run(command, input=frames.getvalue(),
-                          stdout=subprocess.PIPE)
-    answers, odd = [], ''
-    output = io.BytesIO(done.stdout)
+    written, odd = run_once(command, frames.getvalue())
+    answers, output = [], io.BytesIO(written)
     try:
         answer = second.read_frame(output, b'answer')
         while answer is not None:
             answers.append(answer)
             answer = second.read_frame(output, b'answer')
     except ValueError as error:
-        odd = str(error)
-    if done.returncode != 0:
-        odd = (odd + '; ' if odd else '') + 'status %d' % done.returncode
+        odd = '; '.join(filter(None, (str(error), odd)))
     return answers, odd
 
 
@@ -108,6 +119,17 @@ def engine_answers(command, batch):
     return answers
 
 
+def single_answers(command, batch):
+    """The same with one run of the engine for each sheet."""
+    answers = []
+    for sheet in batch:
+        answer, odd = run_once(command, sheet)
+        if odd:
+            print('a run of the engine: %s' % odd)
+        answers.append(None if odd else answer)
+    return answers
+
+
 def readable(content):
     """Bytes as text in which every odd byte can be seen."""
     if content is None:
@@ -124,16 +146,18 @@ def show_difference(path, sheet, engine, expected):
           % (readable(sheet), readable(engine), readable(expected)))
 
 
-def compare(command, folder, seed, count):
+def compare(command, folder, seed, count, answers=engine_answers):
     """(sheets compared, differences)"""
     compared = differences = 0
     for batch in batches(all_sheets(folder, seed, count)):
-        for sheet, engine in zip(batch, engine_answers(command, batch)):
+        for sheet, engine in zip(batch, answers(command, batch)):
             expected = second.answer(sheet)
             compared += 1
             if engine != expected:
                 differences += 1
-                show_difference(keep(folder, sheet), sheet, engine, expected)
+                if differences <= SHOWN:
+                    show_difference(keep(folder, sheet), sheet, engine,
+                                    expected)
     return compared, differences
 
 
@@ -142,10 +166,12 @@ def main():
     parser.add_argument('--engine', required=True)
     parser.add_argument('--seed', type=int, required=True)
     parser.add_argument('--count', type=int, required=True)
+    parser.add_argument('--single', action='store_true')
     chosen = parser.parse_args()
     compared, differences = compare(
         shlex.split(chosen.engine), os.path.join(HERE, 'kept'),
-        chosen.seed, chosen.count)
+        chosen.seed, chosen.count,
+        single_answers if chosen.single else engine_answers)
     print('compared %d sheets, %d differences' % (compared, differences))
     sys.exit(0 if differences == 0 else 1)
 

@@ -168,7 +168,9 @@ def add_mono(rng, draft):
     base = some_width(rng, em)
     total = pick(rng, (5, base + surplus(rng, em)), (2, base),
                  (3, 1 + rng.randrange(base)))
-    widths = split(rng, total, ruby_count_for(rng, em, total))
+    count = pick(rng, (30, ruby_count_for(rng, em, total)),
+                 (1, rng.choice((63, 64))))
+    widths = split(rng, total, count)
     classes = rng.choice((KANA_LIKE, KANA_LIKE, WESTERN, ACCEPTED))
     cls = rng.choice((19, 19, 14, rng.choice(ACCEPTED)))
     draft.add([[cls, base]], [[rng.choice(classes), w] for w in widths],
@@ -451,6 +453,10 @@ def fault_5(rng, draft):
         which = 1 + rng.randrange(2)
         elem[which] = rng.choice((0, 0, (33, 65)[which - 1],
                                   (33, 65)[which - 1], TOO_BIG))
+    elif len(elem) > 3 and rng.randrange(5) == 0:
+        # run lengths whose sum would come out small if it wrapped
+        elem[2:4] = rng.choice(([2147483648, 2147483648], [TOO_BIG, 2],
+                                [2, TOO_BIG]))
     else:
         at = 2 + rng.randrange(len(elem) - 2)
         rest = sum(elem[2:]) - elem[at]
@@ -658,14 +664,21 @@ def miswrite_number(rng, text):
     return before + number + after
 
 
+def wrapped(number, bits):
+    return b'%d' % (int(number) + 2 ** bits) if number.isdigit() else number
+
+
 def change_number(rng, text):
     """One of the numbers becomes a number at an edge."""
     before, number, after = some_number(rng, text)
     number = rng.choice((
-        b'4294967295', b'4294967295', b'4294967296', b'4294967296',
+        b'4294967295', b'4294967295', b'4294967295', b'4294967296',
+        b'4294967296', b'4294967296', b'4294967296', b'4294967296',
         b'4294967297', b'9999999999', b'10000000000',
         b'18446744073709551617', b'0', b'1', b'2', b'32', b'33', b'64',
-        b'65', b'1' + number, number + b'0'))
+        b'65', b'1' + number, number + b'0', number + b'0' * 300,
+        # what a reader that wraps would take for the number itself
+        wrapped(number, 32), wrapped(number, 32), wrapped(number, 64)))
     return before + number + after
 
 
@@ -711,14 +724,17 @@ def trailing(rng, text):
 def damage(rng, text):
     ways = (change_byte, change_byte, remove_byte, remove_byte, insert_byte,
             insert_byte, cut, cut_end, change_lines, change_lines,
-            change_ending, change_space, miswrite_number, miswrite_number,
+            change_ending, change_ending, change_space, change_space,
+            miswrite_number, miswrite_number, change_number, change_number,
             change_number, change_number, change_element, change_element,
             change_head, change_head, trailing)
     return rng.choice(ways)(rng, text)
 
 
 def damaged(rng):
-    text = damage(rng, sound(rng))
+    # In a tiny sheet the heads and the elements are hit as often as rows.
+    draft = rng.choice((sound_draft, tiny_draft, tiny_draft))(rng)
+    text = damage(rng, draft.text())
     if len(text) > 0 and b' ' in text and rng.randrange(6) == 0:
         text = change_byte(rng, text)
     return text
@@ -783,6 +799,35 @@ def great_words(rng):
     return draft.text()
 
 
+def great_wide(rng):
+    """Characters of the greatest width, to the greatest counts."""
+    draft = Draft(rng.choice((2, 4096, 4096)))
+    kind = rng.choice('MGJ' if draft.em == WIDEST else 'MG')
+    count = 1 if kind == 'M' else 32
+    for _ in range(32):
+        base = [[19, WIDEST] for _ in range(count)]
+        ruby = [[15, rng.choice((WIDEST, WIDEST, 1))] for _ in range(64)]
+        draft.add(base, ruby, {'M': ['M', 64], 'G': ['G', count, 64],
+                               'J': ['J', count] + [2] * count}[kind])
+        if kind == 'M':
+            for _ in range(rng.randrange(20)):
+                draft.add([[14, WIDEST]], [], ['P'])
+    put_flags(rng, draft)
+    draft.measure = rng.choice((262143, 262144, 300000, 3999999, 4000000,
+                                4000000))
+    return draft.text()
+
+
+def long_line(rng):
+    """One line of text as long as a sheet can be, and one byte longer."""
+    start = rng.choice((b'', b'set 2\n', b'set 2\n10\n', b'set 2\n10\n35\n',
+                        b'set 2\n10\n35\nbase ', b'J 32'))
+    filling = rng.choice((b'1', b'9', b'0', b' ', b' 1', b'x', b'\0', b'\r'))
+    size = rng.choice((65534, 65535, 65535, 65536))
+    last = rng.choice((b'\n', filling[:1]))
+    return (start + filling * size)[:size - 1] + last
+
+
 def exact_length(rng):
     """A sheet of sound form with 65,534 to 65,537 bytes, mostly of runs."""
     draft = Draft(10)
@@ -822,10 +867,11 @@ def empty(rng):
 # ---------------------------------------------------------------------------
 
 def one_sheet(rng):
-    return pick(rng, (560, sound), (60, tight), (240, one_fault),
-                (100, two_faults), (50, meeting_faults), (130, damaged),
-                (8, spare), (3, great), (2, great_plain), (2, great_words),
-                (4, exact_length), (3, too_long), (4, empty))(rng)
+    return pick(rng, (600, sound), (60, tight), (230, one_fault),
+                (100, two_faults), (50, meeting_faults), (170, damaged),
+                (8, spare), (5, great), (2, great_plain), (2, great_words),
+                (3, great_wide), (4, exact_length), (3, too_long),
+                (2, long_line), (4, empty))(rng)
 
 
 def sheets(seed, count):

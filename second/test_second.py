@@ -1264,6 +1264,28 @@ class Programs(Case):
                 (40, 0))
             self.assertEqual(os.listdir(folder), [])
 
+    def test_compare_one_sheet_at_a_time(self):
+        with tempfile.TemporaryDirectory() as folder:
+            self.assertEqual(
+                compare.compare(own_program(), folder, 5, 12,
+                                compare.single_answers), (12, 0))
+            self.assertEqual(os.listdir(folder), [])
+        # An engine that answers rightly and then ends with status 3.
+        dying = [sys.executable, '-B', '-c', (
+            'import sys; sys.path.insert(0, %r); import second\n'
+            'second.main([]); sys.stdout.flush(); sys.exit(3)' % HERE)]
+        with tempfile.TemporaryDirectory() as folder, quiet():
+            self.assertEqual(compare.compare(dying, folder, 5, 2,
+                                             compare.single_answers), (2, 2))
+
+    def test_compare_keeps_no_more_than_it_shows(self):
+        dumb = [sys.executable, '-c', '']
+        with tempfile.TemporaryDirectory() as folder, quiet():
+            self.assertEqual(compare.compare(dumb, folder, 5, 30,
+                                             compare.single_answers),
+                             (30, 30))
+            self.assertLessEqual(len(os.listdir(folder)), compare.SHOWN)
+
     def test_compare_finds_keeps_and_repeats(self):
         # An engine that refuses everything with 13 1.
         wrong = [sys.executable, '-B', '-c', (

@@ -1,0 +1,146 @@
+"""Tests of the account, with values worked out by hand.
+
+    python3 second/test_account.py
+
+hu means half units.  Where nothing else is said, em is 10, base characters
+are 10 wide and ruby characters 5 wide, as in the settings K1 to K12.
+"""
+
+import os
+import sys
+import unittest
+
+HERE = os.path.dirname(os.path.abspath(__file__))
+sys.path.insert(0, HERE)
+
+import generate     # noqa: E402  (found through the path set above)
+import second       # noqa: E402
+from account import account, broken_rules, drawn_lines  # noqa: E402
+from test_second import EXAMPLE, g, j, m, p, sheet  # noqa: E402
+
+
+class ByHand(unittest.TestCase):
+
+    def accounted(self, expected, elements, **changes):
+        self.assertEqual(account(sheet(elements, **changes)), expected)
+
+    def test_k9(self):
+        # The first word's ruby would pass the line's start.  The second's
+        # would begin at 29, under the ruby that ends at 30; its base, at 34,
+        # keeps off that ruby, and its ruby off the block that ends at 25.
+        self.accounted([[(0, 5, 5, [(4, None)]),
+                         (1, 35, 10, [(3, 0)])]], [m(3), m(3)])
+
+    def test_k10(self):
+        # The comma at 29 would stand under the ruby that ends at 30.  The
+        # base at 49 would stand on the comma, 30 to 50; its ruby, at 44, may
+        # lie on the blank, which begins at 40.
+        self.accounted([[(0, 5, 5, [(4, None)]),
+                         (1, 30, 5, [(2, 0)]),
+                         (2, 50, 0, [(1, 1)])]],
+                       [m(3), p(7, 10, 0, 5), m(3)])
+
+    def test_k11(self):
+        # The comma is 30 to 44, its blank begins at 40.  The base at 44 would
+        # be clear of it, its ruby at 39 would not.
+        self.accounted([[(0, 5, 5, [(4, None)]),
+                         (1, 30, 5, [(2, 0)]),
+                         (2, 45, 1, [(2, 1)])]],
+                       [m(3), p(7, 7, 0, 2), m(3)])
+
+    def test_k12(self):
+        # The space, 25 to 31, touches the block before it; the ruby to 30
+        # lies on 5 of its 6 hu, and on all 6 one half unit nearer.  The last
+        # word's ruby at 29 would lie on the first word's; the space itself
+        # would let it reach 25.
+        self.accounted([[(0, 5, 5, [(4, None)]),
+                         (1, 25, 0, [(1, 0)]),
+                         (2, 35, 4, [(3, 0)])]],
+                       [m(3), p(14, 3), m(3)])
+
+    def test_worked_example(self):
+        # Line 1: M, P at 30 where the ruby ends, the J's first character
+        # behind the P (its ruby stands 5 hu inside).  Line 2: the rest of
+        # the J, at the line's start.
+        self.assertEqual(account(EXAMPLE), [
+            [(0, 5, 5, [(4, None)]), (1, 30, 5, [(2, 0)]),
+             (2, 50, 0, [(1, 1)])],
+            [(2, 0, 0, [(4, None)])]])
+
+    def test_everything_touches(self):
+        # Both rubies fill their blocks: block on block, ruby on block and
+        # ruby on ruby would overlap at once.
+        self.accounted([[(0, 0, 0, [(4, None)]),
+                         (1, 20, 0, [(1, 0), (2, 0), (3, 0)])]],
+                       [m(2), m(2)])
+
+    def test_depth_is_a_reach(self):
+        # A space of 1 unit alone behind K1 stands at 28: the ruby to 30 is
+        # 2 hu past its near edge.  At 27 it would be 3 hu past, and come out
+        # behind the space.
+        self.accounted([[(0, 5, 5, [(4, None)]), (1, 28, 3, [(2, 0)])]],
+                       [m(3), p(14, 1)])
+
+    def test_class_5_has_a_quarter_em(self):
+        # The dot's blank before is 5 units, 10 hu, and a quarter em is 5 hu:
+        # it stands at 25, where it also meets the block.
+        self.accounted([[(0, 5, 5, [(4, None)]),
+                         (1, 25, 0, [(1, 0), (2, 0)])]],
+                       [m(3), p(5, 10, 5, 0)])
+
+    def test_two_plain_characters_between(self):
+        # K1, two spaces of 1 unit, K1.  The first space stands at 28 as
+        # above and ends at 30, the second is 30 to 32.  The last word's ruby
+        # may reach 2 hu over the second space, to 30: its base is at 35.
+        # One half unit nearer its ruby would reach 3 hu over that space, and
+        # begin under the first ruby, which ends at 30; and it would lie on
+        # the first space, which is not its neighbour.
+        self.accounted([[(0, 5, 5, [(4, None)]), (1, 28, 3, [(2, 0)]),
+                         (2, 30, 0, [(1, 1), (2, 0)]),
+                         (3, 35, 3, [(2, 1), (2, 2), (3, 0)])]],
+                       [m(3), p(14, 1), p(14, 1), m(3)])
+
+    def test_spread_base(self):
+        # K4's block starts 7 hu behind its ruby's start; the P before it has
+        # no blank, so the ruby begins at 20 where that ends.
+        self.accounted([[(0, 0, 0, [(4, None)]), (1, 27, 7, [(2, 0)])]],
+                       [p(), g(2, 7)])
+
+    def test_parts_of_a_jukugo(self):
+        # Three characters at a measure of one: an element of three lines.
+        self.accounted([[(0, 0, 0, [(4, None)])]] * 3, [j([2, 1, 2])],
+                       measure=10)
+
+    def test_no_lines(self):
+        self.accounted([], [])
+
+    def test_refused(self):
+        with self.assertRaises(second.Refused) as caught:
+            account(sheet([m(3)], em=11))
+        self.assertEqual((caught.exception.number, caught.exception.place),
+                         (1, 0))
+
+
+class OnGeneratedSheets(unittest.TestCase):
+
+    def test_every_element_is_held(self):
+        # As they stand no rule is broken, and nearer some rule is: every
+        # element stands at the least position.
+        seen = 0
+        for text in generate.sheets(31, 250):
+            try:
+                lines = drawn_lines(text)
+            except second.Refused:
+                continue
+            if sum(map(len, lines)) > 80:
+                continue
+            for line, rows in zip(lines, account(text)):
+                for place, drawn in enumerate(line):
+                    self.assertEqual(broken_rules(line[:place], drawn), [])
+                    self.assertNotEqual(rows[place][3], [])
+                    seen += 1
+        self.assertGreater(seen, 500)
+
+
+if __name__ == '__main__':
+    unittest.main()

@@ -1,0 +1,552 @@
+"""Wrong engines, each wrong in one way, and that the comparison finds them.
+
+    python3 second/test_wrong.py
+
+Every entry of WRONG replaces some functions of the second program by wrong
+ones: the drawings that document 01 doesn't want to see again, readings of 01
+that are not ours, and slips at an edge.  Some of the first 1,500 sheets of
+seed 1 have to show each of them.
+"""
+
+import os
+import sys
+import unittest
+from unittest import mock
+
+HERE = os.path.dirname(os.path.abspath(__file__))
+sys.path.insert(0, HERE)
+
+import generate     # noqa: E402  (found through the path set above)
+import second       # noqa: E402
+from second import G, J, Refused  # noqa: E402
+
+right = {name: value for name, value in vars(second).items()
+         if callable(value)}
+WRONG = {}
+
+
+def wrong(name):
+    """The function below gives the replacements of the wrong engine."""
+    def put(replacements):
+        WRONG[name] = replacements()
+        return replacements
+    return put
+
+
+# ---------------------------------------------------------------------------
+# Level one
+# ---------------------------------------------------------------------------
+
+@wrong('the half-em limit applied to Western base')
+def _():
+    def set_group(em, base_western, base, ruby_western, ruby):
+        if base_western and sum(ruby) < sum(base):
+            return second.spread_ruby(base, ruby, em)
+        return right['set_group'](em, base_western, base, ruby_western, ruby)
+    return {'set_group': set_group}
+
+
+@wrong('the half-em limit applied to base being spread')
+def _():
+    def set_group(em, base_western, base, ruby_western, ruby):
+        if not base_western and sum(ruby) > sum(base):
+            positions = second.spread(base, sum(ruby) - sum(base), em)
+            return positions, second.one_after_another(0, ruby)
+        return right['set_group'](em, base_western, base, ruby_western, ruby)
+    return {'set_group': set_group}
+
+
+@wrong('the half-em limit taken as em units')
+def _():
+    def spread(widths, difference, limit):
+        return right['spread'](widths, difference,
+                               None if limit is None else 2 * limit)
+    return {'spread': spread}
+
+
+@wrong('a jukugo run compared with the sum of base widths')
+def _():
+    def set_jukugo(em, base, runs, ruby_western, ruby):
+        return right['set_jukugo'](sum(base), base, runs, ruby_western, ruby)
+    return {'set_jukugo': set_jukugo}
+
+
+@wrong('a run of exactly one em taken as longer')
+def _():
+    def set_jukugo(em, base, runs, ruby_western, ruby):
+        pieces = second.cut_into_runs(runs, ruby)
+        if any(sum(piece) >= em for piece in pieces):
+            return second.set_group(em, False, base, ruby_western, ruby)
+        return right['set_jukugo'](em, base, runs, ruby_western, ruby)
+    return {'set_jukugo': set_jukugo}
+
+
+@wrong('a single spread character pushed to the front')
+def _():
+    def spread(widths, difference, limit):
+        if len(widths) == 1:
+            return [0]
+        return right['spread'](widths, difference, limit)
+    return {'spread': spread}
+
+
+@wrong('a single spread character held by the limit')
+def _():
+    def spread(widths, difference, limit):
+        if len(widths) == 1 and limit is not None:
+            return [min(difference, limit)]
+        return right['spread'](widths, difference, limit)
+    return {'spread': spread}
+
+
+@wrong('equal inner gaps, rounded down')
+def _():
+    def spread(widths, difference, limit):
+        n = len(widths)
+        positions = right['spread'](widths, difference, limit)
+        if n == 1:
+            return positions
+        inner = (2 * difference - 2 * positions[0]) // (n - 1)
+        return [positions[0] + 2 * sum(widths[:i]) + inner * i
+                for i in range(n)]
+    return {'spread': spread}
+
+
+@wrong('mono ruby spread')
+def _():
+    def set_mono(base, ruby):
+        if sum(ruby) < sum(base):
+            return second.spread_ruby(base, ruby, None)
+        return right['set_mono'](base, ruby)
+    return {'set_mono': set_mono}
+
+
+@wrong('a part set by the long run of another part')
+def _():
+    def ruby_word(job, element, first, end):
+        whole = right['ruby_word'](job, element, element.base_first,
+                                   element.base_end)
+        word = right['ruby_word'](job, element, first, end)
+        runs = second.cut_into_runs(
+            element.runs, job.ruby_width[element.ruby_first:element.ruby_end])
+        if (element.kind == J and end - first > 1 and whole is not word
+                and any(sum(run) > job.em for run in runs)):
+            base = job.base_width[first:end]
+            count = len(word.ruby_positions)
+            ruby = job.ruby_width[word.ruby_first:word.ruby_first + count]
+            kind = second.is_western(job.ruby_class[word.ruby_first])
+            places = second.set_group(job.em, False, base, kind, ruby)
+            return second.Word(first, places[0], places[0][-1] + 2 * base[-1],
+                               word.ruby_first, places[1],
+                               places[1][-1] + 2 * ruby[-1])
+        return word
+    return {'ruby_word': ruby_word}
+
+
+# ---------------------------------------------------------------------------
+# Level two
+# ---------------------------------------------------------------------------
+
+@wrong('rubies that may overlap')
+def _():
+    return {'broken_3': lambda *_: 0}
+
+
+@wrong('one squeezed space used by the rubies at both its ends')
+def _():
+    def broken_between(earlier, earlier_at, later, later_at, neighbours):
+        if neighbours:
+            return right['broken_between'](earlier, earlier_at, later,
+                                           later_at, neighbours)
+        return second.broken_1(earlier, earlier_at, later, later_at)
+    return {'broken_between': broken_between}
+
+
+@wrong('base brought to the line\'s edge with ruby outside it')
+def _():
+    def least_setting(words, limit):
+        origins = right['least_setting'](words, limit)
+        edge = words[0].block_start
+        return origins and [origin - edge for origin in origins]
+    return {'least_setting': least_setting}
+
+
+@wrong('ruby that comes out behind a narrow blank')
+def _():
+    def broken_2_forward(earlier, earlier_at, later, later_at, neighbours):
+        if neighbours and later.depth_before == later.block_end:
+            return 0
+        return right['broken_2_forward'](earlier, earlier_at, later, later_at,
+                                         neighbours)
+    return {'broken_2_forward': broken_2_forward}
+
+
+@wrong('half an em on class 5')
+def _():
+    return {'greatest_depth': lambda job, cls: job.em}
+
+
+@wrong('a quarter em for every class')
+def _():
+    return {'greatest_depth': lambda job, cls: job.em // 2}
+
+
+@wrong('no limit on the depth')
+def _():
+    return {'greatest_depth': lambda job, cls: 10 ** 9}
+
+
+@wrong('no ruby on a space before it')
+def _():
+    def depth_before(job, index):
+        return (0 if job.base_class[index] == 14
+                else right['depth_before'](job, index))
+    return {'depth_before': depth_before}
+
+
+@wrong('a line that just fits declined')
+def _():
+    return {'broken_4': lambda word, at, limit: at + word.end >= limit}
+
+
+@wrong('a line one half unit too long')
+def _():
+    return {'broken_4': lambda word, at, limit: at + word.end > limit + 1,
+            'plainly_too_long': lambda *_: False}
+
+
+@wrong('base blocks alone held to the measure')
+def _():
+    return {'broken_4': lambda word, at, limit: at + word.block_end > limit,
+            'plainly_too_long': lambda *_: False}
+
+
+# ---------------------------------------------------------------------------
+# Lines
+# ---------------------------------------------------------------------------
+
+@wrong('the nearest break')
+def _():
+    def fill_line(job, owner, breaks, first):
+        for end in breaks:
+            line = (second.try_line(job, owner, first, end) if end > first
+                    else None)
+            if line is not None:
+                return end, line
+        raise Refused(11, first)
+    return {'fill_line': fill_line}
+
+
+@wrong('all flags of a group consulted')
+def _():
+    def permitted_breaks(job):
+        shut = {element.base_end for element in job.elements[:-1]
+                if element.kind == G
+                and 0 in job.flag[element.base_first:element.base_end]}
+        return [end for end in right['permitted_breaks'](job)
+                if end not in shut]
+    return {'permitted_breaks': permitted_breaks}
+
+
+@wrong('no break inside a jukugo')
+def _():
+    def permitted_breaks(job):
+        ends = {element.base_end for element in job.elements}
+        return [end for end in right['permitted_breaks'](job) if end in ends]
+    return {'permitted_breaks': permitted_breaks}
+
+
+@wrong('no break at the end of the job without a flag')
+def _():
+    def permitted_breaks(job):
+        breaks = right['permitted_breaks'](job)
+        if breaks and job.flag[breaks[-1] - 1] == 0:
+            breaks.pop()
+        return breaks
+    return {'permitted_breaks': permitted_breaks}
+
+
+# ---------------------------------------------------------------------------
+# Refusals
+# ---------------------------------------------------------------------------
+
+@wrong('every 3 before every 4')
+def _():
+    def check_characters(job):
+        for index in range(job.base_count):
+            second.check_base_character(job, index)
+        for index in range(job.base_count):
+            second.check_blanks(job, index)
+        for index in range(job.ruby_count):
+            second.check_ruby_character(job, index)
+    return {'check_characters': check_characters}
+
+
+@wrong('ruby places without 1,024')
+def _():
+    def check_ruby_character(job, index):
+        try:
+            right['check_ruby_character'](job, index)
+        except Refused:
+            raise Refused(3, index)
+    return {'check_ruby_character': check_ruby_character}
+
+
+@wrong('blanks whose sum wraps')
+def _():
+    def check_blanks(job, index):
+        cls, before = job.base_class[index], job.blank_before[index]
+        after = job.blank_after[index]
+        if cls == 5 and (before + after) % 2 ** 32 <= job.base_width[index]:
+            return
+        right['check_blanks'](job, index)
+    return {'check_blanks': check_blanks}
+
+
+@wrong('runs whose sum wraps')
+def _():
+    def element_counts(job, place, taken):
+        if job.kind[place] == J:
+            runs = [second.run_at(job, taken + i)
+                    for i in range(job.elem_base[place])]
+            if 0 not in runs and sum(runs) % 2 ** 32 <= 64:
+                return len(runs), sum(runs) % 2 ** 32, runs
+        return right['element_counts'](job, place, taken)
+    return {'element_counts': element_counts}
+
+
+@wrong('9 before 8')
+def _():
+    def check_jukugo_base(job, element, place):
+        second.check_mixture(job, element, place)
+        right['check_jukugo_base'](job, element, place)
+    return {'check_jukugo_base': check_jukugo_base}
+
+
+@wrong('10 before 9')
+def _():
+    def check_mixture(job, element, place):
+        second.check_western_over_western(job, element, place)
+        right['check_mixture'](job, element, place)
+    return {'check_mixture': check_mixture}
+
+
+@wrong('class 26 taken as Western')
+def _():
+    def check_mixture(job, element, place):
+        base = job.base_class[element.base_first:element.base_end]
+        ruby = job.ruby_class[element.ruby_first:element.ruby_end]
+        for classes in (base, ruby):
+            western = [cls in (24, 25, 26, 27) for cls in classes]
+            if element.kind in (G, J) and any(western) and not all(western):
+                raise Refused(9, place)
+    return {'check_mixture': check_mixture}
+
+
+@wrong('blanks inside a word allowed')
+def _():
+    return {'check_blanks_inside': lambda *_: None}
+
+
+@wrong('left over counted from the last element')
+def _():
+    def take_elements(job):
+        try:
+            right['take_elements'](job)
+        except Refused as refusal:
+            if (refusal.number, refusal.place) == (6, job.element_count):
+                raise Refused(6, max(0, job.element_count - 1))
+            raise
+    return {'take_elements': take_elements}
+
+
+@wrong('11 with the place of the job')
+def _():
+    def fill_line(*arguments):
+        try:
+            return right['fill_line'](*arguments)
+        except Refused:
+            raise Refused(11, 0)
+    return {'fill_line': fill_line}
+
+
+@wrong('an odd em')
+def _():
+    def check_sizes(job):
+        if not (job.em % 2 == 1 and 2 <= job.em <= 4096):
+            right['check_sizes'](job)
+        elif not 1 <= job.measure <= 4000000:
+            raise Refused(1, 1)
+    return {'check_sizes': check_sizes}
+
+
+# ---------------------------------------------------------------------------
+# The sheet and the result
+# ---------------------------------------------------------------------------
+
+def reader(**methods):
+    """A reader with some of its methods replaced."""
+    return {'Reader': type('Slip', (right['Reader'],), methods)}
+
+
+@wrong('a number that wraps at 4,294,967,296')
+def _():
+    def number(self, text):
+        if len(text) == 10 and text.isdigit() and text[:1] != b'0':
+            return int(text) % 2 ** 32
+        return right['Reader'].number(self, text)
+    return reader(number=number)
+
+
+@wrong('leading zeros')
+def _():
+    def number(self, text):
+        if text.isdigit() and len(text) <= 10:
+            return right['Reader'].number(self, text.lstrip(b'0') or b'0')
+        return right['Reader'].number(self, text)
+    return reader(number=number)
+
+
+@wrong('a last line without LF')
+def _():
+    def fields(self):
+        if self.sheet.find(b'\n', self.place) < 0 and (
+                self.place < len(self.sheet)):
+            self.sheet += b'\n'
+        return right['Reader'].fields(self)
+    return reader(fields=fields)
+
+
+@wrong('CR before LF')
+def _():
+    def fields(self):
+        return [field.rstrip(b'\r') for field in right['Reader'].fields(self)]
+    return reader(fields=fields)
+
+
+@wrong('tabs and several spaces')
+def _():
+    def fields(self):
+        return b' '.join(right['Reader'].fields(self)).split() or [b'']
+    return reader(fields=fields)
+
+
+@wrong('bytes after the last line')
+def _():
+    return reader(nothing_after=lambda self: None)
+
+
+@wrong('bytes after the last line blamed on the last line')
+def _():
+    def nothing_after(self):
+        if self.place < len(self.sheet):
+            raise self.fault()
+    return reader(nothing_after=nothing_after)
+
+
+@wrong('count before form within a line')
+def _():
+    def count(self, name, most, place):
+        line = self.sheet[self.place:].split(b'\n')[0].split(b' ')
+        if (len(line) > 1 and line[0] == name and line[1].isdigit()
+                and int(line[1]) > most):
+            raise Refused(2, place)
+        return right['Reader'].count(self, name, most, place)
+    return reader(count=count)
+
+
+@wrong('a count judged after the whole sheet')
+def _():
+    def read_sheet(sheet):
+        try:
+            return right['read_sheet'](sheet)
+        except Refused as refusal:
+            if refusal.number == 2:
+                with mock.patch.multiple(second, MOST_BASE=10 ** 10,
+                                         MOST_RUBY=10 ** 10,
+                                         MOST_ELEMENTS=10 ** 10):
+                    right['read_sheet'](sheet)
+            raise
+    return {'read_sheet': read_sheet}
+
+
+@wrong('65,536 bytes')
+def _():
+    return {'LARGEST_SHEET': 65536}
+
+
+@wrong('65,534 bytes')
+def _():
+    return {'LARGEST_SHEET': 65534}
+
+
+@wrong('J 0 and J 33 as number 5')
+def _():
+    def read_element(reader):
+        start = reader.place
+        fields = reader.sheet[start:].split(b'\n')[0].split(b' ')
+        if (fields[0] == b'J' and len(fields) > 1 and fields[1].isdigit()
+                and len(fields) == 2 + int(fields[1])):
+            reader.fields()
+            values = reader.numbers(fields[1:], len(fields) - 1)
+            return J, values[0], 0, values[1:]
+        return right['read_element'](reader)
+    return {'read_element': read_element}
+
+
+@wrong('a jukugo printed character by character')
+def _():
+    def jukugo_parts(base_taken, ruby_taken, runs, ends):
+        parts = []
+        for run in runs:
+            parts.append(([base_taken],
+                          list(range(ruby_taken, ruby_taken + run))))
+            base_taken += 1
+            ruby_taken += run
+        return parts
+    return {'jukugo_parts': jukugo_parts}
+
+
+@wrong('the extent of base blocks alone')
+def _():
+    def line_extent(parts, base_width, base_out, ruby_width, ruby_out):
+        return max(base_out[i] + 2 * base_width[i]
+                   for bases, _ in parts for i in bases)
+    return {'line_extent': line_extent}
+
+
+@wrong('the extent in units')
+def _():
+    return {'line_extent':
+            lambda *arguments: right['line_extent'](*arguments) // 2}
+
+
+# ---------------------------------------------------------------------------
+
+class Found(unittest.TestCase):
+
+    @classmethod
+    def setUpClass(cls):
+        cls.sheets = list(generate.sheets(1, 1500))
+        cls.answers = [second.answer(text) for text in cls.sheets]
+
+    def shown_by(self, replacements):
+        """How many sheets are put in before the first that shows it."""
+        with mock.patch.multiple(second, **replacements):
+            for count, text in enumerate(self.sheets):
+                try:
+                    answer = second.answer(text)
+                except Exception:   # a wrong engine may well break down
+                    return count
+                if answer != self.answers[count]:
+                    return count
+        return None
+
+    def test_every_wrong_engine_is_found(self):
+        for name, replacements in WRONG.items():
+            with self.subTest(name):
+                self.assertIsNotNone(self.shown_by(replacements), name)
+
+
+if __name__ == '__main__':
+    unittest.main()
