@@ -52,7 +52,7 @@ returns-3 c =
     let a = w .before .before .before .before .args in
     let word = sym (n .before .before .p .given .1) ∙ w .read-word .ensures in
     let count = sym (k .before .b .given .1) ∙ n .read-number .ensures in
-    let j = runs.jukugo-none (a .s .now) (a .at) word count (c .if1 .taken) in
+    let j = runs.jukugo-none (a .s .now) (a .at) word count (search needs) in
     (rw j, rw j)
 
 returns-4 : tie.Need-returns-4
@@ -63,7 +63,7 @@ returns-4 c =
     let a = w .before .before .before .before .args in
     let word = sym (n .before .before .p .given .1) ∙ w .read-word .ensures in
     let count = sym (k .before .b .given .1) ∙ n .read-number .ensures in
-    let j = runs.jukugo-many (a .s .now) (a .at) word count (c .before .if1 .left) (c .if2 .taken) in
+    let j = runs.jukugo-many (a .s .now) (a .at) word count (search needs) (search needs) in
     (rw j, rw j)
 
 cast-n : tie.Need-cast-n
@@ -92,7 +92,7 @@ returns-5 c =
     let a = w .before .before .before .before .args in
     let word = sym (n .before .before .p .given .1) ∙ w .read-word .ensures in
     let count = sym (k .before .b .given .1) ∙ n .read-number .ensures in
-    let j = runs.jukugo-runs (a .s .now) (a .at) word count (t .before .if1 .left) (t .if2 .left) in
+    let j = runs.jukugo-runs (a .s .now) (a .at) word count (search needs) (search needs) in
     (rw (j, ← (sym (c .enum-told3 .given .1) ∙ f .fields-at .ensures .0)), rw j (f .fields-at .ensures .1 ∙ strided-one _ _ _))
 
 same-length-2 : tie.Need-same-length-2
@@ -109,7 +109,7 @@ returns-6 c =
     let a = w .before .before .before .before .args in
     let word = sym (n .before .before .p .given .1) ∙ w .read-word .ensures in
     let count = sym (k .before .b .given .1) ∙ n .read-number .ensures in
-    let j = runs.jukugo-runs (a .s .now) (a .at) word count (t .before .if1 .left) (t .if2 .left) in
+    let j = runs.jukugo-runs (a .s .now) (a .at) word count (search needs) (search needs) in
     (rw (j, ← (sym (c .before .next .given .1) ∙ f .fields-at .ensures .0)), rw j (f .fields-at .ensures .1 ∙ strided-one _ _ _))
 
 pub jukugo-at-spec : {M : Type 1} → statement M

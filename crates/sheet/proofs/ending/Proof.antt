@@ -1,5 +1,7 @@
 -- `sheet::ending` meets its contract. Each return rewrites the definition with its case and its test.
 use borrow.Author.Tests.{eq-eqb, ne-eqb}
+use native.Mathlib.Omega.{arith}
+use lib.ListN.{length}
 use Rattle.sheet.specs.Sheet.{endOf}
 use borrow.Author.Needs.{needs}
 use Rattle.sheet.proofs.ending.Statement.{statement}
@@ -14,7 +16,9 @@ enum-known-elem-2 c = search needs
 returns : tie.Need-returns
 unfolding endOf
 returns c =
-    rw (c .before .before .elem2 .given .1, ne-eqb _ _ (c .if1 .taken))
+    let e = c .before .before in
+    let s = e .before .before .before .args .s .now in
+    rw (e .elem2 .given .1, ne-eqb (e .elem2 .given .0 .1 .1 .0) (length s) (λ h. omega arith))
 
 count-of-requires : tie.Need-count-of-requires
 count-of-requires c κs = search needs
@@ -29,8 +33,9 @@ returns-2 c = rw (c .before .elem .given .1)
 returns-3 : tie.Need-returns-3
 unfolding endOf
 returns-3 c =
-    let n = c .before .before in
-    rw (n .before .before .elem2 .given .1, eq-eqb _ _ (n .if1 .left), c .before .count-of .ensures, c .count-of2 .ensures)
+    let e = c .before .before .before .before in
+    let s = e .before .before .before .args .s .now in
+    rw (e .elem2 .given .1, eq-eqb (e .elem2 .given .0 .1 .1 .0) (length s) (search needs), c .before .count-of .ensures, c .count-of2 .ensures)
 
 pub ending-spec : {M : Type 1} → statement M
 ending-spec =

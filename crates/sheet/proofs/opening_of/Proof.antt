@@ -1,6 +1,7 @@
 -- `sheet::opening_of` meets its contract. Each return rewrites the definition with what was found on the way there.
 use mathlib.Core.Path.{_∙_, sym}
 use borrow.Author.Tests.{lt-ltb, le-ltb}
+use lib.ListN.{length}
 use Rattle.rows.specs.Section.{onPlace}
 use Rattle.sheet.specs.Sheet.{opening}
 use borrow.Author.Needs.{needs}
@@ -9,7 +10,9 @@ use Rattle.sheet.proofs.opening_of.Tie as tie
 
 returns : tie.Need-returns
 unfolding opening
-returns c = rw (lt-ltb _ _ (c .if1 .taken))
+returns c =
+    let s = c .before .before .args .s .now in
+    rw (lt-ltb 65535 (length s) (search needs))
 
 slice-aggregate-read-word : tie.Need-slice-aggregate-read-word
 slice-aggregate-read-word c = search needs
@@ -27,13 +30,15 @@ returns-2 : tie.Need-returns-2
 unfolding opening onPlace
 returns-2 c =
     let w = c .before .before in
-    rw (le-ltb _ _ (w .before .before .if1 .left), ← (sym (c .enum-told .given .1) ∙ w .read-word .ensures))
+    let s = w .before .before .before .before .args .s .now in
+    rw (le-ltb 65535 (length s) (search needs), ← (sym (c .enum-told .given .1) ∙ w .read-word .ensures))
 
 returns-3 : tie.Need-returns-3
 unfolding opening onPlace
 returns-3 c =
     let w = c .before .before .before in
-    rw (le-ltb _ _ (w .before .before .if1 .left), ← (sym (c .before .p .given .1) ∙ w .read-word .ensures))
+    let s = w .before .before .before .before .args .s .now in
+    rw (le-ltb 65535 (length s) (search needs), ← (sym (c .before .p .given .1) ∙ w .read-word .ensures))
 
 pub opening-of-spec : {M : Type 1} → statement M
 opening-of-spec =
