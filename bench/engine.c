@@ -11,31 +11,29 @@
 typedef uint32_t u32;
 typedef int32_t i32;
 
-/* The class table: what each class from 0 to 30 is and on which sides ruby may lie on it. */
-#define KANA 1u     /* kana-like */
-#define WESTERN 2u  /* "Western means classes 24, 25 and 27" */
-#define SPACE 4u    /* class 26: accepted, yet neither */
-#define ACCEPTED (KANA | WESTERN | SPACE)
-#define BEFORE 8u   /* may have a blank before */
-#define AFTER 16u   /* may have a blank after */
-#define WHOLE 32u   /* the whole width is blank */
-#define QUARTER 64u /* ruby may lie on it by a quarter em, where others have half an em */
+/* A J is long to pass and so kept out of the loop over elements; strings are short, and so their loops are left as they stand. */
+#if defined(__clang__)
+#define APART __attribute__((noinline))
+#define SHORT_LOOP _Pragma("clang loop vectorize(disable) unroll(disable)")
+#elif defined(__GNUC__)
+#define APART __attribute__((noinline))
+#define SHORT_LOOP
+#else
+#define APART
+#define SHORT_LOOP
+#endif
 
-static const uint8_t class_row[31] = {
-    0,
-    KANA | BEFORE,                   /* 1 opening brackets */
-    KANA | AFTER,                    /* 2 closing brackets */
-    KANA, KANA,                      /* 3, 4 */
-    KANA | BEFORE | AFTER | QUARTER, /* 5 middle dots */
-    KANA | AFTER,                    /* 6 full stops */
-    KANA | AFTER,                    /* 7 commas */
-    KANA, KANA, KANA, KANA, KANA, KANA, /* 8 to 13 */
-    KANA | WHOLE,                    /* 14 full-width space */
-    KANA, KANA, KANA, KANA, KANA,    /* 15 to 19 */
-    0, 0, 0, 0,                      /* 20 to 23 */
-    WESTERN, WESTERN, SPACE, WESTERN, /* 24 to 27 */
-    0, 0, 0
-};
+/* The class table as sets: bit c speaks of class c. Classes past 31 are asked of no set. */
+#define CLASSES(from, to) ((0xffffffffu >> (31 - (to))) & (0xffffffffu << (from)))
+#define CLASS(c) (1u << (c))
+#define KANA CLASSES(1, 19)                          /* "Kana-like means every accepted class but 24 to 27." */
+#define WESTERN (CLASSES(24, 25) | CLASS(27))        /* "Western means classes 24, 25 and 27." */
+#define SPACE CLASS(26)
+#define ACCEPTED (CLASSES(1, 19) | CLASSES(24, 27))
+#define BEFORE (CLASS(1) | CLASS(5))                 /* "Class 1 may have a blank before; .. 5 both" */
+#define AFTER (CLASS(2) | CLASS(5) | CLASS(6) | CLASS(7))
+#define WHOLE CLASS(14)                              /* "In class 14 .. the whole width is blank." */
+#define QUARTER CLASS(5)                             /* "for class 5 a quarter em" */
 
 /* The lists of a job, counts in place of lengths. */
 struct job {
@@ -58,9 +56,12 @@ struct word {
     int by_runs; /* each ruby run stands solid over its own character */
 };
 
-/* What the line so far asks of the next element: the end of its last block, the furthest ruby end, the room on its last P. */
+/*
+ * What the line so far asks of the next element: the end of its last block and the furthest end of its rubies. Whether ruby
+ * may lie on its last element is asked only where a word follows: `plain` is that element, if a P, counted from 1.
+ */
 struct state {
-    u32 end, reach, room;
+    u32 end, reach, plain;
 };
 
 static bv_answer answer(u32 number, u32 place)
@@ -89,6 +90,7 @@ static size_t fewer(size_t a, size_t b)
 static u32 sum_of(const u32 *ws, u32 n)
 {
     u32 s = 0, i;
+    SHORT_LOOP
     for (i = 0; i < n; i++)
         s += ws[i];
     return s;
@@ -96,66 +98,76 @@ static u32 sum_of(const u32 *ws, u32 n)
 
 /* ---- The door ---- */
 
+/* Whether a class is in one of the sets above. */
+static u32 is_in(u32 set, u32 c)
+{
+    return set >> c & 1;
+}
+
+/* Number 3 of any character. */
+static int is_wrong(u32 c, u32 w)
+{
+    return c > 31 || !is_in(ACCEPTED, c) || w - 1 > 4095;
+}
+
+/* Number 4 of a character whose class is accepted. */
+static int are_wrong(u32 c, u32 w, u32 before, u32 after)
+{
+    if (before != 0 && !is_in(BEFORE, c))
+        return 1;
+    if (after != 0 && !is_in(AFTER, c))
+        return 1;
+    return before > w || after > w - before;
+}
+
 /* Numbers 3 and 4: "base characters and then ruby characters in turn, 3 before 4". */
 static bv_answer check_characters(const struct job *j)
 {
     u32 i;
     for (i = 0; i < j->bases; i++) {
         u32 c = j->class_[i], w = j->width[i], before = j->before[i], after = j->after[i];
-        if (c > 30 || !(class_row[c] & ACCEPTED) || w - 1 > 4095 || j->flag[i] > 1)
+        if (is_wrong(c, w) || j->flag[i] > 1)
             return answer(3, i);
-        if ((before | after) != 0) {
-            u32 row = class_row[c];
-            if (before != 0 && !(row & BEFORE))
-                return answer(4, i);
-            if (after != 0 && !(row & AFTER))
-                return answer(4, i);
-            if (before > w || after > w - before)
-                return answer(4, i);
-        }
+        if ((before | after) != 0 && are_wrong(c, w, before, after))
+            return answer(4, i);
     }
-    for (i = 0; i < j->rubies; i++) {
-        u32 c = j->rclass[i];
-        if (c > 30 || !(class_row[c] & ACCEPTED) || j->rwidth[i] - 1 > 4095)
+    for (i = 0; i < j->rubies; i++)
+        if (is_wrong(j->rclass[i], j->rwidth[i]))
             return answer(3, 1024 + i);
-    }
     return answer(0, 0);
 }
 
-/* "class 26, or Western and kana-like mixed" */
-static int is_mixed(u32 kinds)
+/* The set of a string's classes. */
+static u32 classes_of(const u32 *classes, u32 n)
 {
-    return (kinds & SPACE) || (kinds & ACCEPTED) == (KANA | WESTERN);
+    u32 set = 0, i;
+    SHORT_LOOP
+    for (i = 0; i < n; i++)
+        set |= CLASS(classes[i]);
+    return set;
 }
 
-static u32 kinds_of(const u32 *classes, u32 n)
+/* Number 9: "class 26, or Western and kana-like mixed". */
+static int is_mixed(u32 set)
 {
-    u32 kinds = 0, i;
-    for (i = 0; i < n; i++)
-        kinds |= class_row[classes[i]];
-    return kinds;
-}
-
-/* Number 7: "a blank field not 0 inside M, G or J". */
-static u32 blanks_in(const struct job *j, u32 b, u32 n)
-{
-    u32 any = 0, i;
-    for (i = 0; i < n; i++)
-        any |= j->before[b + i] | j->after[b + i];
-    return any;
+    return (set & SPACE) || ((set & KANA) && (set & WESTERN));
 }
 
 /* Numbers 7, 9 and 10 of a G. */
 static u32 check_group(const struct job *j, u32 b, u32 n, u32 r, u32 m)
 {
-    u32 base, ruby;
-    if (blanks_in(j, b, n))
+    u32 blanks = 0, base = 0, ruby, i;
+    SHORT_LOOP
+    for (i = b; i < b + n; i++) {
+        blanks |= j->before[i] | j->after[i];
+        base |= CLASS(j->class_[i]);
+    }
+    if (blanks)
         return 7;
-    base = kinds_of(j->class_ + b, n);
-    ruby = kinds_of(j->rclass + r, m);
+    ruby = classes_of(j->rclass + r, m);
     if (is_mixed(base) || is_mixed(ruby))
         return 9;
-    if (base & ruby & WESTERN)
+    if ((base & WESTERN) && (ruby & WESTERN))
         return 10;
     return 0;
 }
@@ -163,16 +175,18 @@ static u32 check_group(const struct job *j, u32 b, u32 n, u32 r, u32 m)
 /* Numbers 7, 8 and 9 of a J. */
 static u32 check_jukugo(const struct job *j, u32 b, u32 n, u32 r, u32 m)
 {
-    u32 kinds = 0, other = 0, i;
-    if (blanks_in(j, b, n))
-        return 7;
-    for (i = 0; i < n; i++) {
-        kinds |= class_row[j->class_[b + i]];
-        other |= j->width[b + i] ^ j->em;
+    u32 blanks = 0, set = 0, other = 0, i;
+    SHORT_LOOP
+    for (i = b; i < b + n; i++) {
+        blanks |= j->before[i] | j->after[i];
+        set |= CLASS(j->class_[i]);
+        other |= j->width[i] ^ j->em;
     }
-    if ((kinds & (WESTERN | SPACE)) || other)
+    if (blanks)
+        return 7;
+    if ((set & ~KANA) || other)
         return 8;
-    if (is_mixed(kinds_of(j->rclass + r, m)))
+    if (is_mixed(classes_of(j->rclass + r, m)))
         return 9;
     return 0;
 }
@@ -197,13 +211,14 @@ static bv_answer check_elements(const struct job *j)
 {
     u32 b = 0, r = 0, u = 0, k;
     for (k = 0; k < j->elements; k++) {
-        u32 n = 1, m, why;
-        switch (j->kind[k]) {
-        case BV_P:
+        u32 kind = j->kind[k], n = 1, m, why;
+        if (kind == BV_P) {
             if (b == j->bases)
                 return answer(6, k);
             b++;
             continue;
+        }
+        switch (kind) {
         case BV_M:
             m = j->eruby[k];
             if (m - 1 > 63)
@@ -292,59 +307,74 @@ static void mono(struct word *w, const struct job *j, u32 b, u32 r, u32 m)
 /* A G, or a J with a run longer than one em. After the door the first character of a string speaks for it. */
 static void group(struct word *w, const struct job *j, u32 b, u32 n, u32 r, u32 m)
 {
-    int over = class_row[j->rclass[r]] & WESTERN, under = class_row[j->class_[b]] & WESTERN;
+    u32 over = is_in(WESTERN, j->rclass[r]), under = is_in(WESTERN, j->class_[b]);
     int ruby = over ? SOLID : under ? SPREAD : LIMITED;
     int base = under ? SOLID : SPREAD;
     word_by(w, ruby, base, j->em, sum_of(j->width + b, n), n, sum_of(j->rwidth + r, m), m);
 }
 
-/* "J: if no run is longer than one em, each run is solid over its own character." */
-static void jukugo(struct word *w, const struct job *j, u32 b, u32 n, u32 r, u32 m, u32 u)
+/* "J: if no run is longer than one em, each run is solid over its own character." Returns how many ruby characters it has. */
+static u32 jukugo(struct word *w, const struct job *j, u32 b, u32 n, u32 r, u32 u)
 {
+    const u32 em = j->em;
     u32 at = r, first = 0, last = 0, i;
     for (i = 0; i < n; i++) {
-        last = sum_of(j->rwidth + at, j->runs[u + i]);
-        if (last > j->em) {
-            group(w, j, b, n, r, m);
-            return;
+        u32 run = j->runs[u + i];
+        last = sum_of(j->rwidth + at, run);
+        if (last > em) {
+            run = sum_of(j->runs + u, n);
+            group(w, j, b, n, r, run);
+            return run;
         }
         if (i == 0)
             first = last;
-        at += j->runs[u + i];
+        at += run;
     }
     w->by_runs = 1;
     w->inbase = w->inruby = w->front = 0;
-    w->len = 2 * n * j->em; /* each of its characters is one em wide */
-    w->from = j->em - first;
-    w->upto = w->len - (j->em - last);
+    w->len = 2 * n * em; /* each of its characters is one em wide */
+    w->from = em - first;
+    w->upto = w->len - (em - last);
+    return at - r;
 }
 
-/* "A J cut by a line end is two words: a part of one character is set as M, a part of more as J." */
-static void part(struct word *w, const struct job *j, u32 b, u32 n, u32 r, u32 m, u32 u)
+/*
+ * A J or a part of one: "a part of one character is set as M, a part of more as J". A whole J of one character is the same
+ * set either way. Returns how many ruby characters it has.
+ */
+static u32 part(struct word *w, const struct job *j, u32 b, u32 n, u32 r, u32 u)
 {
-    if (n == 1)
-        mono(w, j, b, r, m);
-    else
-        jukugo(w, j, b, n, r, m, u);
+    if (n > 1)
+        return jukugo(w, j, b, n, r, u);
+    mono(w, j, b, r, j->runs[u]);
+    return j->runs[u];
 }
 
 /* ---- Level two: the four rules of clearance ---- */
 
-/* A P after the line so far; its origin. A depth is at most the width, so only two bounds are left of the four. */
+/* How deep ruby may lie on the P character b, of whose classes `side` may have a blank of this many units there. */
+static u32 depth_of(const struct job *j, u32 b, u32 side, u32 blank)
+{
+    u32 c = j->class_[b], most = is_in(QUARTER, c) ? j->em / 2 : j->em;
+    if (is_in(WHOLE, c))
+        return smaller(2 * j->width[b], most);
+    return is_in(side, c) ? smaller(2 * blank, most) : 0;
+}
+
+/*
+ * The P character b after the line so far; its origin. A depth is at most the width, so of the four bounds two are left; the
+ * one by ruby is asked only where ruby reaches past the last block.
+ */
 static u32 place_plain(struct state *st, const struct job *j, u32 b)
 {
-    u32 row = class_row[j->class_[b]], len = 2 * j->width[b], at = st->end, room = 0;
-    i32 reach = (i32)st->reach;
-    if (row & (BEFORE | AFTER | WHOLE)) {
-        u32 most = row & QUARTER ? j->em / 2 : j->em;
-        u32 front = row & WHOLE ? len : 2 * j->before[b];
-        reach -= (i32)smaller(front, most);
-        room = smaller(row & WHOLE ? len : 2 * j->after[b], most);
+    u32 at = st->end;
+    if (st->reach > at) {
+        i32 bound = (i32)st->reach - (i32)depth_of(j, b, BEFORE, j->before[b]);
+        if (bound > (i32)at)
+            at = (u32)bound;
     }
-    if (reach > (i32)at)
-        at = (u32)reach;
-    st->end = at + len;
-    st->room = room;
+    st->end = at + 2 * j->width[b];
+    st->plain = b + 1;
     return at;
 }
 
@@ -352,16 +382,17 @@ static u32 place_plain(struct state *st, const struct job *j, u32 b)
  * A word with ruby after the line so far; its origin. A line is left once it passes the measure, so no position here passes
  * 8,000,000 half units by more than one word's length, and number 14 cannot arise.
  */
-static u32 place_word(struct state *st, const struct word *w)
+static u32 place_word(struct state *st, const struct job *j, const struct word *w)
 {
+    u32 room = st->plain ? depth_of(j, st->plain - 1, AFTER, j->after[st->plain - 1]) : 0;
     i32 block = (i32)larger(st->end, st->reach) - (i32)w->front;
-    i32 ruby = (i32)larger(st->reach, st->end - st->room) - (i32)w->from;
+    i32 ruby = (i32)larger(st->reach, st->end - room) - (i32)w->from;
     i32 at = block < ruby ? ruby : block;
     if (at < 0)
         at = 0;
     st->end = (u32)at + w->front + w->len;
     st->reach = (u32)at + w->upto;
-    st->room = 0;
+    st->plain = 0;
     return (u32)at;
 }
 
@@ -372,87 +403,111 @@ static int fits(const struct state *st, u32 limit)
 
 /* ---- Filling ---- */
 
-/* The furthest inner break of the J before c whose line can be set, or 0. The line has it from base character b, ruby r, run u on. */
-static u32 within_jukugo(const struct job *j, struct state st, u32 b, u32 c, u32 r, u32 m, u32 u)
+/* What the line from s has of the J at a cursor: its first base and ruby character and run, and how many base characters. */
+struct rest {
+    u32 b, n, r, u;
+};
+
+static struct rest rest_of(const struct job *j, u32 s, const struct cursor *at)
+{
+    struct rest p;
+    u32 skipped = at->b < s ? s - at->b : 0;
+    p.b = at->b + skipped;
+    p.n = j->ebase[at->k] - skipped;
+    p.r = at->r + sum_of(j->runs + at->u, skipped);
+    p.u = at->u + skipped;
+    return p;
+}
+
+/* The furthest inner break of a J whose line can be set, or 0. Each is a try, from the last on. */
+APART static u32 within_jukugo(const struct job *j, const struct state *st, struct rest p)
 {
     struct word w;
-    u32 n;
-    for (n = c - b - 1; n > 0; n--) {
-        struct state next = st;
-        m -= j->runs[u + n];
-        part(&w, j, b, n, r, m, u);
-        place_word(&next, &w);
+    while (p.n > 1) {
+        struct state next = *st;
+        p.n--;
+        part(&w, j, p.b, p.n, p.r, p.u);
+        place_word(&next, j, &w);
         if (fits(&next, j->limit))
-            return b + n;
+            return p.b + p.n;
     }
     return 0;
 }
 
 /*
+ * The J at a cursor: the state after it goes to `st`, the cursor goes behind it. Returns its furthest break whose line can
+ * be set, or 0; `from` becomes where the next line would begin.
+ */
+APART static u32 pass_jukugo(const struct job *j, u32 s, struct cursor *at, struct state *st, struct cursor *from)
+{
+    const struct cursor here = *at;
+    const struct state before = *st;
+    const struct rest p = rest_of(j, s, at);
+    struct word w;
+    u32 inner;
+    at->k++;
+    at->b = p.b + p.n;
+    at->r = p.r + part(&w, j, p.b, p.n, p.r, p.u);
+    at->u = p.u + p.n;
+    place_word(st, j, &w);
+    if (fits(st, j->limit) && (j->flag[at->b - 1] || at->b == j->bases)) {
+        *from = *at;
+        return at->b;
+    }
+    inner = within_jukugo(j, &before, p);
+    if (inner)
+        *from = here;
+    return inner;
+}
+
+/*
  * Where the line from s ends: "the furthest permitted break whose line can be set", or 0. `from` is where the line begins,
- * in the element that holds s, and becomes where the next one does.
+ * before the element that holds s, and becomes where the next one does.
  */
 static u32 line_end(const struct job *j, u32 s, struct cursor *from)
 {
     struct cursor at = *from;
     struct state st = {0, 0, 0};
-    struct word w;
     u32 best = 0;
     while (at.k < j->elements) {
-        u32 n = 1, m = 0, runs = 0, i = 0, passed = 0, end;
-        int fit;
-        struct state next = st;
-        switch (j->kind[at.k]) {
-        case BV_P:
-            place_plain(&next, j, at.b);
-            break;
-        case BV_M:
-            m = j->eruby[at.k];
+        u32 kind = j->kind[at.k];
+        if (kind == BV_J) {
+            struct cursor behind = at; /* copies, so that `at` and `st` can stay in registers */
+            struct state next = st;
+            u32 found = pass_jukugo(j, s, &behind, &next, from);
+            if (found)
+                best = found;
+            at = behind;
+            st = next;
+            if (!fits(&st, j->limit))
+                return best;
+            continue;
+        }
+        if (kind == BV_P) {
+            place_plain(&st, j, at.b);
+            at.b++;
+        } else if (kind == BV_M) {
+            struct word w;
+            u32 m = j->eruby[at.k];
             mono(&w, j, at.b, at.r, m);
-            place_word(&next, &w);
-            break;
-        case BV_G:
-            n = j->ebase[at.k];
-            m = j->eruby[at.k];
+            place_word(&st, j, &w);
+            at.b++;
+            at.r += m;
+        } else {
+            struct word w;
+            u32 n = j->ebase[at.k], m = j->eruby[at.k];
             group(&w, j, at.b, n, at.r, m);
-            place_word(&next, &w);
-            break;
-        default:
-            runs = n = j->ebase[at.k];
-            m = sum_of(j->runs + at.u, n);
-            if (at.b < s) {
-                i = s - at.b;
-                passed = sum_of(j->runs + at.u, i);
-            }
-            if (i)
-                part(&w, j, s, n - i, at.r + passed, m - passed, at.u + i);
-            else
-                jukugo(&w, j, at.b, n, at.r, m, at.u);
-            place_word(&next, &w);
-            break;
+            place_word(&st, j, &w);
+            at.b += n;
+            at.r += m;
         }
-        end = at.b + n;
-        fit = fits(&next, j->limit);
-        if (fit && (j->flag[end - 1] || end == j->bases)) {
-            best = end;
-            from->k = at.k + 1;
-            from->b = end;
-            from->r = at.r + m;
-            from->u = at.u + runs;
-        } else if (runs) {
-            u32 inner = within_jukugo(j, st, at.b + i, end, at.r + passed, m - passed, at.u + i);
-            if (inner) {
-                best = inner;
-                *from = at;
-            }
-        }
-        if (!fit)
-            return best;
-        st = next;
         at.k++;
-        at.b = end;
-        at.r += m;
-        at.u += runs;
+        if (!fits(&st, j->limit))
+            return best;
+        if (j->flag[at.b - 1] || at.b == j->bases) {
+            best = at.b;
+            *from = at;
+        }
     }
     return best;
 }
@@ -474,23 +529,30 @@ static bv_answer fill_lines(const struct job *j, u32 *ends)
 
 /* ---- Writing ---- */
 
-/* The starts of a string: the first at `at`, with `within` half units of space within the string. */
-static void put_starts(const u32 *ws, u32 n, u32 at, u32 within, u32 *out)
+/* The starts of a string without space within it, the first at `at`. */
+static void put_solid(const u32 *ws, u32 n, u32 at, u32 *out)
 {
     u32 i;
+    SHORT_LOOP
+    for (i = 0; i < n; i++) {
+        out[i] = at;
+        at += 2 * ws[i];
+    }
+}
+
+/* The same with `within` half units of space within the string. Where there is any, there are two characters or more. */
+static void put_starts(const u32 *ws, u32 n, u32 at, u32 within, u32 *out)
+{
+    u32 share = 0, i;
     if (within == 0) {
-        for (i = 0; i < n; i++) {
-            out[i] = at;
-            at += 2 * ws[i];
-        }
-    } else {
-        /* There is space within, so there are two characters or more. */
-        u32 parts = n - 1, share = 0;
-        for (i = 0; i < n; i++) {
-            out[i] = at + share / parts;
-            at += 2 * ws[i];
-            share += within;
-        }
+        put_solid(ws, n, at, out);
+        return;
+    }
+    SHORT_LOOP
+    for (i = 0; i < n; i++) {
+        out[i] = at + share / (n - 1);
+        at += 2 * ws[i];
+        share += within;
     }
 }
 
@@ -506,7 +568,7 @@ static void put_word(const struct job *j, const struct word *w, u32 at, u32 b, u
         u32 i;
         for (i = 0; i < n; i++) {
             u32 run = j->runs[u + i];
-            put_starts(j->rwidth + r, run, at + j->em - sum_of(j->rwidth + r, run), 0, to->ruby + r);
+            put_solid(j->rwidth + r, run, at + j->em - sum_of(j->rwidth + r, run), to->ruby + r);
             r += run;
             at += 2 * j->em;
         }
@@ -515,54 +577,63 @@ static void put_word(const struct job *j, const struct word *w, u32 at, u32 b, u
     }
 }
 
-/* The line from s up to e. A J that e cuts is not passed: it goes on in the next line. */
-static void write_line(const struct job *j, u32 s, u32 e, struct cursor *at, const struct results *to)
+/* What the line from s up to e has of the J at a cursor. A J that e cuts is not passed: it goes on in the next line. */
+static void write_jukugo(const struct job *j, u32 s, u32 e, struct cursor *at, struct state *st,
+                               const struct results *to)
 {
-    struct state st = {0, 0, 0};
+    const struct rest p = rest_of(j, s, at);
+    const u32 n = smaller(p.n, e - p.b);
     struct word w;
-    while (at->b < e) {
-        u32 n = 1, m = 0, runs = 0;
-        switch (j->kind[at->k]) {
-        case BV_P:
-            to->base[at->b] = place_plain(&st, j, at->b);
-            break;
-        case BV_M:
-            m = j->eruby[at->k];
-            mono(&w, j, at->b, at->r, m);
-            put_word(j, &w, place_word(&st, &w), at->b, 1, at->r, m, 0, to);
-            break;
-        case BV_G:
-            n = j->ebase[at->k];
-            m = j->eruby[at->k];
-            group(&w, j, at->b, n, at->r, m);
-            put_word(j, &w, place_word(&st, &w), at->b, n, at->r, m, 0, to);
-            break;
-        default: {
-            u32 first = larger(s, at->b), last, skip, r, own, u;
-            runs = n = j->ebase[at->k];
-            m = sum_of(j->runs + at->u, n);
-            last = smaller(e, at->b + n);
-            skip = sum_of(j->runs + at->u, first - at->b);
-            r = at->r + skip;
-            u = at->u + (first - at->b);
-            if (last - first < n) {
-                own = sum_of(j->runs + u, last - first);
-                part(&w, j, first, last - first, r, own, u);
-            } else {
-                own = m;
-                jukugo(&w, j, first, n, r, m, u);
-            }
-            put_word(j, &w, place_word(&st, &w), first, last - first, r, own, u, to);
-            if (e < at->b + n)
-                return;
-            break;
+    u32 m = part(&w, j, p.b, n, p.r, p.u);
+    put_word(j, &w, place_word(st, j, &w), p.b, n, p.r, m, p.u, to);
+    if (n < p.n)
+        return;
+    at->k++;
+    at->b = p.b + n;
+    at->r = p.r + m;
+    at->u = p.u + n;
+}
+
+/* The line from s up to e, which begins at the cursor; the cursor goes to where the next line begins. */
+static void write_line(const struct job *j, u32 s, u32 e, struct cursor *from, const struct results *to)
+{
+    struct cursor at = *from;
+    struct state st = {0, 0, 0};
+    while (at.b < e) {
+        u32 kind = j->kind[at.k];
+        if (kind == BV_J) {
+            struct cursor behind = at;
+            struct state next = st;
+            write_jukugo(j, s, e, &behind, &next, to);
+            if (behind.k == at.k)
+                break;
+            at = behind;
+            st = next;
+            continue;
         }
+        if (kind == BV_P) {
+            to->base[at.b] = place_plain(&st, j, at.b);
+            at.b++;
+        } else if (kind == BV_M) {
+            struct word w;
+            u32 m = j->eruby[at.k], origin;
+            mono(&w, j, at.b, at.r, m);
+            origin = place_word(&st, j, &w);
+            to->base[at.b] = origin + w.front;
+            put_solid(j->rwidth + at.r, m, origin + w.from, to->ruby + at.r);
+            at.b++;
+            at.r += m;
+        } else {
+            struct word w;
+            u32 n = j->ebase[at.k], m = j->eruby[at.k];
+            group(&w, j, at.b, n, at.r, m);
+            put_word(j, &w, place_word(&st, j, &w), at.b, n, at.r, m, 0, to);
+            at.b += n;
+            at.r += m;
         }
-        at->k++;
-        at->b += n;
-        at->r += m;
-        at->u += runs;
+        at.k++;
     }
+    *from = at;
 }
 
 static void write_lines(const struct job *j, const u32 *ends, u32 n, const struct results *to)

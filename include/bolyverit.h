@@ -16,9 +16,9 @@
  *   - a stack of 1 megabyte is free.
  * Nothing else is asked: any numbers in the lists and any lengths are answered.
  *
- * What is proved, for every call that keeps the above: the answer and the three result lists are those of the definition
- * `outcome` (crates/job/specs/Outcome.antt), refusals included; the call ends, reads and writes nothing outside its lists,
- * and no sum in it wraps.
+ * What is proved of bv_set_job, for every call that keeps the above: the answer and the three result lists are those of the
+ * definition `outcome` (crates/job/specs/Outcome.antt), refusals included; the call ends, reads and writes nothing outside its
+ * lists, and no sum in it wraps.
  */
 #ifndef BOLYVERIT_H
 #define BOLYVERIT_H
