@@ -1,0 +1,8 @@
+/* For the kit's clang, which brings no headers: the types that bolyverit.h needs. */
+#ifndef KIT_STDINT_H
+#define KIT_STDINT_H
+typedef __UINT8_TYPE__ uint8_t;
+typedef __INT32_TYPE__ int32_t;
+typedef __UINT32_TYPE__ uint32_t;
+typedef __UINT64_TYPE__ uint64_t;
+#endif

@@ -1,0 +1,308 @@
+/*
+ * The job sheet in plain C: bv_set_sheet over bv_set_job. It lets the C engine of this folder be compared with the second
+ * program, byte for byte, before it is measured. Sentences in quotation marks are document 01's.
+ */
+#include "bolyverit.h"
+
+#define LARGEST_SHEET 65535
+#define MOST_RUNS 32768 /* more than 65,535 bytes can hold */
+
+typedef uint32_t u32;
+
+/* "The reader of a sheet holds the sheet's bytes and its own place in them." */
+struct reader {
+    const uint8_t *bytes;
+    size_t length, at;
+    u32 line; /* the line that is being read, from 1 */
+};
+
+/* What a sheet says. */
+struct lists {
+    u32 em, measure;
+    u32 bases, rubies, elements, runs;
+    u32 class_[BV_MOST_BASE], width[BV_MOST_BASE], before[BV_MOST_BASE], after[BV_MOST_BASE], flag[BV_MOST_BASE];
+    u32 rclass[BV_MOST_RUBY], rwidth[BV_MOST_RUBY];
+    u32 kind[BV_MOST_ELEMENTS], ebase[BV_MOST_ELEMENTS], eruby[BV_MOST_ELEMENTS];
+    u32 run[MOST_RUNS];
+};
+
+/* Whether the next byte is c, which is then passed. */
+static int is_next(struct reader *r, uint8_t c)
+{
+    if (r->at < r->length && r->bytes[r->at] == c) {
+        r->at++;
+        return 1;
+    }
+    return 0;
+}
+
+static int is_word(struct reader *r, const char *word)
+{
+    for (; *word; word++)
+        if (!is_next(r, (uint8_t)*word))
+            return 0;
+    return 1;
+}
+
+/* "decimal without leading zeros and at most 4,294,967,295" */
+static int is_number(struct reader *r, u32 *number)
+{
+    uint64_t value = 0;
+    size_t from = r->at;
+    while (r->at < r->length && r->bytes[r->at] >= '0' && r->bytes[r->at] <= '9') {
+        value = 10 * value + (u32)(r->bytes[r->at] - '0');
+        if (value > 4294967295u)
+            return 0;
+        r->at++;
+    }
+    if (r->at == from || (r->bytes[from] == '0' && r->at > from + 1))
+        return 0;
+    *number = (u32)value;
+    return 1;
+}
+
+/* A single space and a number. */
+static int is_field(struct reader *r, u32 *number)
+{
+    return is_next(r, ' ') && is_number(r, number);
+}
+
+static int ends_line(struct reader *r)
+{
+    if (!is_next(r, '\n'))
+        return 0;
+    r->line++;
+    return 1;
+}
+
+static bv_answer refused(u32 number, u32 place)
+{
+    bv_answer a;
+    a.number = number;
+    a.place = place;
+    return a;
+}
+
+/* "Sections in a fixed order, each after its count"; "within a line form comes before count". */
+static bv_answer read_count(struct reader *r, const char *word, u32 most, u32 place, u32 *count)
+{
+    u32 line = r->line;
+    if (!is_word(r, word) || !is_field(r, count) || !ends_line(r))
+        return refused(13, line);
+    return *count > most ? refused(2, place) : refused(0, 0);
+}
+
+static int reads_base(struct reader *r, struct lists *s, u32 i)
+{
+    return is_number(r, &s->class_[i]) && is_field(r, &s->width[i]) && is_field(r, &s->before[i])
+        && is_field(r, &s->after[i]) && is_field(r, &s->flag[i]) && ends_line(r);
+}
+
+static int reads_ruby(struct reader *r, struct lists *s, u32 i)
+{
+    return is_number(r, &s->rclass[i]) && is_field(r, &s->rwidth[i]) && ends_line(r);
+}
+
+/* "`P`, `M r`, `G b r`, `J b` and b run lengths, b from 1 to 32" */
+static int reads_element(struct reader *r, struct lists *s, u32 i)
+{
+    u32 n;
+    s->ebase[i] = s->eruby[i] = 0;
+    if (r->at == r->length)
+        return 0;
+    s->kind[i] = r->bytes[r->at++];
+    switch (s->kind[i]) {
+    case BV_P:
+        return ends_line(r);
+    case BV_M:
+        return is_field(r, &s->eruby[i]) && ends_line(r);
+    case BV_G:
+        return is_field(r, &s->ebase[i]) && is_field(r, &s->eruby[i]) && ends_line(r);
+    case BV_J:
+        if (!is_field(r, &s->ebase[i]) || s->ebase[i] - 1 > 31)
+            return 0;
+        for (n = 0; n < s->ebase[i]; n++)
+            if (!is_field(r, &s->run[s->runs++]))
+                return 0;
+        return ends_line(r);
+    default:
+        return 0;
+    }
+}
+
+/* "The sheet is read top to bottom and the first fault met .. is given". */
+static bv_answer read_sheet(struct reader *r, struct lists *s)
+{
+    bv_answer a;
+    u32 i;
+    s->runs = 0;
+    if (!is_word(r, "set 2") || !ends_line(r))
+        return refused(13, r->line);
+    if (!is_number(r, &s->em) || !ends_line(r))
+        return refused(13, r->line);
+    if (!is_number(r, &s->measure) || !ends_line(r))
+        return refused(13, r->line);
+    a = read_count(r, "base", BV_MOST_BASE, 0, &s->bases);
+    if (a.number)
+        return a;
+    for (i = 0; i < s->bases; i++)
+        if (!reads_base(r, s, i))
+            return refused(13, r->line);
+    a = read_count(r, "ruby", BV_MOST_RUBY, 1, &s->rubies);
+    if (a.number)
+        return a;
+    for (i = 0; i < s->rubies; i++)
+        if (!reads_ruby(r, s, i))
+            return refused(13, r->line);
+    a = read_count(r, "elem", BV_MOST_ELEMENTS, 2, &s->elements);
+    if (a.number)
+        return a;
+    for (i = 0; i < s->elements; i++)
+        if (!reads_element(r, s, i))
+            return refused(13, r->line);
+    return r->at < r->length ? refused(13, r->line) : refused(0, 0);
+}
+
+/* Text, written from the front of a buffer that is large enough. */
+struct text {
+    uint8_t *bytes;
+    size_t length;
+};
+
+static void put_word(struct text *t, const char *word)
+{
+    for (; *word; word++)
+        t->bytes[t->length++] = (uint8_t)*word;
+}
+
+static void put_number(struct text *t, u32 n)
+{
+    uint8_t digits[10];
+    int i = 0;
+    do {
+        digits[i++] = (uint8_t)('0' + n % 10);
+        n /= 10;
+    } while (n);
+    while (i)
+        t->bytes[t->length++] = digits[--i];
+}
+
+static void put_row(struct text *t, const char *word, u32 a, u32 b)
+{
+    put_word(t, word);
+    put_number(t, a);
+    put_word(t, " ");
+    put_number(t, b);
+    put_word(t, "\n");
+}
+
+/* The part of an element in one line: base characters [b, c), ruby characters [r, q). */
+struct span {
+    u32 b, c, r, q;
+};
+
+/* Where the walk over the elements stands: in element k, `in` of its base characters already in earlier lines. */
+struct walk {
+    u32 k, in, b, r, u;
+};
+
+/* The next part, up to the line's end e at most. Only a J is ever cut. */
+static struct span next_part(const struct lists *s, struct walk *at, u32 e)
+{
+    struct span p;
+    u32 n = 1, i;
+    p.b = at->b;
+    p.r = at->r;
+    switch (s->kind[at->k]) {
+    case BV_P:
+        break;
+    case BV_M:
+        at->r += s->eruby[at->k];
+        break;
+    case BV_G:
+        n = s->ebase[at->k];
+        at->r += s->eruby[at->k];
+        break;
+    default:
+        n = s->ebase[at->k] - at->in;
+        if (n > e - at->b)
+            n = e - at->b;
+        for (i = 0; i < n; i++)
+            at->r += s->run[at->u++];
+        at->in += n;
+        if (at->in < s->ebase[at->k]) {
+            p.c = at->b += n;
+            p.q = at->r;
+            return p; /* it goes on in the next line */
+        }
+        break;
+    }
+    at->k++;
+    at->in = 0;
+    p.c = at->b += n;
+    p.q = at->r;
+    return p;
+}
+
+/* "The line's extent is the furthest end of any block or ruby in it." */
+static u32 extent_of(const struct lists *s, u32 b, u32 c, u32 r, u32 q, const u32 *base, const u32 *ruby)
+{
+    u32 extent = 0, i;
+    for (i = b; i < c; i++)
+        if (extent < base[i] + 2 * s->width[i])
+            extent = base[i] + 2 * s->width[i];
+    for (i = r; i < q; i++)
+        if (extent < ruby[i] + 2 * s->rwidth[i])
+            extent = ruby[i] + 2 * s->rwidth[i];
+    return extent;
+}
+
+static void put_result(struct text *t, const struct lists *s, u32 count, const u32 *base, const u32 *ruby,
+                       const u32 *lines)
+{
+    struct walk at = {0, 0, 0, 0, 0};
+    u32 l, i;
+    put_word(t, "lines ");
+    put_number(t, count);
+    put_word(t, "\n");
+    for (l = 0; l < count; l++) {
+        struct walk ahead = at;
+        while (ahead.b < lines[l])
+            next_part(s, &ahead, lines[l]);
+        put_word(t, "line ");
+        put_number(t, extent_of(s, at.b, ahead.b, at.r, ahead.r, base, ruby));
+        put_word(t, "\n");
+        while (at.b < lines[l]) {
+            struct span p = next_part(s, &at, lines[l]);
+            for (i = p.b; i < p.c; i++)
+                put_row(t, "b ", i, base[i]);
+            for (i = p.r; i < p.q; i++)
+                put_row(t, "r ", i, ruby[i]);
+        }
+    }
+}
+
+size_t bv_set_sheet(const uint8_t *sheet, size_t length, uint8_t *out)
+{
+    static struct lists s;
+    static u32 base[BV_MOST_BASE], ruby[BV_MOST_RUBY], lines[BV_MOST_BASE];
+    struct reader r;
+    struct text t;
+    bv_answer a;
+    r.bytes = sheet;
+    r.length = length;
+    r.at = 0;
+    r.line = 1;
+    t.bytes = out;
+    t.length = 0;
+    a = length > LARGEST_SHEET ? refused(13, 0) : read_sheet(&r, &s);
+    if (a.number == 0)
+        a = bv_set_job(s.em, s.measure, s.class_, s.bases, s.width, s.bases, s.before, s.bases, s.after, s.bases, s.flag,
+                       s.bases, s.rclass, s.rubies, s.rwidth, s.rubies, s.kind, s.elements, s.ebase, s.elements, s.eruby,
+                       s.elements, s.run, s.runs, base, BV_MOST_BASE, ruby, BV_MOST_RUBY, lines, BV_MOST_BASE);
+    if (a.number)
+        put_row(&t, "refused ", a.number, a.place);
+    else
+        put_result(&t, &s, a.place, base, ruby, lines);
+    return t.length;
+}

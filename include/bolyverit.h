@@ -1,0 +1,119 @@
+/*
+ * Bolyverit for C and C++: ruby is set by a proved engine.
+ *
+ * Link with target/staticlib/libexports.a (written by `rt staticlib exports`), on x86-64 Linux. The header is plain C89 but
+ * for <stdint.h>, which C99 and C++11 have; a C89 compiler without it needs the types uint8_t and uint32_t declared before.
+ *
+ * All numbers are those of the scope document ("document 01"): widths are whole units, positions are half units from the
+ * start of the line, places count from 0 except where the document says "line from 1".
+ *
+ * What a caller must guarantee, since no proof can see it:
+ *   - each pointer is not null and is aligned for its type, also where its length is 0, and may be read (or, for the lists
+ *     that are not const, read and written) for the length that follows it;
+ *   - no list that is written shares memory with any other list of the same call; lists that are only read may be the same;
+ *   - nothing else writes these lists while the call runs. Calls on different lists may run at the same time: there is no
+ *     state between calls, no heap and no file;
+ *   - a stack of 1 megabyte is free.
+ * Nothing else is asked: any numbers in the lists and any lengths are answered.
+ *
+ * What is proved of bv_set_job, for every call that keeps the above: the answer and the three result lists are those of the
+ * definition `outcome` (crates/job/specs/Outcome.antt), refusals included; the call ends, reads and writes nothing outside its
+ * lists, and no sum in it wraps.
+ */
+#ifndef BOLYVERIT_H
+#define BOLYVERIT_H
+
+#include <stddef.h>
+#include <stdint.h>
+
+#ifdef __cplusplus
+extern "C" {
+#endif
+
+/* "At most 1,024 base characters, 2,048 ruby characters, 1,024 elements." */
+#define BV_MOST_BASE 1024
+#define BV_MOST_RUBY 2048
+#define BV_MOST_ELEMENTS 1024
+
+/* How a kind is written in the list of kinds: the byte of the sheet's letter. */
+#define BV_P 80
+#define BV_M 77
+#define BV_G 71
+#define BV_J 74
+
+/* The numbers of the refusal list. */
+#define BV_SET 0            /* not refused */
+#define BV_RANGE 1          /* em odd, or em or measure out of range; 0 em, 1 measure */
+#define BV_COUNT 2          /* a count over its maximum; 0 base, 1 ruby, 2 elements */
+#define BV_CHARACTER 3      /* class, width or flag not accepted; the character, ruby ones 1,024 + index */
+#define BV_BLANKS 4         /* blanks against the class or over the width; the character */
+#define BV_ELEMENT 5        /* unknown kind, or element counts out of range; the element */
+#define BV_SUPPLY 6         /* characters run out, or are left over; the element, or the element count */
+#define BV_BLANK_INSIDE 7   /* a blank field not 0 inside M, G or J; the element */
+#define BV_JUKUGO_BASE 8    /* a J base character not kana-like or not one em wide; the element */
+#define BV_MIXED 9          /* class 26, or Western and kana-like mixed, in G or J; the element */
+#define BV_WESTERN_OVER 10  /* Western ruby over Western base in G; the element */
+#define BV_NO_BREAK 11      /* no permitted break gives a line that can be set; its first base character */
+#define BV_SHORT 12         /* a result list too short; 0 */
+#define BV_FORM 13          /* a job sheet breaks its form; the line from 1, 0 if over 65,535 bytes */
+#define BV_FAR 14           /* a position would pass 4,294,967,295; the line's first base character */
+
+/* number 0: the job is set, and place is the number of its lines. Otherwise the refusal's number and its place. */
+typedef struct bv_answer {
+    uint32_t number;
+    uint32_t place;
+} bv_answer;
+
+/*
+ * Sets a job that is given in lists, each followed by its length in entries.
+ *
+ *   em, measure                        the size of a base character and the measure, in units
+ *   class_, width, before, after, flag the fields of the base characters
+ *   rclass, rwidth                     the fields of the ruby characters
+ *   kind, ebase, eruby                 the fields of the elements: BV_P, BV_M, BV_G or BV_J, base count, ruby count
+ *   runs                               the J runs, one after the other
+ *   base, ruby                         result: a position for each base and each ruby character
+ *   lines                              result: for each line the count of base characters up to its end
+ *
+ * "Where a kind's fields come in several lists, its count is the shortest list's length." A count that a kind does not show
+ * (both of P, the base count of M, the ruby count of J) is not read. The base and the line list need as many entries as there
+ * are base characters, the ruby list as many as there are ruby characters; else the job is refused with number 12.
+ *
+ * A refusal alters no list. On success, entries past those used stay as they were.
+ */
+bv_answer bv_set_job(
+    uint32_t em,
+    uint32_t measure,
+    const uint32_t *class_, size_t class_length,
+    const uint32_t *width, size_t width_length,
+    const uint32_t *before, size_t before_length,
+    const uint32_t *after, size_t after_length,
+    const uint32_t *flag, size_t flag_length,
+    const uint32_t *rclass, size_t rclass_length,
+    const uint32_t *rwidth, size_t rwidth_length,
+    const uint32_t *kind, size_t kind_length,
+    const uint32_t *ebase, size_t ebase_length,
+    const uint32_t *eruby, size_t eruby_length,
+    const uint32_t *runs, size_t runs_length,
+    uint32_t *base, size_t base_length,
+    uint32_t *ruby, size_t ruby_length,
+    uint32_t *lines, size_t lines_length);
+
+/*
+ * Room for the answer to any sheet: 1 line for the count, at most 1,024 lines of 13 bytes for the extents and at most 3,072 of
+ * 16 bytes for the characters.
+ */
+#define BV_MOST_TEXT 131072
+
+/*
+ * Sets a job sheet of `length` bytes, as the setting program does, and writes what the program writes, `refused N P` or the
+ * result, to the front of `out`. `out` has room for BV_MOST_TEXT bytes, always; those past the answer stay as they were.
+ * Returns the length of the answer in bytes, which is never 0.
+ */
+size_t bv_set_sheet(const uint8_t *sheet, size_t length, uint8_t *out);
+
+#ifdef __cplusplus
+}
+#endif
+
+#endif
