@@ -15,6 +15,7 @@ use Rattle.class.specs.declared.Kind.the-variants.{KanaLike, Western, Sp
 use Rattle.class.specs.declared.Row.{Row}
 use Rattle.class.specs.Class.{accepted, western, kanaLike, kindOf, blankBefore, blankAfter, blankWhole, quarters, rowOf, blankOn, deepest, depthBefore, depthAfter}
 use Rattle.class.specs.Depth.{depthBy}
+use Rattle.class.specs.Entry.{rowBy, entryBy, entryOf}
 
 -- f at i, i + 1, .., n of them
 abbrev pub tabled {ℓ} : {A : Type ℓ} → (ℕ → A) → ℕ → ℕ → List A
@@ -58,6 +59,11 @@ past c h =
       ne-eqb c 7 (λ e. omega arith),
       ne-eqb c 14 (λ e. omega arith),
     )
+
+-- an entry says what the rule says
+pub entry-law : (c : ℕ) → rowBy (entryOf c) ≡ rowOf c
+unfolding rowOf accepted western kanaLike kindOf blankBefore blankAfter blankWhole quarters entryOf
+entry-law = agree (λ (c : ℕ). rowBy (entryOf c)) rowOf refl (λ c h. ap (λ (r : Row). rowBy (entryBy r)) (past c h) ∙ sym (past c h))
 
 -- Kinds.
 

@@ -1,11 +1,12 @@
 // The class table of document 01: for each class from 0 to 30 whether it is accepted, its kind, the sides on which it may carry a
 // blank, and how deep ruby may lie on that blank. Every check and every rule of clearance consults this table and nothing
-// else; that it says what document 01 says is proved once (specs/Class.antt, proofs/Table.antt). All functions here are
+// else; that it says what document 01 says is proved once (specs/Class.antt, proofs/entry_of). All functions here are
 // total: any u32 is asked as it is. It relies on `basics` alone.
 ghost use mathlib.Core.Path.{_≡_};
 ghost use Prim.Native.Nat.{_≤_};
 ghost use Rattle.class.specs.Class.{rowOf, kindOf, depthBefore, depthAfter};
 ghost use Rattle.class.specs.Depth.{blankBy, depthBy};
+ghost use Rattle.class.specs.Entry.{kindBy, rowBy};
 
 pub enum Kind {
     KanaLike,
@@ -16,7 +17,7 @@ pub enum Kind {
     Outside,
 }
 
-// One entry of the table. `quarters` is the most that ruby may lie on its blank, in quarter ems.
+// What the table says of a class. `quarters` is the most that ruby may lie on its blank, in quarter ems.
 pub struct Row {
     pub accepted: bool,
     pub kind: Kind,
@@ -26,100 +27,48 @@ pub struct Row {
     pub quarters: u32,
 }
 
-const OUTSIDE: Row = Row {
-    accepted: false,
-    kind: Kind::Outside,
-    before: false,
-    after: false,
-    whole: false,
-    quarters: 0,
-};
+// An entry is the sum of what holds of its class: the kind, without which it is not accepted; the sides on which it may carry a blank, or that the whole of
+// it is one; and how deep ruby may lie on that blank. One byte each, since a constant table is laid out anew wherever it is read.
+const OUTSIDE: u8 = 0;
 
-const PLAIN: Row = Row {
-    accepted: true,
-    kind: Kind::KanaLike,
-    before: false,
-    after: false,
-    whole: false,
-    quarters: 0,
-};
+const KANA: u8 = 1;
 
-const BEFORE: Row = Row {
-    accepted: true,
-    kind: Kind::KanaLike,
-    before: true,
-    after: false,
-    whole: false,
-    quarters: 2,
-};
+const WESTERN: u8 = 2;
 
-const AFTER: Row = Row {
-    accepted: true,
-    kind: Kind::KanaLike,
-    before: false,
-    after: true,
-    whole: false,
-    quarters: 2,
-};
+const SPACE: u8 = 3;
 
-const BOTH: Row = Row {
-    accepted: true,
-    kind: Kind::KanaLike,
-    before: true,
-    after: true,
-    whole: false,
-    quarters: 1,
-};
+const BEFORE: u8 = 4;
 
-const BLANK: Row = Row {
-    accepted: true,
-    kind: Kind::KanaLike,
-    before: false,
-    after: false,
-    whole: true,
-    quarters: 2,
-};
+const AFTER: u8 = 8;
 
-const WESTERN: Row = Row {
-    accepted: true,
-    kind: Kind::Western,
-    before: false,
-    after: false,
-    whole: false,
-    quarters: 0,
-};
+const WHOLE: u8 = 16;
 
-const SPACE: Row = Row {
-    accepted: true,
-    kind: Kind::Space,
-    before: false,
-    after: false,
-    whole: false,
-    quarters: 0,
-};
+const QUARTER: u8 = 32;
+
+const HALF: u8 = 64;
 
 // The names are those of JLReq.
-const TABLE: [Row; 31] = [
+const TABLE: [u8; 31] = [
     OUTSIDE, // 0
-    BEFORE, // 1 opening brackets
-    AFTER, // 2 closing brackets
-    PLAIN, // 3 hyphens
-    PLAIN, // 4 dividing punctuation marks
-    BOTH, // 5 middle dots
-    AFTER, // 6 full stops
-    AFTER, // 7 commas
-    PLAIN, // 8 inseparable characters
-    PLAIN, // 9 iteration marks
-    PLAIN, // 10 prolonged sound mark
-    PLAIN, // 11 small kana
-    PLAIN, // 12 prefixed abbreviations
-    PLAIN, // 13 postfixed abbreviations
-    BLANK, // 14 full-width ideographic space
-    PLAIN, // 15 hiragana
-    PLAIN, // 16 katakana
-    PLAIN, // 17 math symbols
-    PLAIN, // 18 math operators
-    PLAIN, // 19 ideographic characters
+    KANA + BEFORE + HALF, // 1 opening brackets
+    KANA + AFTER + HALF, // 2 closing brackets
+    KANA, // 3 hyphens
+    KANA, // 4 dividing punctuation marks
+    KANA + BEFORE + AFTER + QUARTER, // 5 middle dots
+    KANA + AFTER + HALF, // 6 full stops
+    KANA + AFTER + HALF, // 7 commas
+    KANA, // 8 inseparable characters
+    KANA, // 9 iteration marks
+    KANA, // 10 prolonged sound mark
+    KANA, // 11 small kana
+    KANA, // 12 prefixed abbreviations
+    KANA, // 13 postfixed abbreviations
+    KANA + WHOLE + HALF, // 14 full-width ideographic space
+    KANA, // 15 hiragana
+    KANA, // 16 katakana
+    KANA, // 17 math symbols
+    KANA, // 18 math operators
+    KANA, // 19 ideographic characters
     OUTSIDE, // 20 reference marks
     OUTSIDE, // 21 ornamented characters
     OUTSIDE, // 22 simple-ruby complex
@@ -133,9 +82,46 @@ const TABLE: [Row; 31] = [
     OUTSIDE, // 30 characters in tate-chu-yoko
 ];
 
+// The kind that an entry names.
+fn kind_by(entry: u8) -> Kind
+    ensures { λ r. ⌜ r ≡ kindBy entry ⌝ }
+{
+    let k = entry % 4;
+    if k == 1 {
+        return Kind::KanaLike;
+    }
+    if k == 2 {
+        return Kind::Western;
+    }
+    if k == 3 {
+        return Kind::Space;
+    }
+    Kind::Outside
+}
+
+fn wide(b: u8) -> u32
+    ensures { λ r. ⌜ r ≡ b ⌝ }
+{
+    b as u32
+}
+
+// What an entry says.
+fn row_by(entry: u8) -> Row
+    ensures { λ r. ⌜ r ≡ rowBy entry ⌝ }
+{
+    Row {
+        accepted: entry % 4 != 0,
+        kind: kind_by(entry),
+        before: entry / 4 % 2 == 1,
+        after: entry / 8 % 2 == 1,
+        whole: entry / 16 % 2 == 1,
+        quarters: wide(entry / 32),
+    }
+}
+
 // The entry of any class; past the table as for a class that is not accepted.
-pub fn row_of(class: u32) -> Row
-    ensures { λ r. ⌜ r ≡ rowOf class ⌝ }
+fn entry_of(class: u32) -> u8
+    ensures { λ r. ⌜ rowBy r ≡ rowOf class ⌝ }
 {
     if 30 < class {
         return OUTSIDE;
@@ -144,12 +130,17 @@ pub fn row_of(class: u32) -> Row
     TABLE[i]
 }
 
+// What the table says of any class.
+pub fn row_of(class: u32) -> Row
+    ensures { λ r. ⌜ r ≡ rowOf class ⌝ }
+{
+    row_by(entry_of(class))
+}
+
 pub fn kind_of(class: u32) -> Kind
     ensures { λ r. ⌜ r ≡ kindOf class ⌝ }
 {
-    let r = row_of(class);
-    let k = r.kind;
-    k
+    kind_by(entry_of(class))
 }
 
 // The blank on a side of a P character, in units.

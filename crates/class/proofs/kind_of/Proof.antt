@@ -1,17 +1,20 @@
--- The kind is the entry's field. What the entry is, `row_of` says.
-use mathlib.Core.Path.{_≡_, ap}
+-- The kind is the row's field, and the row is what the entry says.
+use mathlib.Core.Path.{_≡_, _∙_, ap}
 use borrow.Author.Needs.{needs}
 use Rattle.class.specs.declared.Row.{Row}
 use Rattle.class.specs.Class.{rowOf}
 use Rattle.class.proofs.kind_of.Statement.{statement}
 use Rattle.class.proofs.kind_of.Tie as tie
 
-row-of-requires : tie.Need-row-of-requires
-row-of-requires c κs = search needs
+entry-of-requires : tie.Need-entry-of-requires
+entry-of-requires c κs = search needs
+
+kind-by-requires : tie.Need-kind-by-requires
+kind-by-requires c κs = search needs
 
 returns : tie.Need-returns
 unfolding rowOf
-returns c = ap (λ (r : Row). r .kind) (c .row-of .ensures)
+returns c = c .kind-by .ensures ∙ ap (λ (r : Row). r .kind) (c .before .entry-of .ensures)
 
 pub kind-of-spec : {M : Type 1} → statement M
-kind-of-spec = tie.close (tie.spec row-of-requires returns)
+kind-of-spec = tie.close (tie.spec entry-of-requires kind-by-requires returns)
