@@ -18,7 +18,7 @@ use Rattle.result.specs.Result.{ResultReady}
 use Rattle.result.specs.Short.{longest, result-short}
 
 module _ (job : Job) (base ruby lines : List ℕ) {n : ℕ} (set : outcome job base ruby lines .answer ≡ Set n) where
-  accepted : Accepted job base ruby lines
+  pub accepted : Accepted job base ruby lines
   unfolding outcome after
   accepted = go (given-refusal job base ruby lines) set
     where
@@ -26,10 +26,10 @@ module _ (job : Job) (base ruby lines : List ℕ) {n : ℕ} (set : outcome job b
       go none e = refl
       go (some q) e = absurd (let z : _≡_ {A = ℕ} 0 1 = cc in omega arith)
 
-  many : n ≡ length (ends job)
+  pub many : n ≡ length (ends job)
   many = let e = sym set ∙ lines-told job base ruby lines accepted .0 in cc
 
-  door : Passed job
+  pub door : Passed job
   door = passed job (length base) (length ruby) (length lines) (filled-exactly job base ruby lines .0 accepted .0)
 
   pub result-ready : {out : List ℕ} → longest ≤ length out →

@@ -8,13 +8,13 @@ use lib.ListN.{length}
 use Rattle.text.specs.Print.{Wrote}
 use Rattle.refusal.specs.declared.Refusal.{Refusal}
 use Rattle.door.specs.Job.{Job}
-use Rattle.door.specs.Passed.{Passed, passed}
 use Rattle.job.specs.declared.Answer.the-variants.{Set, Refused}
 use Rattle.job.specs.Line.{ends, baseIn, rubyIn, byLine}
 use Rattle.job.specs.Refusals.{fault}
 use Rattle.job.specs.Outcome.{Outcome, after, outcome}
-use Rattle.job.specs.Demands.{filled-exactly, lines-filled, base-told, ruby-told}
+use Rattle.job.specs.Demands.{lines-filled, base-told, ruby-told}
 use Rattle.result.specs.Text.{resultText, refusalText}
+use Rattle.result.specs.Accepted.{accepted, door}
 use Rattle.result.specs.Short.{longest, result-short, refusal-short}
 use Rattle.setter.specs.Answer.{setText, textBy, jobText, Told}
 use Rattle.setter.specs.Over.{result-over}
@@ -34,14 +34,6 @@ module _ (job : Job) (base ruby lines : List ℕ) where
       go none e = absurd (let z : _≡_ {A = ℕ} 0 1 = cc in omega arith)
       go (some q) e = let h : q ≡ r = cc in ap {B = Option Refusal} some h
 
-  set-given : {n : ℕ} → outcome job base ruby lines .answer ≡ Set n → given ≡ none
-  unfolding outcome after
-  set-given {n} = go given
-    where
-      go : (f : Option Refusal) → after job base ruby lines f .answer ≡ Set n → f ≡ none
-      go none e = refl
-      go (some q) e = absurd (let z : _≡_ {A = ℕ} 0 1 = cc in omega arith)
-
   refused-text : {r : Refusal} → outcome job base ruby lines .answer ≡ Refused r → text ≡ refusalText r
   unfolding jobText textBy
   refused-text e = rw (refused-given e)
@@ -49,18 +41,15 @@ module _ (job : Job) (base ruby lines : List ℕ) where
   set-text : {n : ℕ} → outcome job base ruby lines .answer ≡ Set n → text ≡ resultText job (outcome job base ruby lines .base) (outcome job base ruby lines .ruby)
   unfolding jobText textBy setText
   set-text e =
-      let ok = set-given e in
+      let ok = accepted job base ruby lines e in
       let b = base-told job base ruby lines ok in
       let r = ruby-told job base ruby lines ok in
-      let door : Passed job = passed job (length base) (length ruby) (length lines) (filled-exactly job base ruby lines .0 ok .0) in
       ap (textBy job) ok
-      ∙ sym (result-over job (byLine (baseIn job) 0 (ends job)) (byLine (rubyIn job) 0 (ends job)) base ruby (omega (arith, b .1)) (omega (arith, r .1)) door)
+      ∙ sym (result-over job (byLine (baseIn job) 0 (ends job)) (byLine (rubyIn job) 0 (ends job)) base ruby (omega (arith, b .1)) (omega (arith, r .1)) (door job base ruby lines e))
       ∙ ap₂ (resultText job) (sym (b .0)) (sym (r .0))
 
   set-short : {n : ℕ} → outcome job base ruby lines .answer ≡ Set n → (b r : List ℕ) → length (resultText job b r) ≤ longest
-  set-short e b r =
-      let ok = set-given e in
-      result-short job b r (passed job (length base) (length ruby) (length lines) (filled-exactly job base ruby lines .0 ok .0)) (lines-filled job base ruby lines ok)
+  set-short e b r = result-short job b r (door job base ruby lines e) (lines-filled job base ruby lines (accepted job base ruby lines e))
 
 -- what the entry point left, and a text after it
 module _ {job : Job} {base ruby lines out : List ℕ} {o : Outcome} (e : o ≡ outcome job base ruby lines) {r : ℕ} {now : List ℕ} where

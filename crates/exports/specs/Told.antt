@@ -1,0 +1,43 @@
+-- An answer as a caller in C gets it, and what `bv_set_job` leaves.
+use mathlib.Core.List.{List}
+use mathlib.Core.Path.{_≡_, ap, sym, _∙_}
+use Prim.Native.Nat.{ℕ, _≤_}
+use native.Mathlib.Omega.{arith}
+use Rattle.refusal.specs.Refusal.{numberOf, placeOf}
+use Rattle.door.specs.Job.{Job, baseCount}
+use Rattle.job.specs.declared.Answer.{Answer}
+use Rattle.job.specs.declared.Answer.the-variants.{Set, Refused}
+use Rattle.job.specs.Line.{ends}
+use Rattle.job.specs.Outcome.{Outcome, outcome}
+use Rattle.job.specs.Filled.{chain-few}
+use Rattle.job.specs.Demands.{lines-filled}
+use Rattle.result.specs.Accepted.{accepted, many, door}
+use Rattle.exports.specs.declared.Answer as exported
+
+-- "0 and the number of lines on success", else "its number and a place"
+abbrev pub told : Answer → exported.Answer
+told (Set n) = record { number = 0; place = n }
+told (Refused r) = record { number = numberOf r; place = placeOf r }
+
+-- the answer is told, and the lists are the outcome's
+pub record Left (job : Job) (base ruby lines : List ℕ) (r : exported.Answer) (newBase newRuby newLines : List ℕ) : Type 0 where
+  pub answer : r ≡ told (outcome job base ruby lines .answer)
+  pub bases : newBase ≡ outcome job base ruby lines .base
+  pub rubies : newRuby ≡ outcome job base ruby lines .ruby
+  pub ends : newLines ≡ outcome job base ruby lines .lines
+
+module _ {job : Job} {base ruby lines : List ℕ} {o : Outcome} (e : o ≡ outcome job base ruby lines) where
+  pub left : {r : exported.Answer} → r ≡ told (o .answer) → Left job base ruby lines r (o .base) (o .ruby) (o .lines)
+  left h =
+      record {
+        answer = h ∙ ap (λ (x : Outcome). told (x .answer)) e;
+        bases = ap (λ (x : Outcome). x .base) e;
+        rubies = ap (λ (x : Outcome). x .ruby) e;
+        ends = ap (λ (x : Outcome). x .lines) e;
+      }
+
+-- there are at most as many lines as base characters
+pub few-lines : (job : Job) (base ruby lines : List ℕ) (o : Outcome) → o ≡ outcome job base ruby lines → {n : ℕ} → o .answer ≡ Set n → n ≤ 1024
+few-lines job base ruby lines o e is =
+    let set = ap (λ (x : Outcome). x .answer) (sym e) ∙ is in
+    omega (arith, many job base ruby lines set, chain-few job 0 (baseCount job) (ends job) (lines-filled job base ruby lines (accepted job base ruby lines set)), door job base ruby lines set .fewBase)

@@ -1,0 +1,93 @@
+// The library for callers in C and C++ (include/bolyverit.h): the entry point over lists and the setting of a sheet, as functions over pointers and lengths. Nothing is decided here: an
+// answer becomes a struct of two numbers, and the tables of a sheet are lent to `setter`. It relies on `engine`, `setter` and `refusal`.
+ghost use mathlib.Core.Path.{_≡_};
+ghost use Rattle.text.specs.Print.{Wrote};
+ghost use Rattle.door.specs.Job.{jobOf};
+ghost use Rattle.job.specs.Outcome.{outcome};
+ghost use Rattle.setter.specs.Answer.{answerText};
+ghost use Rattle.exports.specs.Told.{told, Left};
+
+// Number 0 and the number of lines, or a refusal's number and its place.
+#[repr(C)]
+pub struct Answer {
+    pub number: u32,
+    pub place: u32,
+}
+
+// Sets a job in lists.
+#[no_mangle]
+pub extern "C" fn bv_set_job(
+    em: u32,
+    measure: u32,
+    class: &[u32],
+    width: &[u32],
+    before: &[u32],
+    after: &[u32],
+    flag: &[u32],
+    rclass: &[u32],
+    rwidth: &[u32],
+    kind: &[u32],
+    ebase: &[u32],
+    eruby: &[u32],
+    runs: &[u32],
+    base: &mut [u32],
+    ruby: &mut [u32],
+    lines: &mut [u32],
+) -> Answer
+    ensures { λ r. ⌜ Left (jobOf em measure (now (class .entry)) (now (width .entry)) (now (before .entry)) (now (after .entry)) (now (flag .entry)) (now (rclass .entry)) (now (rwidth .entry)) (now (kind .entry)) (now (ebase .entry)) (now (eruby .entry)) (now (runs .entry))) (now (base .entry)) (now (ruby .entry)) (now (lines .entry)) r (now (base .exit)) (now (ruby .exit)) (now (lines .exit)) ⌝ }
+{
+    match engine::set_job(
+        em,
+        measure,
+        class,
+        width,
+        before,
+        after,
+        flag,
+        rclass,
+        rwidth,
+        kind,
+        ebase,
+        eruby,
+        runs,
+        base,
+        ruby,
+        lines,
+    ) {
+        job::Answer::Set(n) => Answer {
+            number: 0,
+            place: n as u32,
+        },
+        job::Answer::Refused(why) => Answer {
+            number: refusal::number(why),
+            place: refusal::place(why),
+        },
+    }
+}
+
+// Sets a sheet; how many bytes at the front of `out` its answer has.
+#[no_mangle]
+pub extern "C" fn bv_set_sheet(sheet: &[u8], out: &mut [u8; 131072]) -> usize
+    ensures { λ r. ⌜ Wrote (now (out .entry)) 0 (answerText (now (sheet .entry))) r (now (out .exit)) ⌝ }
+{
+    let mut set = [0; 2];
+    let mut base = [0; 5120];
+    let mut ruby = [0; 4096];
+    let mut elem = [0; 3072];
+    let mut runs = [0; 32768];
+    let mut bases = [0; 1024];
+    let mut rubies = [0; 2048];
+    let mut lines = [0; 1024];
+    setter::set_sheet(
+        sheet,
+        &mut set,
+        &mut base,
+        &mut ruby,
+        &mut elem,
+        &mut runs,
+        &mut bases,
+        &mut rubies,
+        &mut lines,
+        out,
+    )
+}
