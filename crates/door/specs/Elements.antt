@@ -13,8 +13,8 @@ use Rattle.word.specs.declared.Form.the-variants.{P, M, G, J}
 use Rattle.word.specs.declared.Answer.{Answer}
 use Rattle.word.specs.declared.Answer.the-variants as word
 use Rattle.word.specs.Given.{Given, isJ}
-use Rattle.word.specs.Answer.{blankInside, jukugoBase, mixedIn, westernOver, answer, plain-answer}
-use Rattle.word.specs.Word.{plain, wordOf}
+use Rattle.word.specs.Answer.{blankInside, jukugoBase, mixedIn, westernOver, answer}
+use Rattle.word.specs.Word.{wordOf}
 use Rattle.word.specs.Sized.{Sized}
 use Rattle.door.specs.declared.Piece.{Piece}
 use Rattle.door.specs.declared.Counted.{Counted}
@@ -166,7 +166,3 @@ by-rows form k w p s refused set = go (blankInside form w) (jukugoBase form w) (
     go false false true d f g = f _ refl
     go false false false true f g = f _ refl
     go false false false false f g = g _ refl
-
--- a P by its width alone
-pub plain-piece : (k : ℕ) (job : Job) (p : Piece) → p .form ≡ P → answer (p .form) k (given job p) ≡ word.Set (plain (sum (entries (job .width) (p .base) (p .bases))))
-plain-piece k job p e = ap (λ f. answer f k (given job p)) e ∙ plain-answer k (given job p)

@@ -8,9 +8,9 @@ ghost use mathlib.Core.List.{[]};
 ghost use Prim.Native.Nat.{_+_, _%_, _^_, _≤_, _<_, min};
 ghost use lib.Dec.{ltb, eqb};
 ghost use lib.ListN.{length, getD};
-ghost use Rattle.basics.specs.Lists.{sum, each, count};
+ghost use Rattle.basics.specs.Lists.{each, count};
 ghost use Rattle.class.specs.Class.{accepted, blankBefore, blankAfter};
-ghost use Rattle.door.specs.Job.{known, formOf, takesRuns, entries, given, jobOf};
+ghost use Rattle.door.specs.Job.{known, formOf, takesRuns, given, jobOf};
 ghost use Rattle.door.specs.Refusals.{outside, _when_, baseFaults, rubyFaults, ownFaults};
 ghost use Rattle.refusal.specs.declared.Refusal.the-variants.{Character};
 ghost use Rattle.door.specs.Verdict.{verdict};
@@ -20,8 +20,6 @@ ghost use Rattle.door.specs.Elements.{countedAs, countedBy, partsOnly, R
 ghost use Rattle.door.specs.Walk.{Stands, elementStep};
 ghost use Rattle.door.specs.Loop.{Holds, allRows};
 ghost use Rattle.word.specs.Answer.{answer};
-ghost use Rattle.word.specs.Word.{plain};
-ghost use Rattle.word.specs.declared.Answer.the-variants as answered;
 use refusal::Refusal;
 
 // An element, or the part of a J that stands in one line: its first base and ruby character in the job, how many it has of each, and the first of its runs.
@@ -412,18 +410,8 @@ pub fn runs_end(p: Piece) -> usize
     }
 }
 
-// A P: nothing but its width is read.
-fn measure_plain(p: Piece, width: &[u32]) -> word::Answer
-    requires { ⌜ (p .base + p .bases ≤ length (now width)) × (sum (entries (now width) (p .base) (p .bases)) ≤ 131072) ⌝ }
-    ensures { λ a. ⌜ a ≡ answered.Set (plain (sum (entries (now (width .entry)) (p .base) (p .bases)))) ⌝ }
-{
-    let b = p.base;
-    let e = p.base + p.bases;
-    word::plain_answer(basics::sum_of(&width[b..e]))
-}
-
-// A piece of any form, by the parts of the lists that it takes.
-fn measure_parts(
+// Level one's answer to a piece: the word of its own characters. `k` is the element's place.
+pub fn measure_piece(
     k: u32,
     p: Piece,
     em: u32,
@@ -457,31 +445,6 @@ fn measure_parts(
         &rwidth[r..s],
         &runs[u..v],
     )
-}
-
-// Level one's answer to a piece: the word of its own characters. `k` is the element's place. A P, which most elements are, goes the short way.
-pub fn measure_piece(
-    k: u32,
-    p: Piece,
-    em: u32,
-    class: &[u32],
-    width: &[u32],
-    before: &[u32],
-    after: &[u32],
-    rclass: &[u32],
-    rwidth: &[u32],
-    runs: &[u32],
-) -> word::Answer
-    requires { ⌜ (p .run + p .bases < 2 ^ 40) × Reads (partsOnly em (now class) (now width) (now before) (now after) (now rclass) (now rwidth) [] [] [] (now runs)) p ⌝ }
-    ensures { λ a. ⌜ a ≡ answer (p .form) k (given (partsOnly em (now (class .entry)) (now (width .entry)) (now (before .entry)) (now (after .entry)) (now (rclass .entry)) (now (rwidth .entry)) [] [] [] (now (runs .entry))) p) ⌝ }
-{
-    let form = p.form;
-    match form {
-        word::Form::P => measure_plain(p, width),
-        word::Form::M => measure_parts(k, p, em, class, width, before, after, rclass, rwidth, runs),
-        word::Form::G => measure_parts(k, p, em, class, width, before, after, rclass, rwidth, runs),
-        word::Form::J => measure_parts(k, p, em, class, width, before, after, rclass, rwidth, runs),
-    }
 }
 
 // Element k, those before it having taken b base characters, r ruby characters and u runs, of `bases` and `rubies` in all: numbers 5, 6, and 7 to 10 as level one gives them.

@@ -1,18 +1,16 @@
 -- Level one's answer: the first of numbers 7 to 10 that holds of the word, with the element's place, or the word (document 01, "Refusal list").
 use mathlib.Core.Bool.{Bool, true, false, cond, not, _&&_, _||_}
 use mathlib.Core.List.{List}
-use mathlib.Core.Path.{_≡_, refl}
 use Prim.Native.Nat.{ℕ}
 use lib.Dec.{eqb}
-use Rattle.basics.specs.Lists.{sum, any, other}
+use Rattle.basics.specs.Lists.{any, other}
 use Rattle.class.specs.Class.{western, kanaLike}
 use Rattle.refusal.specs.declared.Refusal.the-variants.{BlankInside, JukugoBase, Mixed, WesternOver}
 use Rattle.word.specs.declared.Form.{Form}
-use Rattle.word.specs.declared.Form.the-variants.{P}
 use Rattle.word.specs.declared.Answer.{Answer}
 use Rattle.word.specs.declared.Answer.the-variants.{Set, Refused}
 use Rattle.word.specs.Given.{Given, hasRuby, isG, isJ}
-use Rattle.word.specs.Word.{plain, wordOf}
+use Rattle.word.specs.Word.{wordOf}
 
 -- 7: "a blank field not 0 inside M, G or J"; "(class 14 passes)" as its fields are 0
 abbrev pub blankInside : Form → Given → Bool
@@ -42,8 +40,3 @@ answer form place w =
     (cond (mixedIn form w) (Refused (Mixed place))
     (cond (westernOver form w) (Refused (WesternOver place))
     (Set (wordOf form w)))))
-
--- none of them is about a P
-pub plain-answer : (place : ℕ) (w : Given) → answer P place w ≡ Set (plain (sum (w .width)))
-unfolding answer wordOf
-plain-answer place w = refl

@@ -4,8 +4,6 @@ use mathlib.Core.Bool.{Bool, true, false, cond, not, _&&_, _||_, or-true, or-fal
 use mathlib.Core.List.{List, [], _∷_}
 use Prim.Native.Nat.{ℕ, _+_, _<_, _≤_}
 use native.Mathlib.Numerals.{add-one}
-use native.Mathlib.Omega.{arith}
-use borrow.Author.Tests.{eqb-true}
 use lib.Dec.{eqb}
 use lib.ListN.{length, drop, getD, drop-of-length-le}
 use lib.Seq.{drop-cons}
@@ -15,7 +13,6 @@ use Rattle.class.specs.declared.Kind.the-variants.{KanaLike, Western, Space, Ou
 use Rattle.class.specs.Class.{western, kanaLike, kindOf}
 use Rattle.class.specs.Laws.{isKana, isWestern, isSpace, kana-law, western-law, space-law}
 use Rattle.word.specs.declared.Mix.{Mix}
-use Rattle.word.specs.declared.Seen.{Seen}
 use Rattle.word.specs.declared.Script.{Script}
 use Rattle.word.specs.declared.Script.the-variants as script
 use Rattle.word.specs.Answer.{mixed}
@@ -80,36 +77,6 @@ module _ (cs : List ℕ) (i : ℕ) (m : Mix) where
   pub mix-end : length cs ≤ i → join m (mixOf (drop i cs)) ≡ mixOf cs → m ≡ mixOf cs
   unfolding mixOf
   mix-end h e = sym (rw (drop-of-length-le cs h) (simp or-false)) ∙ e
-
--- The class that was looked at last is in what was found, so that it need not be looked at again.
-
-abbrev pub sees : Seen → ℕ → Seen
-sees s c = cond (eqb c (s .last)) s (record { mix = with (s .mix) (kindOf c); last = c })
-
--- a class is below 4,294,967,296, which stands for none
-abbrev pub Found : Seen → Type 0
-Found s = s .last < 4294967296 → with (s .mix) (kindOf (s .last)) ≡ s .mix
-
-pub with-again : (m : Mix) (k : Kind) → with (with m k) k ≡ with m k
-with-again m KanaLike = refl
-with-again m Western = refl
-with-again m Space = refl
-with-again m Outside = refl
-
-module _ (cs : List ℕ) (i : ℕ) (s : Seen) (h : i < length cs) (small : getD cs i 0 < 4294967296) (found : Found s) (e : join (s .mix) (mixOf (drop i cs)) ≡ mixOf cs) where
-  abbrev c : ℕ
-  c = getD cs i 0
-
-  pub see-step : Found (sees s c) × (join (sees s c .mix) (mixOf (drop (i + 1) cs)) ≡ mixOf cs)
-  see-step = go (eqb c (s .last)) refl
-    where
-      go : (b : Bool) → eqb c (s .last) ≡ b →
-          let t = cond b s (record { mix = with (s .mix) (kindOf c); last = c }) in Found t × (join (t .mix) (mixOf (drop (i + 1) cs)) ≡ mixOf cs)
-      go true q =
-          let same : c ≡ s .last = eqb-true c (s .last) q in
-          let known : with (s .mix) (kindOf c) ≡ s .mix = rw same (found (omega arith)) in
-          (found, ap (λ (m : Mix). join m (mixOf (drop (i + 1) cs))) (sym known) ∙ mix-step cs i (s .mix) h e)
-      go false q = (λ _. with-again (s .mix) (kindOf c), mix-step cs i (s .mix) h e)
 
 -- Numbers 8 and 9 by what is found.
 

@@ -13,9 +13,8 @@ ghost use Rattle.spread.specs.Running.{Ready};
 ghost use Rattle.word.specs.Alone.{rubyWay, baseWay, split};
 ghost use Rattle.word.specs.Word.{plain, wordBy, groupWord, jukugoWord, runStarts, baseStarts, rubyStarts};
 ghost use Rattle.word.specs.Answer.{answer};
-ghost use Rattle.word.specs.declared.Answer.the-variants as given;
 ghost use Rattle.word.specs.Sized.{Small, Sized, RunsReady};
-ghost use Rattle.word.specs.Kinds.{mixOf, mixedBy, scriptBy, notKanaBy, with, sees};
+ghost use Rattle.word.specs.Kinds.{mixOf, mixedBy, scriptBy, notKanaBy, with};
 ghost use Rattle.word.specs.Runs.{runsOf};
 
 // The kinds of element (document 01, "The job").
@@ -97,45 +96,22 @@ fn with_kind(m: Mix, k: class::Kind) -> Mix
     }
 }
 
-// What is found so far, and the class that was looked at last; 4,294,967,296 is none.
-struct Seen {
-    mix: Mix,
-    last: u64,
-}
-
-// One more character. Neighbours mostly have one class, and a class that was looked at tells nothing new.
-fn see(s: Seen, c: u32) -> Seen
-    ensures { λ r. ⌜ r ≡ sees s c ⌝ }
-    ensures { λ r. ⌜ c < 2 ^ 32 ⌝ }
-{
-    if c as u64 == s.last {
-        return s;
-    }
-    Seen {
-        mix: with_kind(s.mix, class::kind_of(c)),
-        last: c as u64,
-    }
-}
-
 // The kinds of a string's characters, in one pass.
 fn mix_of(cs: &[u32]) -> Mix
     ensures { λ r. ⌜ r ≡ mixOf (now (cs .entry)) ⌝ }
 {
-    let mut s = Seen {
-        mix: Mix {
-            kana: false,
-            western: false,
-            space: false,
-            outside: false,
-        },
-        last: 4294967296,
+    let mut m = Mix {
+        kana: false,
+        western: false,
+        space: false,
+        outside: false,
     };
     let mut i: usize = 0;
     while i < cs.len() {
-        s = see(s, cs[i]);
+        m = with_kind(m, class::kind_of(cs[i]));
         i += 1;
     }
-    s.mix
+    m
 }
 
 // Number 9 of one string.
@@ -220,14 +196,6 @@ fn plain_of(b: u32) -> Word
         inruby: 0,
         runs: false,
     }
-}
-
-// The answer to a P, for callers that have its width alone: "A P element is its own block."
-pub fn plain_answer(b: u32) -> Answer
-    requires { ⌜ b ≤ 131072 ⌝ }
-    ensures { λ a. ⌜ a ≡ given.Set (plain b) ⌝ }
-{
-    Answer::Set(plain_of(b))
 }
 
 // The word of two strings, by the way of each where it is the shorter.

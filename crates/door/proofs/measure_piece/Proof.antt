@@ -1,63 +1,144 @@
--- A P is answered by its width alone, as level one answers it; every other form by its parts.
-use mathlib.Core.Path.{_∙_, sym}
-use mathlib.Core.List.{[]}
-use Rattle.door.specs.Elements.{partsOnly, plain-piece}
+-- Each part that is lent lies within its list, and holds what level one is given of the piece. So its answer is the piece's.
+use mathlib.Core.Path.{_≡_, refl, sym, ap, _∙_}
+use Rattle.door.specs.Elements.{lent-answer, lent-sized}
 use borrow.Author.Needs.{needs}
 use native.Mathlib.Omega.{arith}
 use Rattle.door.proofs.measure_piece.Statement.{statement}
 use Rattle.door.proofs.measure_piece.Tie as tie
 
-enum-told : tie.Need-enum-told
-enum-told c = search needs
+add-e : tie.Need-add-e
+add-e c = search needs
 
-measure-plain-requires : tie.Need-measure-plain-requires
-measure-plain-requires c κs = (c .before .before .before .before .before .before .before .before .before .pre .1 .width, c .before .before .before .before .before .before .before .before .before .pre .1 .sized .narrow)
+add-s : tie.Need-add-s
+add-s c = search needs
 
-enum-told-2 : tie.Need-enum-told-2
-enum-told-2 c = search needs
+runs-end-requires : tie.Need-runs-end-requires
+runs-end-requires c κs = search needs
 
-measure-parts-requires : tie.Need-measure-parts-requires
-measure-parts-requires c κs = c .before .before .before .before .before .before .before .before .before .pre
+mul-measure : tie.Need-mul-measure
+mul-measure c = search needs
 
-enum-told-3 : tie.Need-enum-told-3
-enum-told-3 c = search needs
+sub-measure : tie.Need-sub-measure
+sub-measure c = search needs
 
-measure-parts-requires-2 : tie.Need-measure-parts-requires-2
-measure-parts-requires-2 c κs = c .before .before .before .before .before .before .before .before .before .pre
+part-measure-start : tie.Need-part-measure-start
+part-measure-start c = search needs
 
-enum-told-4 : tie.Need-enum-told-4
-enum-told-4 c = search needs
+part-measure-end : tie.Need-part-measure-end
+part-measure-end c = search needs
 
-measure-parts-requires-3 : tie.Need-measure-parts-requires-3
-measure-parts-requires-3 c κs = c .before .before .before .before .before .before .before .before .before .pre
+mul-measure-2 : tie.Need-mul-measure-2
+mul-measure-2 c = search needs
+
+sub-measure-2 : tie.Need-sub-measure-2
+sub-measure-2 c = search needs
+
+part-measure-start-2 : tie.Need-part-measure-start-2
+part-measure-start-2 c = search needs
+
+part-measure-end-2 : tie.Need-part-measure-end-2
+part-measure-end-2 c = search needs
+
+mul-measure-3 : tie.Need-mul-measure-3
+mul-measure-3 c = search needs
+
+sub-measure-3 : tie.Need-sub-measure-3
+sub-measure-3 c = search needs
+
+part-measure-start-3 : tie.Need-part-measure-start-3
+part-measure-start-3 c = search needs
+
+part-measure-end-3 : tie.Need-part-measure-end-3
+part-measure-end-3 c = search needs
+
+mul-measure-4 : tie.Need-mul-measure-4
+mul-measure-4 c = search needs
+
+sub-measure-4 : tie.Need-sub-measure-4
+sub-measure-4 c = search needs
+
+part-measure-start-4 : tie.Need-part-measure-start-4
+part-measure-start-4 c = search needs
+
+part-measure-end-4 : tie.Need-part-measure-end-4
+part-measure-end-4 c = search needs
+
+mul-measure-5 : tie.Need-mul-measure-5
+mul-measure-5 c = search needs
+
+sub-measure-5 : tie.Need-sub-measure-5
+sub-measure-5 c = search needs
+
+part-measure-start-5 : tie.Need-part-measure-start-5
+part-measure-start-5 c = search needs
+
+part-measure-end-5 : tie.Need-part-measure-end-5
+part-measure-end-5 c = search needs
+
+mul-measure-6 : tie.Need-mul-measure-6
+mul-measure-6 c = search needs
+
+sub-measure-6 : tie.Need-sub-measure-6
+sub-measure-6 c = search needs
+
+part-measure-start-6 : tie.Need-part-measure-start-6
+part-measure-start-6 c = search needs
+
+part-measure-end-6 : tie.Need-part-measure-end-6
+part-measure-end-6 c = search needs
+
+mul-measure-7 : tie.Need-mul-measure-7
+mul-measure-7 c = search needs
+
+sub-measure-7 : tie.Need-sub-measure-7
+sub-measure-7 c = search needs
+
+part-measure-start-7 : tie.Need-part-measure-start-7
+part-measure-start-7 c = search needs
+
+part-measure-end-7 : tie.Need-part-measure-end-7
+part-measure-end-7 c = omega (arith, c .before .before .before .before .before .before .runs-end .ensures, c .before .before .before .before .before .before .before .before .before .before .before .before .before .before .before .before .pre .1 .run)
+
+measure-requires : tie.Need-measure-requires
+measure-requires c κs = rw (c .before .before .before .before .before .before .before .runs-end .ensures) (lent-sized _ (c .before .before .before .before .before .before .before .before .before .before .before .before .before .before .before .before .before .args .p) (c .before .before .before .before .before .before .before .before .before .before .before .before .before .before .before .before .before .pre .1))
 
 returns : tie.Need-returns
-returns c =
-    let a = c .before .before .before .before .before .before .before .before .before .before .args in
-    c .measure-plain .ensures ∙ sym (plain-piece (a .k) (partsOnly (a .em) (a .class .now) (a .width .now) (a .before .now) (a .after .now) (a .rclass .now) (a .rwidth .now) [] [] [] (a .runs .now)) (a .p) (c .before .enum-told .given .1))
-
-returns-2 : tie.Need-returns-2
-returns-2 c = c .measure-parts .ensures
-
-returns-3 : tie.Need-returns-3
-returns-3 c = c .measure-parts2 .ensures
-
-returns-4 : tie.Need-returns-4
-returns-4 c = c .measure-parts3 .ensures
+returns c = c .measure .ensures ∙ rw (c .before .before .before .before .before .before .before .before .runs-end .ensures) (lent-answer (c .before .before .before .before .before .before .before .before .before .before .before .before .before .before .before .before .before .before .args .k) _ (c .before .before .before .before .before .before .before .before .before .before .before .before .before .before .before .before .before .before .args .p) (c .before .before .before .before .before .before .before .before .before .before .before .before .before .before .before .before .before .before .pre .1))
 
 pub measure-piece-spec : {M : Type 1} → statement M
 measure-piece-spec =
     tie.close
     (tie.spec
-    enum-told
-    measure-plain-requires
-    enum-told-2
-    measure-parts-requires
-    enum-told-3
-    measure-parts-requires-2
-    enum-told-4
-    measure-parts-requires-3
-    returns
-    returns-2
-    returns-3
-    returns-4)
+    add-e
+    add-s
+    runs-end-requires
+    mul-measure
+    sub-measure
+    part-measure-start
+    part-measure-end
+    mul-measure-2
+    sub-measure-2
+    part-measure-start-2
+    part-measure-end-2
+    mul-measure-3
+    sub-measure-3
+    part-measure-start-3
+    part-measure-end-3
+    mul-measure-4
+    sub-measure-4
+    part-measure-start-4
+    part-measure-end-4
+    mul-measure-5
+    sub-measure-5
+    part-measure-start-5
+    part-measure-end-5
+    mul-measure-6
+    sub-measure-6
+    part-measure-start-6
+    part-measure-end-6
+    mul-measure-7
+    sub-measure-7
+    part-measure-start-7
+    part-measure-end-7
+    measure-requires
+    returns)
