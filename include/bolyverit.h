@@ -16,9 +16,10 @@
  *   - a stack of 1 megabyte is free.
  * Nothing else is asked: any numbers in the lists and any lengths are answered.
  *
- * What is proved of bv_set_job, for every call that keeps the above: the answer and the three result lists are those of the
- * definition `outcome` (crates/job/specs/Outcome.antt), refusals included; the call ends, reads and writes nothing outside its
- * lists, and no sum in it wraps.
+ * What is proved, for every call that keeps the above. Of bv_set_job: the answer and the three result lists are those of the
+ * definition `outcome` (crates/job/specs/Outcome.antt), refusals included. Of bv_set_sheet: the bytes written are `answerText` of
+ * the sheet's bytes (crates/setter/specs/Answer.antt). Of both: the call ends, reads and writes nothing outside its lists, and no
+ * sum in it wraps.
  */
 #ifndef BOLYVERIT_H
 #define BOLYVERIT_H
@@ -100,15 +101,14 @@ bv_answer bv_set_job(
     uint32_t *lines, size_t lines_length);
 
 /*
- * Room for the answer to any sheet: 1 line for the count, at most 1,024 lines of 13 bytes for the extents and at most 3,072 of
- * 16 bytes for the characters.
+ * Room for the answer to any sheet: it is proved never to be longer than 90,129 bytes.
  */
 #define BV_MOST_TEXT 131072
 
 /*
  * Sets a job sheet of `length` bytes, as the setting program does, and writes what the program writes, `refused N P` or the
  * result, to the front of `out`. `out` has room for BV_MOST_TEXT bytes, always; those past the answer stay as they were.
- * Returns the length of the answer in bytes, which is never 0.
+ * Returns the length of the answer in bytes.
  */
 size_t bv_set_sheet(const uint8_t *sheet, size_t length, uint8_t *out);
 

@@ -1,5 +1,5 @@
 // The job's own faults, judged once at the door (document 01, "The job" and "Refusal list"): numbers 1, 2 and 12, then the characters (3, 4), then
-// the elements in turn (5, 6, and level one's own 7 to 10), then what is left over. Behind it nothing is checked again. It relies on
+// the elements in turn (5, 6, and level one's own 7 to 10), then what is left over. Behind it nothing but a line can be refused any more. It relies on
 // `word` for level one, on `class` for the class table, on `refusal` and on `basics`.
 
 ghost use mathlib.Core.Path.{_≡_};

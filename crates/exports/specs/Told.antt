@@ -14,7 +14,7 @@ use Rattle.job.specs.Demands.{lines-filled}
 use Rattle.result.specs.Accepted.{accepted, many, door}
 use Rattle.exports.specs.declared.Answer as exported
 
--- "0 and the number of lines on success", else "its number and a place"
+-- number 0 and the number of lines, or a refusal's "number and a place"
 abbrev pub told : Answer → exported.Answer
 told (Set n) = record { number = 0; place = n }
 told (Refused r) = record { number = numberOf r; place = placeOf r }

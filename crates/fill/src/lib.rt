@@ -160,6 +160,7 @@ pub fn reach(
     );
     let word::Answer::Set(w) = answer else {
         let word::Answer::Refused(why) = answer else {
+            // Never reached: an answer has two cases.
             return line::Placed::Refused(refusal::Refusal::Short);
         };
         return line::Placed::Refused(why);
