@@ -1,4 +1,4 @@
--- One step of `word`, as the loop of `read_word` takes it.
+-- One step of `word`, as the loop of `word_at` takes it.
 use Prim.Native.Nat.{ℕ, _+_, _<_}
 use mathlib.Core.Path.{_≡_, _∙_}
 use mathlib.Core.List.{List}

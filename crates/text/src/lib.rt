@@ -94,8 +94,8 @@ fn number_at(s: &[u8], at: usize, stop: u8) -> Number
     more(s, at + 1, wide32(b - 48), stop)
 }
 
-// The bytes of a word at a place of a sheet.
-pub fn read_word(s: &[u8], from: usize, w: &[u8]) -> Place
+// The place past a word whose bytes stand at a place.
+fn word_at(s: &[u8], from: usize, w: &[u8]) -> Place
     ensures { λ r. ⌜ r ≡ wordIn (now (w .entry)) (drop from (now (s .entry))) from ⌝ }
 {
     let mut at = from;
@@ -131,6 +131,12 @@ impl<'a> Reader<'a> {
     {
         number_at(self.sheet, self.at, stop)
     }
+
+    pub fn word(self, w: &[u8]) -> Place
+        ensures { λ p. ⌜ p ≡ wordIn (now (w .entry)) (drop (self .entry .at) (now (self .entry .sheet))) (self .entry .at) ⌝ }
+    {
+        word_at(self.sheet, self.at, w)
+    }
 }
 
 // A number of a sheet, by way of a reader.
@@ -138,4 +144,11 @@ pub fn read_number(s: &[u8], at: usize, stop: u8) -> Number
     ensures { λ r. ⌜ r ≡ numberIn (drop at (now (s .entry))) stop at ⌝ }
 {
     Reader::open(s, at).number(stop)
+}
+
+// The bytes of a word at a place of a sheet, by way of a reader.
+pub fn read_word(s: &[u8], from: usize, w: &[u8]) -> Place
+    ensures { λ r. ⌜ r ≡ wordIn (now (w .entry)) (drop from (now (s .entry))) from ⌝ }
+{
+    Reader::open(s, from).word(w)
 }
