@@ -1,2 +1,4 @@
 pub mod Reasons
 pub mod Step
+pub mod Sides
+pub mod Law

@@ -5,7 +5,7 @@ use mathlib.Core.List.{List}
 use Prim.Native.Nat.{ℕ, zero, suc, _+_, _-_}
 use lib.Dec.{eqb}
 use Rattle.line.specs.declared.Element.{Element}
-use Rattle.line.specs.Rules.{blockOf, rubyOf, el, org, blockAt}
+use Rattle.line.specs.Rules.{blockOf, rubyOf, el, org, blockAt, rubyAt}
 use Rattle.account.specs.declared.Reason.{Reason}
 use Rattle.account.specs.declared.Reason.the-variants.{Start, Block, Under, Over, Ruby, Edge, Free}
 use Rattle.account.specs.declared.Account.{Account}
@@ -22,13 +22,13 @@ under p y e x = p .ruby && eqb (rubyOf p y .end) (blockOf e x .start + e .before
 abbrev pub over : Element → ℕ → Element → ℕ → Bool
 over p y e x = e .ruby && eqb (blockOf p y .end) (rubyOf e x .start + p .after)
 
--- Of any p at y before e at x. 3: e's ruby starts where p's ends.
-abbrev pub meets : Element → ℕ → Element → ℕ → Bool
-meets p y e x = (p .ruby && e .ruby) && eqb (rubyOf p y .end) (rubyOf e x .start)
+-- Of any p at y and ruby behind it that starts at z. 3: it starts where p's ends.
+abbrev pub meets : Element → ℕ → ℕ → Bool
+meets p y z = p .ruby && eqb (rubyOf p y .end) z
 
--- 4: e's ruby starts at the line's start.
-unfoldable pub edge : Element → ℕ → Reason
-edge e x = cond (e .ruby && eqb (rubyOf e x .start) 0) Edge Free
+-- 4: it starts at the line's start.
+abbrev pub edge : ℕ → Reason
+edge z = cond (eqb z 0) Edge Free
 
 -- rules 1 and 2 between e and the element with the number j just before it, or else the rest
 unfoldable pub beside : ℕ → Element → ℕ → Element → ℕ → Reason → Reason
@@ -41,16 +41,18 @@ unfoldable pub neighbour : List Element → List ℕ → ℕ → Reason → Reas
 neighbour es xs zero rest = rest
 neighbour es xs (suc j) rest = beside j (el es j) (org xs j) (el es (suc j)) (org xs (suc j)) rest
 
--- rule 3 between e at x and the nearest of the first n elements whose ruby it touches, or else the rest
-unfoldable pub rubies : List Element → List ℕ → Element → ℕ → ℕ → Reason → Reason
-rubies es xs e x zero rest = rest
-rubies es xs e x (suc k) rest = cond (meets (el es k) (org xs k) e x) (Ruby k) (rubies es xs e x k rest)
+-- rule 3 between ruby that starts at z and the nearest of the first n elements whose ruby it touches, or else the rest
+unfoldable pub rubies : List Element → List ℕ → ℕ → ℕ → Reason → Reason
+rubies es xs z zero rest = rest
+rubies es xs z (suc k) rest = cond (meets (el es k) (org xs k) z) (Ruby k) (rubies es xs z k rest)
+
+-- rules 3 and 4, where the element with the number i has ruby
+abbrev pub byRuby : List Element → List ℕ → ℕ → Reason
+byRuby es xs i = cond (el es i .ruby) (rubies es xs (rubyAt es xs i .start) i (edge (rubyAt es xs i .start))) Free
 
 -- What holds the element with the number i: the line's start, rules 1 and 2, rule 3, rule 4.
 unfoldable pub reason : List Element → List ℕ → ℕ → Reason
-reason es xs i =
-    cond (eqb (blockAt es xs i .start) 0) Start
-    (neighbour es xs i (rubies es xs (el es i) (org xs i) i (edge (el es i) (org xs i))))
+reason es xs i = cond (eqb (blockAt es xs i .start) 0) Start (neighbour es xs i (byRuby es xs i))
 
 -- The gap before its block: from the end of the block before, or from the line's start.
 abbrev pub back : List Element → List ℕ → ℕ → ℕ

@@ -1,26 +1,30 @@
 -- The account of one element from what stands before it, for those who walk a line: the element just before, and of all rubies so far the one
 -- that reaches furthest. (specs/Law.antt: in a line whose rubies don't overlap this is the account of specs/Reasons.antt.)
 use mathlib.Core.Path.{_≡_, refl, ap, _∙_}
-use mathlib.Core.Bool.{true, false, cond, _&&_}
+use mathlib.Core.Bool.{true, false, cond}
 use mathlib.Core.List.{List}
 use Prim.Native.Nat.{ℕ, zero, suc, _-_, _≤_, _<_}
 use native.Mathlib.Omega.{arith}
-use borrow.Author.Tests.{eq-eqb, ne-eqb, le-leb, lt-leb}
+use borrow.Author.Tests.{ne-eqb, le-leb, lt-leb}
 use lib.Dec.{eqb, leb}
 use Rattle.line.specs.declared.Element.{Element}
 use Rattle.line.specs.Rules.{blockOf, rubyOf, el, org}
 use Rattle.account.specs.declared.Reason.{Reason}
-use Rattle.account.specs.declared.Reason.the-variants.{Start, Ruby}
+use Rattle.account.specs.declared.Reason.the-variants.{Start, Ruby, Free}
 use Rattle.account.specs.declared.Account.{Account}
 use Rattle.account.specs.declared.Far.{Far}
 use Rattle.account.specs.declared.Far.the-variants.{Nothing, Ends}
 use Rattle.account.specs.declared.Before.{Before}
 use Rattle.account.specs.Reasons.{edge, beside}
 
--- rule 3 with the furthest ruby, or else the rest
-abbrev pub touched : Far → Element → ℕ → Reason → Reason
-touched Nothing e x rest = rest
-touched (Ends k end) e x rest = cond (e .ruby && eqb end (rubyOf e x .start)) (Ruby k) rest
+-- rule 3 between ruby that starts at z and the furthest ruby, or else the rest
+abbrev pub touched : Far → ℕ → Reason → Reason
+touched Nothing z rest = rest
+touched (Ends k end) z rest = cond (eqb end z) (Ruby k) rest
+
+-- rules 3 and 4, where e has ruby
+abbrev pub rubyAfter : Far → Element → ℕ → Reason
+rubyAfter far e x = cond (e .ruby) (touched far (rubyOf e x .start) (edge (rubyOf e x .start))) Free
 
 -- rules 1 and 2 with the element just before, if there is one
 abbrev pub besideLast : ℕ → Before → Element → ℕ → Reason → Reason
@@ -28,7 +32,7 @@ besideLast zero b e x rest = rest
 besideLast (suc j) b e x rest = beside j (b .last) (b .at) e x rest
 
 unfoldable pub reasonAfter : ℕ → Before → Element → ℕ → Reason
-reasonAfter i b e x = cond (eqb (blockOf e x .start) 0) Start (besideLast i b e x (touched (b .far) e x (edge e x)))
+reasonAfter i b e x = cond (eqb (blockOf e x .start) 0) Start (besideLast i b e x (rubyAfter (b .far) e x))
 
 abbrev pub endBefore : ℕ → Before → ℕ
 endBefore zero b = 0
@@ -59,11 +63,11 @@ standing es xs (suc i) = passed i (standing es xs i) (el es i) (org xs i)
 -- What the code goes by.
 
 module _ (i : ℕ) (b : Before) (e : Element) (x : ℕ) where
-  pub reason-first : (rest : Reason) → (blockOf e x .start ≡ 0 → ⊥) → rest ≡ touched (b .far) e x (edge e x) → i ≡ 0 → rest ≡ reasonAfter i b e x
+  pub reason-first : (rest : Reason) → (blockOf e x .start ≡ 0 → ⊥) → rest ≡ rubyAfter (b .far) e x → i ≡ 0 → rest ≡ reasonAfter i b e x
   unfolding reasonAfter
   reason-first rest n h z = rw (ne-eqb _ _ n, z) h
 
-  pub reason-next : (rest r : Reason) → (blockOf e x .start ≡ 0 → ⊥) → rest ≡ touched (b .far) e x (edge e x) → (i ≡ 0 → ⊥) →
+  pub reason-next : (rest r : Reason) → (blockOf e x .start ≡ 0 → ⊥) → rest ≡ rubyAfter (b .far) e x → (i ≡ 0 → ⊥) →
       r ≡ beside (i - 1) (b .last) (b .at) e x rest → r ≡ reasonAfter i b e x
   unfolding reasonAfter
   reason-next rest r n h z q = rw (ne-eqb _ _ n, ← h) (q ∙ go i z)
@@ -80,20 +84,6 @@ end-next zero b z = absurd (z refl)
 end-next (suc j) b z = refl
 
 module _ (far : Far) (e : Element) (x : ℕ) where
-  module _ (rest : Reason) where
-    pub touched-plain : e .ruby ≡ false → rest ≡ touched far e x rest
-    touched-plain h = go far
-      where
-        go : (far : Far) → rest ≡ touched far e x rest
-        go Nothing = refl
-        go (Ends k end) = rw h
-
-    pub touched-meets : (k end : ℕ) → e .ruby ≡ true → far ≡ Ends k end → end ≡ rubyOf e x .start → Ruby k ≡ touched far e x rest
-    touched-meets k end h q m = rw (q, h, eq-eqb _ _ m)
-
-    pub touched-apart : (k end : ℕ) → e .ruby ≡ true → far ≡ Ends k end → (end ≡ rubyOf e x .start → ⊥) → rest ≡ touched far e x rest
-    touched-apart k end h q m = rw (q, h, ne-eqb _ _ m)
-
   module _ (i : ℕ) where
     pub further-plain : e .ruby ≡ false → far ≡ further i far e x
     further-plain h = rw h

@@ -5,8 +5,8 @@
 ghost use mathlib.Core.Path.{_≡_};
 ghost use Prim.Native.Nat.{_-_, _≤_};
 ghost use Rattle.line.specs.Rules.{blockOf, rubyOf};
-ghost use Rattle.account.specs.Reasons.{touches, under, over, meets, edge, beside};
-ghost use Rattle.account.specs.Step.{touched, reasonAfter, accountAfter, endBefore, further, passed};
+ghost use Rattle.account.specs.Reasons.{touches, under, over, edge, beside};
+ghost use Rattle.account.specs.Step.{touched, rubyAfter, reasonAfter, accountAfter, endBefore, further, passed};
 use line::Element;
 
 // What holds an element where it stands. The other element is named by its number in the line.
@@ -133,37 +133,39 @@ fn by_neighbour(j: u32, p: Element, y: u32, e: Element, x: u32, rest: Reason) ->
     rest
 }
 
-// Rule 4: e's ruby at the line's start.
-fn at_edge(e: Element, x: u32) -> Reason
-    ensures { λ r. ⌜ r ≡ edge e x ⌝ }
+// Rule 4: ruby that starts at z, at the line's start.
+fn at_edge(z: u64) -> Reason
+    ensures { λ r. ⌜ r ≡ edge z ⌝ }
 {
-    let ruby = e.ruby;
-    if ruby {
-        if ruby_start(e, x) == 0 {
-            return Reason::Edge;
-        }
-    }
-    Reason::Free
+    if z == 0 { Reason::Edge } else { Reason::Free }
 }
 
-// Rule 3 with the ruby that reaches furthest; the rest where it doesn't hold e.
-fn by_ruby(far: Far, e: Element, x: u32, rest: Reason) -> Reason
-    ensures { λ r. ⌜ r ≡ touched far e x rest ⌝ }
+// Rule 3 between ruby that starts at z and the ruby that reaches furthest; the rest where it doesn't hold.
+fn touching(far: Far, z: u64, rest: Reason) -> Reason
+    ensures { λ r. ⌜ r ≡ touched far z rest ⌝ }
+{
+    match far {
+        Far::Nothing => rest,
+        Far::Ends(k, end) => {
+            if end == z {
+                Reason::Ruby(k)
+            } else {
+                rest
+            }
+        }
+    }
+}
+
+// Rules 3 and 4, where e has ruby.
+fn by_ruby(far: Far, e: Element, x: u32) -> Reason
+    ensures { λ r. ⌜ r ≡ rubyAfter far e x ⌝ }
 {
     let ruby = e.ruby;
     if ruby {
-        match far {
-            Far::Nothing => rest,
-            Far::Ends(k, end) => {
-                if end == ruby_start(e, x) {
-                    Reason::Ruby(k)
-                } else {
-                    rest
-                }
-            }
-        }
+        let z = ruby_start(e, x);
+        touching(far, z, at_edge(z))
     } else {
-        rest
+        Reason::Free
     }
 }
 
@@ -175,7 +177,7 @@ fn reason_of(i: u32, b: Before, e: Element, x: u32) -> Reason
         return Reason::Start;
     }
     let far = b.far;
-    let rest = by_ruby(far, e, x, at_edge(e, x));
+    let rest = by_ruby(far, e, x);
     if i == 0 {
         return rest;
     }

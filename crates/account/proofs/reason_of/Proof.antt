@@ -13,14 +13,11 @@ returns : tie.Need-returns
 unfolding reasonAfter
 returns c = rw (eq-eqb _ _ (sym (c .before .block-start .ensures .0) ∙ c .if1 .taken))
 
-at-edge-requires : tie.Need-at-edge-requires
-at-edge-requires c κs = search needs
-
 by-ruby-requires : tie.Need-by-ruby-requires
 by-ruby-requires c κs = search needs
 
 returns-2 : tie.Need-returns-2
-returns-2 c = let d = c .before .before .before in reason-first _ _ _ _ _ (λ h. d .if1 .left (d .before .block-start .ensures .0 ∙ h)) (c .before .by-ruby .ensures ∙ rw (c .before .before .at-edge .ensures)) (c .if2 .taken)
+returns-2 c = let d = c .before .before in reason-first _ _ _ _ _ (λ h. d .if1 .left (d .before .block-start .ensures .0 ∙ h)) (c .before .by-ruby .ensures) (c .if2 .taken)
 
 sub-by-neighbour : tie.Need-sub-by-neighbour
 sub-by-neighbour c = search needs
@@ -29,7 +26,7 @@ by-neighbour-requires : tie.Need-by-neighbour-requires
 by-neighbour-requires c κs = search needs
 
 returns-3 : tie.Need-returns-3
-returns-3 c = let f = c .before .before .before in let d = f .before .before in reason-next _ _ _ _ _ _ (λ h. d .if1 .left (d .before .block-start .ensures .0 ∙ h)) (f .by-ruby .ensures ∙ rw (f .before .at-edge .ensures)) (c .before .before .if2 .left) (c .by-neighbour .ensures)
+returns-3 c = let f = c .before .before .before in let d = f .before in reason-next _ _ _ _ _ _ (λ h. d .if1 .left (d .before .block-start .ensures .0 ∙ h)) (f .by-ruby .ensures) (c .before .before .if2 .left) (c .by-neighbour .ensures)
 
 pub reason-of-spec : {M : Type 1} → statement M
 reason-of-spec =
@@ -37,7 +34,6 @@ reason-of-spec =
     (tie.spec
     block-start-requires
     returns
-    at-edge-requires
     by-ruby-requires
     returns-2
     sub-by-neighbour
