@@ -43,12 +43,15 @@ met st e x q = all (half x _ _ q)
         go : (x ≡ 0) ⊎ (a ≡ x + b) → Met st e x
         go (inl z) = free z
         go (inr m) = f m
+
     blocks : (x ≡ st .end - e .front) ⊎ (x ≡ st .reach - (e .front + e .before)) → Met st e x
     blocks (inl h) = one _ _ block h
     blocks (inr h) = one _ _ (λ m. under (omega arith)) h
+
     rubies : (x ≡ st .reach - rubyFrom e) ⊎ (x ≡ st .end - (rubyFrom e + st .room)) → Met st e x
     rubies (inl h) = one _ _ clear h
     rubies (inr h) = one _ _ (λ m. over (omega arith)) h
+
     all : (x ≡ max (st .end - e .front) (st .reach - (e .front + e .before))) ⊎ (x ≡ max (st .reach - rubyFrom e) (st .end - (rubyFrom e + st .room))) → Met st e x
     all (inl h) = blocks (half x _ _ h)
     all (inr h) = rubies (half x _ _ h)
@@ -71,6 +74,7 @@ attained es xs (suc n) = go (half _ _ _ refl) (attained es xs n)
   where
     z : ℕ
     z = max (after start es xs n .reach) (org xs n + rubyUpto (el es n))
+
     go : (z ≡ after start es xs n .reach) ⊎ (z ≡ org xs n + rubyUpto (el es n)) →
         (after start es xs n .reach ≡ 0) ⊎ ((k : ℕ) × (k < n) × (org xs k + rubyUpto (el es k) ≡ after start es xs n .reach)) →
         (z ≡ 0) ⊎ ((k : ℕ) × (k < suc n) × (org xs k + rubyUpto (el es k) ≡ z))
@@ -142,9 +146,11 @@ module _ (es : List Element) (s : Sounds es) (fl : Flush es) where
             same k w l m =
                 let p : org xs j + el es j .front ≡ x + rubyFrom e = subst (λ a. org xs a + el es a .front ≡ x + rubyFrom e) (omega arith) m in
                 omega (arith, near .over, s j (omega arith) .after)
+
         touch : T (e .ruby) → rubyFrom e ≡ e .from → (k : ℕ) → k < i → org xs k + rubyUpto (el es k) ≡ x + rubyFrom e → Flag (el es k .ruby) → Held es xs i
         touch t c k l m (with w d) = (Ruby k, (l, w, t, omega (arith, d (el es k .upto) (el es k .front))), omega arith)
         touch t c k l m (without d) = plain k l (omega (arith, d (el es k .upto) (el es k .front)))
+
         go : Flag (e .ruby) → (after start es xs i .reach ≡ 0) ⊎ ((k : ℕ) × (k < i) × (org xs k + rubyUpto (el es k) ≡ after start es xs i .reach)) → Held es xs i
         go (without c) a = by-under (omega (arith, c (e .from) (e .front + e .len), near .under, s i h .before))
         go (with t c) (inl z) = (Edge, (t, omega (arith, c (e .from) (e .front + e .len))), omega arith)

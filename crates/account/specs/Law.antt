@@ -34,9 +34,11 @@ module _ (z : ℕ) (rest : Reason) (k : ℕ) (p : Element) (y : ℕ) where
       pick : (c : Bool) (j end : ℕ) → u ≤ z → end ≤ z → Below z (cond c (Ends k u) (Ends j end))
       pick true j end h l = h
       pick false j end h l = l
+
       last : (far : Far) → Below z far → u ≤ z → Below z (longer k far u)
       last Nothing b h = h
       last (Ends j end) b h = pick (leb end u) j end h b
+
       go : (q : Bool) → (T q → u ≤ z) → Below z (cond q (longer k far u) far)
       go false h = b
       go true h = last far b (h tt)
@@ -50,9 +52,11 @@ module _ (z : ℕ) (rest : Reason) (k : ℕ) (p : Element) (y : ℕ) where
       pick true false j end h l q m = rw (m, ne-eqb end z (λ w. eqb-false u z m (omega (arith, leb-true end u q))))
       pick false false j end h l q m = refl
       pick false true j end h l q m = absurd (omega (arith, leb-false end u q, eqb-true u z m))
+
       last : (far : Far) → Below z far → u ≤ z → touched (longer k far u) z rest ≡ cond (eqb u z) (Ruby k) (touched far z rest)
       last Nothing b h = refl
       last (Ends j end) b h = pick (leb end u) (eqb u z) j end h b refl refl
+
       go : (q : Bool) → (T q → u ≤ z) → touched (cond q (longer k far u) far) z rest ≡ cond (q && eqb u z) (Ruby k) (touched far z rest)
       go false h = refl
       go true h = last far b (h tt)

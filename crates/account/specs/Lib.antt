@@ -5,3 +5,6 @@ pub mod Law
 pub mod Claims
 pub mod Order
 pub mod Held
+pub mod Tight
+pub mod Theorems
+pub mod Cases

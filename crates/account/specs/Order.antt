@@ -1,6 +1,6 @@
 -- The definition picks the first reason that holds: its tests are the reasons' own equalities, asked in the rules' order. And there is one first
 -- reason only.
-use mathlib.Core.Path.{_≡_, refl, sym, ap, subst, _∙_}
+use mathlib.Core.Path.{_≡_, refl, sym, ap, ap₂, subst, _∙_}
 use mathlib.Core.Bool.{Bool, true, false, cond, _&&_, false≢true}
 use mathlib.Core.List.{List}
 use Prim.Native.Nat.{ℕ, zero, suc, _+_, _≤_, _<_}
@@ -135,6 +135,7 @@ module _ (es : List Element) (xs : List ℕ) where
     where
       same : (k < n → ⊥) → k ≡ n
       same l = omega arith
+
       last : k ≡ n → P (rubies es xs z (suc n) rest)
       last q = subst P (sym (ap (λ t. cond t (Ruby n) (rubies es xs z n rest)) (subst (λ a. meets (el es a) (org xs a) z ≡ true) q m))) (f n (omega arith))
 
@@ -215,5 +216,26 @@ remade (Ruby j) = refl
 remade Edge = refl
 remade Free = refl
 
-pub same-reason : (r q : Reason) → number r ≡ number q → other r ≡ other q → depth r ≡ depth q → r ≡ q
-same-reason r q n j d = sym (remade r) ∙ rw (n, j, d) (remade q)
+as-made : (n : ℕ) (r : Reason) → number r ≡ n → r ≡ made n (other r) (depth r)
+as-made n r e = sym (remade r) ∙ ap (λ m. made m (other r) (depth r)) e
+
+module _ (es : List Element) (xs : List ℕ) (i : ℕ) (q : Reason) (g : First es xs i q) where
+  again : (n : ℕ) → number q ≡ n → Holds es xs i (made n (other q) (depth q))
+  again n e = subst (Holds es xs i) (as-made n q e) (g .holds)
+
+  numbered : (r : Reason) → First es xs i r → number q ≡ number r → r ≡ q
+  unfolding made
+  numbered Start f e = sym (as-made 1 q e)
+  numbered (Block j) f e = ap (λ k. Block k) (omega (arith, f .holds .0, again 2 e .0)) ∙ sym (as-made 2 q e)
+  numbered (Under j d) f e =
+      ap₂ (λ k b. Under k b) (omega (arith, f .holds .0, again 3 e .0)) (f .holds .2 ∙ sym (again 3 e .2)) ∙ sym (as-made 3 q e)
+  numbered (Over j d) f e =
+      let k : j ≡ other q = omega (arith, f .holds .0, again 4 e .0) in
+      ap₂ (λ k b. Over k b) k (f .holds .2 ∙ ap (λ k. el es k .after) k ∙ sym (again 4 e .2)) ∙ sym (as-made 4 q e)
+  numbered (Ruby j) f e =
+      ap (λ k. Ruby k) (le-antisymm (g .nearest j e (f .holds)) (f .nearest (other q) refl (again 5 e))) ∙ sym (as-made 5 q e)
+  numbered Edge f e = sym (as-made 6 q e)
+  numbered Free f e = sym (as-made 7 q e)
+
+  pub only : (r : Reason) → First es xs i r → r ≡ q
+  only r f = numbered r f (le-antisymm (g .first r (f .holds)) (f .first q (g .holds)))

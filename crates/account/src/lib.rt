@@ -146,13 +146,7 @@ fn touching(far: Far, z: u64, rest: Reason) -> Reason
 {
     match far {
         Far::Nothing => rest,
-        Far::Ends(k, end) => {
-            if end == z {
-                Reason::Ruby(k)
-            } else {
-                rest
-            }
-        }
+        Far::Ends(k, end) => { if end == z { Reason::Ruby(k) } else { rest } }
     }
 }
 
