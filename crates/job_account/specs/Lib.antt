@@ -1,0 +1,2 @@
+pub mod Flush
+pub mod Theorems
