@@ -8,3 +8,4 @@ pub mod Held
 pub mod Tight
 pub mod Theorems
 pub mod Cases
+pub mod More
