@@ -1,2 +1,3 @@
 pub mod Flush
 pub mod Theorems
+pub mod Tell

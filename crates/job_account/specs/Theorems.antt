@@ -27,7 +27,7 @@ abbrev pub reasonIn : Job → ℕ → ℕ → ℕ → Reason
 reasonIn job s e i = reason (lineOf job s e) (origins job s e) i
 
 module _ (job : Job) (passed : Passed job) (s e : ℕ) where
-  apart : Apart (lineOf job s e) (origins job s e)
+  pub apart : Apart (lineOf job s e) (origins job s e)
   unfolding origins
   apart = keeps (lineOf job s e) (sounds job passed s e)
 
