@@ -6,6 +6,7 @@ ghost use mathlib.Core.Path.{_≡_};
 ghost use Prim.Native.Nat.{_-_, _≤_};
 ghost use Rattle.line.specs.Rules.{blockOf, rubyOf};
 ghost use Rattle.account.specs.Reasons.{touches, under, over, edge, beside};
+ghost use Rattle.account.specs.Claims.{number, other, depth};
 ghost use Rattle.account.specs.Step.{touched, rubyAfter, reasonAfter, accountAfter, endBefore, further, passed};
 use line::Element;
 
@@ -233,5 +234,48 @@ pub fn pass(i: u32, b: Before, e: Element, x: u32) -> Before
         last: e,
         at: x,
         far: reached,
+    }
+}
+
+// The reason as numbers: its place in the rules' order from 1, the other element and the depth, 0 where there is none.
+pub fn number_of(r: Reason) -> u32
+    ensures { λ n. ⌜ n ≡ number r ⌝ }
+{
+    match r {
+        Reason::Start => 1,
+        Reason::Block(_) => 2,
+        Reason::Under(_, _) => 3,
+        Reason::Over(_, _) => 4,
+        Reason::Ruby(_) => 5,
+        Reason::Edge => 6,
+        Reason::Free => 7,
+    }
+}
+
+pub fn other_of(r: Reason) -> u32
+    ensures { λ n. ⌜ n ≡ other r ⌝ }
+{
+    match r {
+        Reason::Start => 0,
+        Reason::Block(j) => j,
+        Reason::Under(j, _) => j,
+        Reason::Over(j, _) => j,
+        Reason::Ruby(j) => j,
+        Reason::Edge => 0,
+        Reason::Free => 0,
+    }
+}
+
+pub fn depth_of(r: Reason) -> u32
+    ensures { λ n. ⌜ n ≡ depth r ⌝ }
+{
+    match r {
+        Reason::Start => 0,
+        Reason::Block(_) => 0,
+        Reason::Under(_, d) => d,
+        Reason::Over(_, d) => d,
+        Reason::Ruby(_) => 0,
+        Reason::Edge => 0,
+        Reason::Free => 0,
     }
 }

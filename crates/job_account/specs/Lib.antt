@@ -1,3 +1,6 @@
 pub mod Flush
 pub mod Theorems
 pub mod Tell
+pub mod Rows
+pub mod Line
+pub mod Lines

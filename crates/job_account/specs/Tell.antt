@@ -45,10 +45,10 @@ pub record Tells (job : Job) (s c i : ℕ) (r : Told) : Type 0 where
   pub stands : r .before ≡ standingIn job s c (i + 1)
 
 module _ {job : Job} {s c k : ℕ} {x : Piece} {st : State} {i : ℕ} {b : Before} (ready : TellReady job s c k x st i b) where
-  abbrev p : Element
+  abbrev pub p : Element
   p = seen job (pieceUpto job s c x)
 
-  abbrev at : ℕ
+  abbrev pub at : ℕ
   at = origin (stateOf job s (x .base)) p
 
   abbrev es : List Element
