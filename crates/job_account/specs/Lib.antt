@@ -4,3 +4,4 @@ pub mod Tell
 pub mod Rows
 pub mod Line
 pub mod Lines
+pub mod Cases
