@@ -5,3 +5,4 @@ pub mod Rows
 pub mod Line
 pub mod Lines
 pub mod Cases
+pub mod Accepted
