@@ -10,8 +10,8 @@ use lib.ListN.{length}
 use lib.Dec.{T}
 use Rattle.line.specs.declared.Element.{Element}
 use Rattle.line.specs.declared.State.{State}
-use Rattle.line.specs.Rules.{el, org, blockAt, rubyAt, HasRuby, Apart, Sound, Sounds}
-use Rattle.line.specs.Setting.{rubyFrom, rubyUpto, start, Near, origin, settle, after, Follows}
+use Rattle.line.specs.Rules.{el, org, blockAt, HasRuby, Sounds}
+use Rattle.line.specs.Setting.{rubyFrom, rubyUpto, start, Near, origin, settle, after}
 use Rattle.line.specs.Least.{settle-origin, settle-follows}
 use Rattle.line.specs.Theorems.{keeps}
 use Rattle.account.specs.declared.Reason.{Reason}

@@ -10,7 +10,7 @@ use native.Mathlib.Decide.{decLt}
 use borrow.Author.Tests.{eq-eqb, eqb-true}
 use lib.Dec.{T, eqb}
 use Rattle.line.specs.declared.Element.{Element}
-use Rattle.line.specs.Rules.{el, org, blockAt, rubyAt, HasRuby}
+use Rattle.line.specs.Rules.{el, org, blockAt, rubyAt}
 use Rattle.account.specs.declared.Reason.{Reason}
 use Rattle.account.specs.declared.Reason.the-variants.{Start, Block, Under, Over, Ruby, Edge, Free}
 use Rattle.account.specs.Reasons.{touches, under, over, meets, edge, beside, neighbour, rubies, byRuby, reason}

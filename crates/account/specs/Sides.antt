@@ -1,7 +1,6 @@
 -- The rules say that stretches keep off each other and not on which side. Rule 1 and the shapes of the elements settle it: ruby lies within its
 -- block or around it, so what stands behind stays behind.
-use mathlib.Core.Path.{_≡_, refl, subst⁻¹}
-use mathlib.Core.Bool.{Bool, true, false, cond}
+use mathlib.Core.Path.{_≡_, subst⁻¹}
 use mathlib.Core.List.{List}
 use mathlib.Core.Logic.{_⊎_, inl, inr}
 use Prim.Native.Nat.{ℕ, zero, suc, _+_, _-_, _≤_, _<_}

@@ -13,7 +13,7 @@ use Rattle.account.specs.declared.Reason.{Reason}
 use Rattle.account.specs.declared.Reason.the-variants.{Free}
 use Rattle.account.specs.Reasons.{reason, gap, accountOf}
 use Rattle.account.specs.Step.{accountAfter, standing}
-use Rattle.account.specs.Claims.{number, Holds, First, Tight, Rule, width, Flush}
+use Rattle.account.specs.Claims.{number, First, Tight, Rule, width, Flush}
 use Rattle.account.specs.Law as law
 use Rattle.account.specs.Order as order
 use Rattle.account.specs.Held.{held}

@@ -1,6 +1,6 @@
 -- Why the named rule is tight, and how wide a gap it makes. A reason past rule 1 is the first that holds only where some space lies before the
 -- block, and then the stretches that touch are in their elements' order.
-use mathlib.Core.Path.{_≡_, refl, sym, ap, subst, _∙_}
+use mathlib.Core.Path.{_≡_, refl, sym, ap, subst}
 use mathlib.Core.Bool.{cond}
 use mathlib.Core.List.{List}
 use mathlib.Core.Logic.{inl, inr}

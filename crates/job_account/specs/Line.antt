@@ -1,7 +1,7 @@
 -- One line: what is written of its accounts so far, and what each piece adds. The walk over its elements is that of `write`.
 use mathlib.Core.Path.{_≡_, refl, sym, ap, subst, _∙_}
 use mathlib.Core.List.{List, [], _++_, map}
-use Prim.Native.Nat.{ℕ, zero, suc, _+_, _*_, _^_, _≤_, _<_, min, max}
+use Prim.Native.Nat.{ℕ, _+_, _*_, _^_, _≤_, _<_, min, max}
 use native.Mathlib.Nat.{add-zero}
 use native.Mathlib.Omega.{arith}
 use lib.ListN.{length, length-append, length-map}
@@ -11,11 +11,10 @@ use Rattle.line.specs.Setting.{start}
 use Rattle.door.specs.declared.Piece.{Piece}
 use Rattle.door.specs.Job.{Job, baseCount, takesRuns, element}
 use Rattle.door.specs.Passed.{Passed}
-use Rattle.job.specs.Line.{pieces, seen, lineOf, origins}
+use Rattle.job.specs.Line.{pieces, seen, lineOf}
 use Rattle.job.specs.Promise.{Break}
 use Rattle.job.specs.Walk.{stateOf, state-none}
 use Rattle.job.specs.Bounded.{few-pieces}
-use Rattle.account.specs.declared.Account.{Account}
 use Rattle.account.specs.declared.Before.{Before}
 use Rattle.account.specs.Step.{nothing, standing}
 use Rattle.write.specs.declared.Cursor.{Cursor}
@@ -24,7 +23,6 @@ use Rattle.write.specs.Walks.{elementOf, Amid, Stands}
 use Rattle.write.specs.Walks as walks
 use Rattle.job_account.specs.declared.Told.{Told}
 use Rattle.job_account.specs.declared.Next.{Next}
-use Rattle.job_account.specs.Theorems.{accountIn}
 use Rattle.job_account.specs.Tell.{TellReady, Tells, standingIn}
 use Rattle.job_account.specs.Tell as tell
 use Rattle.job_account.specs.Rows.{row, rowsUpto, rowsIn, rows-more, gap-small}

@@ -1,16 +1,12 @@
 -- The accounts of a line as a list of numbers, four for each piece, and the walk that writes them.
-use mathlib.Core.Path.{_≡_, refl, sym, ap, ap₂, _∙_}
-use mathlib.Core.List.{List, [], _∷_, _++_, append-nil}
-use Prim.Native.Nat.{ℕ, zero, suc, _+_, _*_, _≤_, _<_, max, min}
-use native.Mathlib.Nat.{zero-add, add-zero}
+use mathlib.Core.Path.{_≡_, refl, ap, ap₂, _∙_}
+use mathlib.Core.List.{List, [], _∷_, _++_}
+use Prim.Native.Nat.{ℕ, zero, suc, _+_, _≤_, _<_}
 use native.Mathlib.Numerals.{add-one}
 use native.Mathlib.Omega.{arith}
 use lib.ListN.{length, set}
 use lib.Seq.{sets}
-use Rattle.basics.specs.Lists.{count, each}
-use Rattle.line.specs.declared.Element.{Element}
 use Rattle.line.specs.declared.State.{State}
-use Rattle.line.specs.Rules.{extent}
 use Rattle.line.specs.Extent.{extent-fit}
 use Rattle.door.specs.declared.Piece.{Piece}
 use Rattle.door.specs.Job.{Job}
@@ -19,7 +15,7 @@ use Rattle.job.specs.Line.{lineOf, origins, extentOf}
 use Rattle.job.specs.Bounded.{extent-bounded}
 use Rattle.account.specs.declared.Account.{Account}
 use Rattle.account.specs.declared.Before.{Before}
-use Rattle.account.specs.Reasons.{reason, accountOf}
+use Rattle.account.specs.Reasons.{accountOf}
 use Rattle.account.specs.Claims.{number, other, depth}
 use Rattle.account.specs.More as more
 use Rattle.job_account.specs.Theorems.{accountIn, apart}

@@ -1,7 +1,7 @@
 -- The account of one piece from what the walk has of the line before it.
-use mathlib.Core.Path.{_≡_, refl, sym, ap, ap₂, subst, _∙_}
+use mathlib.Core.Path.{_≡_, sym, ap, ap₂, subst, _∙_}
 use mathlib.Core.List.{List, [], _∷_, _++_, map, map-append}
-use Prim.Native.Nat.{ℕ, suc, _+_, _≤_, _<_}
+use Prim.Native.Nat.{ℕ, suc, _+_, _<_}
 use native.Mathlib.Numerals.{add-one}
 use native.Mathlib.Omega.{arith}
 use lib.ListN.{length, length-map, length-append}
@@ -11,14 +11,12 @@ use Rattle.line.specs.declared.Placed.the-variants.{At}
 use Rattle.line.specs.Rules.{Apart, Sounds}
 use Rattle.line.specs.Setting.{origin, placed}
 use Rattle.door.specs.declared.Piece.{Piece}
-use Rattle.door.specs.Job.{Job, elementCount}
+use Rattle.door.specs.Job.{Job}
 use Rattle.job.specs.Line.{pieces, seen, lineOf, origins}
 use Rattle.job.specs.Walk.{stateOf, origins-more, length-origins}
 use Rattle.job.specs.Sound.{sounds}
-use Rattle.job.specs.Bounded.{few-pieces}
 use Rattle.fill.specs.Piece.{Into, pieceUpto, more, line-start}
 use Rattle.fill.specs.Reach.{reached}
-use Rattle.account.specs.declared.Account.{Account}
 use Rattle.account.specs.declared.Before.{Before}
 use Rattle.account.specs.Reasons.{accountOf}
 use Rattle.account.specs.Step.{accountAfter, passed, standing}

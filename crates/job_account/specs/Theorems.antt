@@ -5,7 +5,6 @@ use mathlib.Core.List.{List}
 use Prim.Native.Nat.{ℕ, suc, _<_}
 use lib.ListN.{length}
 use Rattle.line.specs.Rules.{org, Apart}
-use Rattle.line.specs.Setting.{settle}
 use Rattle.line.specs.Theorems.{keeps}
 use Rattle.door.specs.Job.{Job}
 use Rattle.door.specs.Passed.{Passed}

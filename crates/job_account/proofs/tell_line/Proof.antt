@@ -1,7 +1,7 @@
 -- The accounts are written up to the element that the walk stands before; its piece adds the row that the line up to the piece's end has more. The walk ends where no element
 -- is left before the line's end, or in the J that the end cuts.
 use mathlib.Core.Path.{_≡_, ap, _∙_}
-use Prim.Native.Nat.{ℕ, _+_, _-_, min}
+use Prim.Native.Nat.{_+_, _-_, min}
 use Rattle.door.specs.Job.{Job, jobOf, element}
 use Rattle.fill.specs.Search.{same-element}
 use Rattle.write.specs.Walks as walks
