@@ -1,0 +1,41 @@
+-- The tests are the definition's, in its order; what rules 3 and 4 give is found before rules 1 and 2 are asked.
+use borrow.Author.Needs.{needs}
+use borrow.Author.Tests.{eq-eqb}
+use mathlib.Core.Path.{sym, _∙_}
+use Rattle.account.specs.Step.{reasonAfter, reason-first, reason-next}
+use Rattle.account.proofs.reason_of.Statement.{statement}
+use Rattle.account.proofs.reason_of.Tie as tie
+
+block-start-requires : tie.Need-block-start-requires
+block-start-requires c κs = search needs
+
+returns : tie.Need-returns
+unfolding reasonAfter
+returns c = rw (eq-eqb _ _ (sym (c .before .block-start .ensures .0) ∙ c .if1 .taken))
+
+by-ruby-requires : tie.Need-by-ruby-requires
+by-ruby-requires c κs = search needs
+
+returns-2 : tie.Need-returns-2
+returns-2 c = let d = c .before .before in reason-first _ _ _ _ _ (λ h. d .if1 .left (d .before .block-start .ensures .0 ∙ h)) (c .before .by-ruby .ensures) (c .if2 .taken)
+
+sub-by-neighbour : tie.Need-sub-by-neighbour
+sub-by-neighbour c = search needs
+
+by-neighbour-requires : tie.Need-by-neighbour-requires
+by-neighbour-requires c κs = search needs
+
+returns-3 : tie.Need-returns-3
+returns-3 c = let f = c .before .before .before in let d = f .before in reason-next _ _ _ _ _ _ (λ h. d .if1 .left (d .before .block-start .ensures .0 ∙ h)) (f .by-ruby .ensures) (c .before .before .if2 .left) (c .by-neighbour .ensures)
+
+pub reason-of-spec : {M : Type 1} → statement M
+reason-of-spec =
+    tie.close
+    (tie.spec
+    block-start-requires
+    returns
+    by-ruby-requires
+    returns-2
+    sub-by-neighbour
+    by-neighbour-requires
+    returns-3)

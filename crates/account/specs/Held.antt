@@ -1,0 +1,183 @@
+-- In a line that is set something holds each element: its origin is the largest of a few lower bounds, and so one of them is met.
+use mathlib.Core.Path.{_≡_, refl, sym, subst, _∙_}
+use mathlib.Core.Bool.{Bool, true, false, cond}
+use mathlib.Core.List.{List}
+use mathlib.Core.Logic.{_⊎_, inl, inr}
+use Prim.Native.Nat.{ℕ, zero, suc, _+_, _-_, _≤_, _<_, max}
+use native.Mathlib.Omega.{arith}
+use native.Mathlib.Decide.{decLt}
+use lib.ListN.{length}
+use lib.Dec.{T}
+use Rattle.line.specs.declared.Element.{Element}
+use Rattle.line.specs.declared.State.{State}
+use Rattle.line.specs.Rules.{el, org, blockAt, HasRuby, Sounds}
+use Rattle.line.specs.Setting.{rubyFrom, rubyUpto, start, Near, origin, settle, after}
+use Rattle.line.specs.Least.{settle-origin, settle-follows}
+use Rattle.line.specs.Theorems.{keeps}
+use Rattle.account.specs.declared.Reason.{Reason}
+use Rattle.account.specs.declared.Reason.the-variants.{Start, Block, Under, Over, Ruby, Edge}
+use Rattle.account.specs.Claims.{number, Holds, Flush}
+use Rattle.account.specs.Sides.{ordered}
+
+-- a lower bound that is met: none but the line's start, or one of the four that the state asks
+data Met (st : State) (e : Element) (x : ℕ) : Type 0 where
+  free : x ≡ 0 → Met st e x
+  block : st .end ≡ x + e .front → Met st e x
+  under : st .reach ≡ x + e .front + e .before → Met st e x
+  clear : st .reach ≡ x + rubyFrom e → Met st e x
+  over : st .end ≡ x + rubyFrom e + st .room → Met st e x
+
+half : (x a b : ℕ) → x ≡ max a b → (x ≡ a) ⊎ (x ≡ b)
+half x a b e = elim (decLt a b) [ yes h ↦ inr (omega arith) | no h ↦ inl (omega arith) ]
+
+lower : (x a b : ℕ) → x ≡ a - b → (x ≡ 0) ⊎ (a ≡ x + b)
+lower x a b e = elim (decLt a b) [ yes h ↦ inl (omega arith) | no h ↦ inr (omega arith) ]
+
+met : (st : State) (e : Element) (x : ℕ) → x ≡ origin st e → Met st e x
+unfolding origin
+met st e x q = all (half x _ _ q)
+  where
+    one : (a b : ℕ) → (a ≡ x + b → Met st e x) → x ≡ a - b → Met st e x
+    one a b f h = go (lower x a b h)
+      where
+        go : (x ≡ 0) ⊎ (a ≡ x + b) → Met st e x
+        go (inl z) = free z
+        go (inr m) = f m
+
+    blocks : (x ≡ st .end - e .front) ⊎ (x ≡ st .reach - (e .front + e .before)) → Met st e x
+    blocks (inl h) = one _ _ block h
+    blocks (inr h) = one _ _ (λ m. under (omega arith)) h
+
+    rubies : (x ≡ st .reach - rubyFrom e) ⊎ (x ≡ st .end - (rubyFrom e + st .room)) → Met st e x
+    rubies (inl h) = one _ _ clear h
+    rubies (inr h) = one _ _ (λ m. over (omega arith)) h
+
+    all : (x ≡ max (st .end - e .front) (st .reach - (e .front + e .before))) ⊎ (x ≡ max (st .reach - rubyFrom e) (st .end - (rubyFrom e + st .room))) → Met st e x
+    all (inl h) = blocks (half x _ _ h)
+    all (inr h) = rubies (half x _ _ h)
+
+-- with ruby, and without
+data Flag (b : Bool) : Type 0 where
+  with : T b → ((u v : ℕ) → cond b u v ≡ u) → Flag b
+  without : ((u v : ℕ) → cond b u v ≡ v) → Flag b
+
+flag : (b : Bool) → Flag b
+flag true = with tt (λ u v. refl)
+flag false = without (λ u v. refl)
+
+-- the furthest end of the rubies so far is that of one of them
+attained : (es : List Element) (xs : List ℕ) (n : ℕ) →
+    (after start es xs n .reach ≡ 0) ⊎ ((k : ℕ) × (k < n) × (org xs k + rubyUpto (el es k) ≡ after start es xs n .reach))
+unfolding after
+attained es xs zero = inl refl
+attained es xs (suc n) = go (half _ _ _ refl) (attained es xs n)
+  where
+    z : ℕ
+    z = max (after start es xs n .reach) (org xs n + rubyUpto (el es n))
+
+    go : (z ≡ after start es xs n .reach) ⊎ (z ≡ org xs n + rubyUpto (el es n)) →
+        (after start es xs n .reach ≡ 0) ⊎ ((k : ℕ) × (k < n) × (org xs k + rubyUpto (el es k) ≡ after start es xs n .reach)) →
+        (z ≡ 0) ⊎ ((k : ℕ) × (k < suc n) × (org xs k + rubyUpto (el es k) ≡ z))
+    go (inr h) q = inr (n, omega arith, sym h)
+    go (inl h) (inl q) = inl (h ∙ q)
+    go (inl h) (inr (k, l, q)) = inr (k, omega arith, q ∙ sym h)
+
+-- some reason holds of the element with the number i
+abbrev pub Held : List Element → List ℕ → ℕ → Type 0
+Held es xs i = (r : Reason) × Holds es xs i r × (number r < 7)
+
+module _ (es : List Element) (s : Sounds es) (fl : Flush es) where
+  abbrev xs : List ℕ
+  xs = settle es
+
+  at-start : (i : ℕ) → i < length es → org xs i ≡ 0 → Held es xs i
+  at-start i h z = go (fl i h)
+    where
+      go : (el es i .front ≡ 0) ⊎ (HasRuby es i × (el es i .from ≡ 0)) → Held es xs i
+      go (inl f) = (Start, omega arith, omega arith)
+      go (inr (t, f)) = (Edge, (t, omega arith), omega arith)
+
+  module _ (j : ℕ) (h : suc j < length es) where
+    abbrev i : ℕ
+    i = suc j
+
+    abbrev e : Element
+    e = el es i
+
+    abbrev x : ℕ
+    x = org xs i
+
+    near : Near (after start es xs i) e x
+    near = settle-follows es .near i h
+
+    past : blockAt es xs j .end ≤ blockAt es xs i .start
+    past = keeps es s .blocks j h
+
+    -- the ruby of j reaches as deep into the block as it may; no earlier ruby passes j's block
+    by-under : after start es xs i .reach ≡ x + e .front + e .before → Held es xs i
+    unfolding after
+    by-under q = go (flag (el es j .ruby)) (half _ _ _ refl)
+      where
+        go : Flag (el es j .ruby) → (after start es xs i .reach ≡ after start es xs j .reach) ⊎ (after start es xs i .reach ≡ org xs j + rubyUpto (el es j)) → Held es xs i
+        go f (inl m) = (Block j, (refl, omega (arith, past, settle-follows es .near j (omega arith) .under, s j (omega arith) .before)), omega arith)
+        go (with t c) (inr m) = (Under j (e .before), (refl, t, refl, omega (arith, c (el es j .upto) (el es j .front))), omega arith)
+        go (without c) (inr m) = absurd (omega (arith, c (el es j .upto) (el es j .front), past, s j (omega arith) .some))
+
+    by-over : blockAt es xs j .end ≡ x + rubyFrom e + el es j .after → Held es xs i
+    by-over q = go (flag (e .ruby))
+      where
+        go : Flag (e .ruby) → Held es xs i
+        go (with t c) = (Over j (el es j .after), (refl, t, refl, omega (arith, c (e .from) (e .front + e .len))), omega arith)
+        go (without c) = absurd (omega (arith, c (e .from) (e .front + e .len), past, s i h .some))
+
+    -- Its ruby starts where the furthest ends. That is ruby, or the start of a block without any, on which it then lies as deep as it may.
+    by-clear : after start es xs i .reach ≡ x + rubyFrom e → Held es xs i
+    unfolding after
+    by-clear q = go (flag (e .ruby)) (attained es xs i)
+      where
+        plain : (k : ℕ) → k < i → org xs k + el es k .front ≡ x + rubyFrom e → Held es xs i
+        plain k l m =
+            elim (decLt k j) [
+              | yes w ↦ absurd (omega (arith, ordered es xs (keeps es s) k j w (omega arith), near .over, s j (omega arith) .after, s k (omega arith) .some))
+              | no w ↦ by-over (same k w l m)
+            ]
+          where
+            same : (k : ℕ) → (k < j → ⊥) → k < i → org xs k + el es k .front ≡ x + rubyFrom e → blockAt es xs j .end ≡ x + rubyFrom e + el es j .after
+            same k w l m =
+                let p : org xs j + el es j .front ≡ x + rubyFrom e = subst (λ a. org xs a + el es a .front ≡ x + rubyFrom e) (omega arith) m in
+                omega (arith, near .over, s j (omega arith) .after)
+
+        touch : T (e .ruby) → rubyFrom e ≡ e .from → (k : ℕ) → k < i → org xs k + rubyUpto (el es k) ≡ x + rubyFrom e → Flag (el es k .ruby) → Held es xs i
+        touch t c k l m (with w d) = (Ruby k, (l, w, t, omega (arith, d (el es k .upto) (el es k .front))), omega arith)
+        touch t c k l m (without d) = plain k l (omega (arith, d (el es k .upto) (el es k .front)))
+
+        go : Flag (e .ruby) → (after start es xs i .reach ≡ 0) ⊎ ((k : ℕ) × (k < i) × (org xs k + rubyUpto (el es k) ≡ after start es xs i .reach)) → Held es xs i
+        go (without c) a = by-under (omega (arith, c (e .from) (e .front + e .len), near .under, s i h .before))
+        go (with t c) (inl z) = (Edge, (t, omega (arith, c (e .from) (e .front + e .len))), omega arith)
+        go (with t c) (inr (k, l, m)) = touch t (c (e .from) (e .front + e .len)) k l (m ∙ q) (flag (el es k .ruby))
+
+    next : Held es xs i
+    unfolding after
+    next = go (met (after start es xs i) e x (settle-origin start es i h))
+      where
+        go : Met (after start es xs i) e x → Held es xs i
+        go (free z) = at-start i h z
+        go (block m) = (Block j, (refl, m), omega arith)
+        go (under m) = by-under m
+        go (clear m) = by-clear m
+        go (over m) = by-over m
+
+  first : (h : 0 < length es) → org xs 0 ≡ 0
+  unfolding after
+  first h = go (met start (el es 0) (org xs 0) (settle-origin start es 0 h))
+    where
+      go : Met start (el es 0) (org xs 0) → org xs 0 ≡ 0
+      go (free z) = z
+      go (block m) = omega arith
+      go (under m) = omega arith
+      go (clear m) = omega arith
+      go (over m) = omega arith
+
+  pub held : (i : ℕ) → i < length es → Held es xs i
+  held zero h = at-start 0 h (first h)
+  held (suc j) h = next j h

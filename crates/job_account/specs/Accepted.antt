@@ -1,0 +1,60 @@
+-- An accepted job can be told: what the entry point leaves is all that `tell_lines` asks for, given lists of the maximum lengths; and what is proved of a line's account
+-- holds of all its lines.
+use mathlib.Core.Path.{_≡_, refl, sym, ap, _∙_}
+use mathlib.Core.List.{List}
+use mathlib.Core.Option.{Option, none, some}
+use Prim.Native.Nat.{ℕ, _≤_, _<_}
+use native.Mathlib.Omega.{arith}
+use lib.ListN.{length, take, drop}
+use lib.Seq.{take-at}
+use Rattle.refusal.specs.declared.Refusal.{Refusal}
+use Rattle.door.specs.Job.{Job}
+use Rattle.door.specs.Passed.{Passed, passed}
+use Rattle.job.specs.declared.Answer.the-variants.{Set}
+use Rattle.job.specs.Line.{lineOf, origins, ends}
+use Rattle.job.specs.Outcome.{Outcome, after, outcome}
+use Rattle.job.specs.Declined.{fills}
+use Rattle.job.specs.Demands.{Accepted, given-refusal, filled-exactly, lines-filled, lines-told}
+use Rattle.account.specs.Claims.{Tight}
+use Rattle.account.specs.Theorems.{Accounted}
+use Rattle.job_account.specs.Theorems.{reasonIn, accounted, tight}
+use Rattle.job_account.specs.Lines.{LinesReady}
+
+module _ (job : Job) (base ruby lines : List ℕ) {n : ℕ} (set : outcome job base ruby lines .answer ≡ Set n) where
+  accepted : Accepted job base ruby lines
+  unfolding outcome after
+  accepted = go (given-refusal job base ruby lines) set
+    where
+      go : (f : Option Refusal) → after job base ruby lines f .answer ≡ Set n → f ≡ none
+      go none e = refl
+      go (some q) e = absurd (let z : _≡_ {A = ℕ} 0 1 = cc in omega arith)
+
+  many : n ≡ length (ends job)
+  many = let e = sym set ∙ lines-told job base ruby lines accepted .0 in cc
+
+  door : Passed job
+  door = passed job (length base) (length ruby) (length lines) (filled-exactly job base ruby lines .0 accepted .0)
+
+  -- Why each gap of each line is as wide as it is: every piece has a reason, whose own numbers make the gap, and the rule that it names would be broken one half unit nearer
+  -- the line's start.
+  pub gaps : (s e i : ℕ) → i < length (lineOf job s e) → Accounted (lineOf job s e) (origins job s e) i × Tight (lineOf job s e) (origins job s e) i (reasonIn job s e i)
+  gaps s e i h = (accounted job door s e i h, tight job door s e i h)
+
+  lines-ready : {out told : List ℕ} → 4096 ≤ length out → 1024 ≤ length told → LinesReady job n (outcome job base ruby lines .lines) out told
+  lines-ready room rows =
+      record {
+        passed = door;
+        full =
+            record {
+              lines = ap (take n) (lines-told job base ruby lines accepted .1) ∙ take-at (ends job) (drop (length (ends job)) lines) n (sym many);
+              many = many;
+              none = fills job door (ends job) (lines-filled job base ruby lines accepted);
+            };
+        room = omega (arith, door .fewBase);
+        rows = omega (arith, door .fewBase);
+      }
+
+-- of what a call of the entry point leaves: its answer is `Set n`, and its lists are as they are now
+pub set-ready : (job : Job) (base ruby lines : List ℕ) {n : ℕ} {out told : List ℕ} (o : Outcome) → o ≡ outcome job base ruby lines → o .answer ≡ Set n →
+    4096 ≤ length out → 1024 ≤ length told → LinesReady job n (o .lines) out told
+set-ready job base ruby lines o e set room rows = rw e (lines-ready job base ruby lines (sym (ap (λ (x : Outcome). x .answer) e) ∙ set) room rows)

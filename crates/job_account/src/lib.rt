@@ -1,0 +1,286 @@
+// Why each gap of a job's lines is as wide as it is: the account of each piece of each line of an accepted job (specs/Theorems.antt). It walks a line's pieces
+// as `write` does, sets each after the line so far and asks `account` for what holds it there. It relies on `door` for a job without faults of its own, on `fill`
+// and `write` for the pieces of a line, on `line` for their places, and on `job` for what all this means.
+ghost use mathlib.Core.Path.{_≡_};
+ghost use Prim.Native.Nat.{_+_, _^_, _≤_, _<_};
+ghost use lib.ListN.{length};
+ghost use lib.Seq.{sets};
+ghost use Rattle.door.specs.Job.{jobOf};
+ghost use Rattle.job.specs.Line.{seen};
+ghost use Rattle.fill.specs.Piece.{Into, pieceUpto};
+ghost use Rattle.job_account.specs.Tell.{TellReady, Tells};
+ghost use Rattle.job_account.specs.Rows.{row};
+ghost use Rattle.job_account.specs.Line.{LineReady, LineTold};
+ghost use Rattle.job_account.specs.Lines.{LinesReady, accounts, counts};
+
+// What a line sees where nothing stands.
+const NOTHING: line::Element = line::Element {
+    front: 0,
+    len: 0,
+    ruby: false,
+    from: 0,
+    upto: 0,
+    before: 0,
+    after: 0,
+};
+
+// The piece of element x up to c as its line sees it. The job has passed the door, so level one's answer is no refusal.
+pub fn element_upto(
+    s: usize,
+    c: usize,
+    k: usize,
+    x: door::Piece,
+    em: u32,
+    measure: u32,
+    class: &[u32],
+    width: &[u32],
+    before: &[u32],
+    after: &[u32],
+    flag: &[u32],
+    rclass: &[u32],
+    rwidth: &[u32],
+    kind: &[u32],
+    ebase: &[u32],
+    eruby: &[u32],
+    runs: &[u32],
+) -> line::Element
+    requires { ⌜ (Into (jobOf em measure (now class) (now width) (now before) (now after) (now flag) (now rclass) (now rwidth) (now kind) (now ebase) (now eruby) (now runs)) s c x) × (k < 1024) ⌝ }
+    ensures { λ r. ⌜ r ≡ seen (jobOf em measure (now (class .entry)) (now (width .entry)) (now (before .entry)) (now (after .entry)) (now (flag .entry)) (now (rclass .entry)) (now (rwidth .entry)) (now (kind .entry)) (now (ebase .entry)) (now (eruby .entry)) (now (runs .entry))) (pieceUpto (jobOf em measure (now (class .entry)) (now (width .entry)) (now (before .entry)) (now (after .entry)) (now (flag .entry)) (now (rclass .entry)) (now (rwidth .entry)) (now (kind .entry)) (now (ebase .entry)) (now (eruby .entry)) (now (runs .entry))) s c x) ⌝ }
+{
+    let p = fill::piece_upto(x, s, c, runs);
+    let answer = door::measure_piece(
+        k as u32,
+        p,
+        em,
+        class,
+        width,
+        before,
+        after,
+        rclass,
+        rwidth,
+        runs,
+    );
+    let word::Answer::Set(w) = answer else {
+        return NOTHING;
+    };
+    fill::element_of(p, w, em, class, width, before, after)
+}
+
+// The account of a piece, with the line's state and what stands once it is set.
+pub struct Told {
+    pub account: account::Account,
+    pub st: line::State,
+    pub before: account::Before,
+}
+
+// The piece of element x up to c, number i of its line, set after the line so far, and why it stands there. The job has passed the door, so no place is refused.
+pub fn tell_piece(
+    s: usize,
+    c: usize,
+    k: usize,
+    x: door::Piece,
+    st: line::State,
+    i: u32,
+    b: account::Before,
+    em: u32,
+    measure: u32,
+    class: &[u32],
+    width: &[u32],
+    before: &[u32],
+    after: &[u32],
+    flag: &[u32],
+    rclass: &[u32],
+    rwidth: &[u32],
+    kind: &[u32],
+    ebase: &[u32],
+    eruby: &[u32],
+    runs: &[u32],
+) -> Told
+    requires { ⌜ TellReady (jobOf em measure (now class) (now width) (now before) (now after) (now flag) (now rclass) (now rwidth) (now kind) (now ebase) (now eruby) (now runs)) s c k x st i b ⌝ }
+    ensures { λ r. ⌜ Tells (jobOf em measure (now (class .entry)) (now (width .entry)) (now (before .entry)) (now (after .entry)) (now (flag .entry)) (now (rclass .entry)) (now (rwidth .entry)) (now (kind .entry)) (now (ebase .entry)) (now (eruby .entry)) (now (runs .entry))) s c i r ⌝ }
+{
+    let e = element_upto(
+        s,
+        c,
+        k,
+        x,
+        em,
+        measure,
+        class,
+        width,
+        before,
+        after,
+        flag,
+        rclass,
+        rwidth,
+        kind,
+        ebase,
+        eruby,
+        runs,
+    );
+    let placed = line::place(s as u32, st, e);
+    let line::Placed::At(at, next) = placed else {
+        return Told {
+            account: account::account_of(i, b, e, 0),
+            st: st,
+            before: b,
+        };
+    };
+    let told = account::account_of(i, b, e, at);
+    let stands = account::pass(i, b, e, at);
+    Told {
+        account: told,
+        st: next,
+        before: stands,
+    }
+}
+
+// An account as four numbers of a list: the gap, the reason's place in the rules' order, the other piece and the depth.
+fn put_row(a: account::Account, q: usize, out: &mut [u32])
+    requires { ⌜ (a .gap < 2 ^ 32) × (q + 4 ≤ length (now out)) ⌝ }
+    ensures { λ _. ⌜ now (out .exit) ≡ sets (now (out .entry)) q (row a) ⌝ }
+{
+    let r = a.reason;
+    out[q] = a.gap as u32;
+    out[q + 1] = account::number_of(r);
+    out[q + 2] = account::other_of(r);
+    out[q + 3] = account::depth_of(r);
+}
+
+// Where the walk stands behind a line, and the list's next place.
+pub struct Next {
+    pub at: write::Cursor,
+    pub q: usize,
+}
+
+// The accounts of the line from s up to e, which begins where the walk stands, four numbers for each piece from place `first` of the list on. A J that e cuts is not
+// passed: it goes on in the next line.
+pub fn tell_line(
+    s: usize,
+    e: usize,
+    from: write::Cursor,
+    first: usize,
+    em: u32,
+    measure: u32,
+    class: &[u32],
+    width: &[u32],
+    before: &[u32],
+    after: &[u32],
+    flag: &[u32],
+    rclass: &[u32],
+    rwidth: &[u32],
+    kind: &[u32],
+    ebase: &[u32],
+    eruby: &[u32],
+    runs: &[u32],
+    out: &mut [u32],
+) -> Next
+    requires { ⌜ LineReady (jobOf em measure (now class) (now width) (now before) (now after) (now flag) (now rclass) (now rwidth) (now kind) (now ebase) (now eruby) (now runs)) s e from first (now out) ⌝ }
+    ensures { λ r. ⌜ LineTold (jobOf em measure (now (class .entry)) (now (width .entry)) (now (before .entry)) (now (after .entry)) (now (flag .entry)) (now (rclass .entry)) (now (rwidth .entry)) (now (kind .entry)) (now (ebase .entry)) (now (eruby .entry)) (now (runs .entry))) s e first (now (out .entry)) (now (out .exit)) r ⌝ }
+{
+    let mut at = from;
+    let mut st = line::START;
+    let mut b = account::START;
+    let mut i: u32 = 0;
+    let mut q = first;
+    while at.b < e {
+        let x = fill::element_at(at.k, at.b, at.r, at.u, kind, ebase, eruby, runs);
+        let end = at.b + x.bases;
+        let c = door::fewer(e, end);
+        let told = tell_piece(
+            s,
+            c,
+            at.k,
+            x,
+            st,
+            i,
+            b,
+            em,
+            measure,
+            class,
+            width,
+            before,
+            after,
+            flag,
+            rclass,
+            rwidth,
+            kind,
+            ebase,
+            eruby,
+            runs,
+        );
+        put_row(told.account, q, out);
+        q += 4;
+        if e < end {
+            return Next { at: at, q: q };
+        }
+        at = write::after_element(at.k, x);
+        st = told.st;
+        b = told.before;
+        i += 1;
+    }
+    Next { at: at, q: q }
+}
+
+// The accounts of all lines of a job whose n lines end where the front of `ends` says: in `out` four numbers for each piece, and in `told` for each line the count of
+// these numbers up to its end. Entries that are not used stay as they were.
+pub fn tell_lines(
+    n: usize,
+    ends: &[u32],
+    em: u32,
+    measure: u32,
+    class: &[u32],
+    width: &[u32],
+    before: &[u32],
+    after: &[u32],
+    flag: &[u32],
+    rclass: &[u32],
+    rwidth: &[u32],
+    kind: &[u32],
+    ebase: &[u32],
+    eruby: &[u32],
+    runs: &[u32],
+    out: &mut [u32],
+    told: &mut [u32],
+)
+    requires { ⌜ LinesReady (jobOf em measure (now class) (now width) (now before) (now after) (now flag) (now rclass) (now rwidth) (now kind) (now ebase) (now eruby) (now runs)) n (now ends) (now out) (now told) ⌝ }
+    ensures { λ _. ⌜ (now (out .exit) ≡ sets (now (out .entry)) 0 (accounts (jobOf em measure (now (class .entry)) (now (width .entry)) (now (before .entry)) (now (after .entry)) (now (flag .entry)) (now (rclass .entry)) (now (rwidth .entry)) (now (kind .entry)) (now (ebase .entry)) (now (eruby .entry)) (now (runs .entry))))) × (now (told .exit) ≡ sets (now (told .entry)) 0 (counts (jobOf em measure (now (class .entry)) (now (width .entry)) (now (before .entry)) (now (after .entry)) (now (flag .entry)) (now (rclass .entry)) (now (rwidth .entry)) (now (kind .entry)) (now (ebase .entry)) (now (eruby .entry)) (now (runs .entry))))) ⌝ }
+{
+    let mut at = write::Cursor {
+        k: 0,
+        b: 0,
+        r: 0,
+        u: 0,
+    };
+    let mut s: usize = 0;
+    let mut q: usize = 0;
+    let mut l: usize = 0;
+    while l < n {
+        let e = ends[l] as usize;
+        let next = tell_line(
+            s,
+            e,
+            at,
+            q,
+            em,
+            measure,
+            class,
+            width,
+            before,
+            after,
+            flag,
+            rclass,
+            rwidth,
+            kind,
+            ebase,
+            eruby,
+            runs,
+            out,
+        );
+        told[l] = next.q as u32;
+        at = next.at;
+        q = next.q;
+        s = e;
+        l += 1;
+    }
+}
