@@ -1,5 +1,5 @@
 -- The classes (document 01, "The job" and "Level two"): accepted, kind, blank sides, depth.
-use mathlib.Core.Bool.{Bool, true, false, cond, not, _&&_, _||_}
+use mathlib.Core.Bool.{Bool, cond, not, _&&_, _||_}
 use Prim.Native.Nat.{ℕ, _*_, _/_, min}
 use lib.Dec.{leb, eqb}
 use Rattle.class.specs.declared.Kind.{Kind}

@@ -3,8 +3,8 @@
 use mathlib.Core.Path.{_≡_, refl, _∙_, ap, sym}
 use mathlib.Core.Bool.{Bool, true, false, cond, _||_}
 use mathlib.Core.List.{List, [], _∷_}
-use Prim.Native.Nat.{ℕ, zero, suc, _+_, _*_, _/_, _<_, _≤_, min, zero-le, suc-le-suc}
-use native.Mathlib.Nat.{add-zero, zero-add, add-suc, suc-add, lt-of-not-le, le-of-suc-le-suc, not-suc-le-zero, one-mul, zero-mul, zero-div, mul-comm, mul-div-cancel}
+use Prim.Native.Nat.{ℕ, zero, suc, _+_, _*_, _/_, _<_, _≤_, min, suc-le-suc}
+use native.Mathlib.Nat.{add-zero, zero-add, add-suc, suc-add, lt-of-not-le, le-of-suc-le-suc, not-suc-le-zero, one-mul}
 use native.Mathlib.Decide.{decLt}
 use native.Mathlib.Omega.{arith}
 use borrow.Author.Tests.{le-leb, lt-leb, ne-eqb}
@@ -13,7 +13,7 @@ use lib.ListN.{getD}
 use Rattle.class.specs.declared.Kind.{Kind}
 use Rattle.class.specs.declared.Kind.the-variants.{KanaLike, Western, Space, Outside}
 use Rattle.class.specs.declared.Row.{Row}
-use Rattle.class.specs.Class.{accepted, western, kanaLike, kindOf, blankBefore, blankAfter, blankWhole, quarters, rowOf, blankOn, deepest, depthBefore, depthAfter}
+use Rattle.class.specs.Class.{accepted, western, kanaLike, kindOf, blankBefore, blankAfter, blankWhole, quarters, rowOf, deepest, depthBefore, depthAfter}
 use Rattle.class.specs.Depth.{depthBy}
 use Rattle.class.specs.Entry.{rowBy, entryBy, entryOf}
 

@@ -1,16 +1,15 @@
 -- The rows of the elements as the door walks along them: the counts of one element (5), what it takes (6), and level one's own answer (7 to 10).
-use mathlib.Core.Path.{_≡_, refl, sym, ap, _∙_}
-use mathlib.Core.Bool.{Bool, true, false, cond, not, _&&_, _||_, false≢true, true≢false}
-use mathlib.Core.List.{List, [], _∷_, _++_, map}
-use Prim.Native.Nat.{ℕ, zero, suc, _+_, _-_, _*_, _≤_, _<_}
-use lib.Dec.{eqb, ltb}
-use lib.ListN.{length, take, drop, getD}
-use Rattle.basics.specs.Lists.{sum, any}
+use mathlib.Core.Path.{_≡_, refl, ap, _∙_}
+use mathlib.Core.Bool.{Bool, true, false, cond, _||_, false≢true}
+use mathlib.Core.List.{List, [], _∷_, _++_}
+use Prim.Native.Nat.{ℕ, _+_, _-_, _≤_}
+use lib.Dec.{ltb}
+use lib.ListN.{length, take, drop}
+use Rattle.basics.specs.Lists.{sum}
 use Rattle.refusal.specs.declared.Refusal.{Refusal}
 use Rattle.refusal.specs.declared.Refusal.the-variants.{Element, Supply, BlankInside, JukugoBase, Mixed, WesternOver}
 use Rattle.word.specs.declared.Form.{Form}
 use Rattle.word.specs.declared.Form.the-variants.{P, M, G, J}
-use Rattle.word.specs.declared.Answer.{Answer}
 use Rattle.word.specs.declared.Answer.the-variants as word
 use Rattle.word.specs.Given.{Given, isJ}
 use Rattle.word.specs.Answer.{blankInside, jukugoBase, mixedIn, westernOver, answer}
@@ -21,9 +20,9 @@ use Rattle.door.specs.declared.Counted.{Counted}
 use Rattle.door.specs.declared.Counted.the-variants.{Is, Out}
 use Rattle.door.specs.declared.Step.{Step}
 use Rattle.door.specs.declared.Step.the-variants.{Next, Stop}
-use Rattle.door.specs.Job.{Job, baseCount, rubyCount, elementCount, entries, known, formOf, takesBase, takesRuby, takesRuns, element, elementsFrom, elements, given}
+use Rattle.door.specs.Job.{Job, entries, known, formOf, takesBase, takesRuby, takesRuns, given}
 use Rattle.door.specs.Entries.{part-of}
-use Rattle.door.specs.Refusals.{_when_, countsOut, countsWrong, runOut, elementFaults, elementsFaults}
+use Rattle.door.specs.Refusals.{_when_, countsOut, countsWrong}
 
 -- An element by its kind and counts, those before it having taken b, r and u.
 

@@ -1,8 +1,8 @@
 -- All elements in turn and what is left over, as the walk along them finds it.
 use mathlib.Core.Path.{_≡_, refl, sym, ap, ap₂, _∙_}
-use mathlib.Core.Bool.{Bool, true, false, cond, _||_}
+use mathlib.Core.Bool.{false, _||_}
 use mathlib.Core.List.{List, [], _∷_, _++_, map, append-assoc}
-use Prim.Native.Nat.{ℕ, zero, suc, _+_, _-_, _^_, _≤_, _<_, zero-le}
+use Prim.Native.Nat.{ℕ, suc, _+_, _-_, _^_, _≤_, _<_, zero-le}
 use native.Mathlib.Numerals.{add-one}
 use native.Mathlib.Nat.{sub-zero, zero-add}
 use native.Mathlib.Omega.{arith}
@@ -12,19 +12,17 @@ use lib.ListN.{length, getD}
 use Rattle.basics.specs.Lists.{sum}
 use Rattle.basics.specs.Laws.{or-none}
 use Rattle.refusal.specs.declared.Refusal.{Refusal}
-use Rattle.refusal.specs.declared.Refusal.the-variants.{Element, Supply}
+use Rattle.refusal.specs.declared.Refusal.the-variants.{Supply}
 use Rattle.word.specs.declared.Form.{Form}
 use Rattle.word.specs.declared.Form.the-variants.{P, M, G, J}
 use Rattle.door.specs.declared.Piece.{Piece}
-use Rattle.door.specs.declared.Checked.{Checked}
-use Rattle.door.specs.declared.Checked.the-variants.{Passed, Refused}
-use Rattle.door.specs.declared.Counted.the-variants.{Is}
+use Rattle.door.specs.declared.Checked.the-variants.{Refused}
 use Rattle.door.specs.declared.Step.the-variants.{Next, Stop}
-use Rattle.door.specs.Job.{Job, baseCount, rubyCount, elementCount, takesRuns, element, elementsFrom, elements}
-use Rattle.door.specs.Refusals.{_when_, countsWrong, elementsFaults, leftFaults}
-use Rattle.door.specs.Verdict.{verdict, front-refused, append-none, when-none}
-use Rattle.door.specs.Elements.{elementRows, stepped, Reads}
-use Rattle.door.specs.Walk.{Stands, elementStep, counting, is-counted, small, reads, rows-supply}
+use Rattle.door.specs.Job.{Job, takesRuns, element, elementsFrom}
+use Rattle.door.specs.Refusals.{_when_}
+use Rattle.door.specs.Verdict.{verdict, front-refused}
+use Rattle.door.specs.Elements.{elementRows, stepped}
+use Rattle.door.specs.Walk.{Stands, elementStep, is-counted, small, reads, rows-supply}
 
 -- the rows of elements from the k-th on, and of what they leave over
 abbrev pub elementsRows : ℕ → ℕ → Job → ℕ → List Piece → List Refusal

@@ -1,18 +1,16 @@
 -- What the door leaves: a job with no fault of its own has characters and elements within their limits, and its elements take all characters, one after
 -- the other. What follows about lines asks for this and nothing else.
-use mathlib.Core.Path.{_≡_, refl, sym, ap, _∙_, subst}
-use mathlib.Core.Bool.{Bool, true, false, not, _&&_, _||_, true≢false, false≢true}
+use mathlib.Core.Path.{_≡_, refl, subst}
+use mathlib.Core.Bool.{true, false, not, _&&_, _||_, true≢false, false≢true}
 use mathlib.Core.List.{List, [], _∷_, _++_, map}
 use Prim.Native.Nat.{ℕ, zero, suc, _+_, _%_, _≤_, _<_, zero-le}
-use native.Mathlib.Nat.{zero-add}
 use native.Mathlib.Omega.{arith}
-use borrow.Author.Tests.{ltb-false, eqb-false, not-false}
+use borrow.Author.Tests.{ltb-false, not-false}
 use lib.Dec.{eqb, ltb}
 use lib.ListN.{length, getD}
 use Rattle.basics.specs.Lists.{sum, count, any, each, All}
 use Rattle.basics.specs.Laws.{or-none, all-count}
 use Rattle.class.specs.Class.{accepted, blankBefore, blankAfter}
-use Rattle.refusal.specs.declared.Refusal.{Refusal}
 use Rattle.refusal.specs.declared.Refusal.the-variants.{Range, Count, Short, Character, Blanks, Element, Supply, BlankInside, JukugoBase, Mixed, WesternOver}
 use Rattle.word.specs.declared.Form.{Form}
 use Rattle.word.specs.declared.Form.the-variants.{P, M, G, J}
@@ -22,7 +20,7 @@ use Rattle.word.specs.Word as word
 use Rattle.word.specs.Answer.{blankInside, jukugoBase, mixedIn, westernOver, answer}
 use Rattle.word.specs.Promise as alone
 use Rattle.door.specs.declared.Piece.{Piece}
-use Rattle.door.specs.Job.{Job, baseCount, rubyCount, elementCount, entries, formOf, takesBase, takesRuby, takesRuns, known, element, elementsFrom, elements, given}
+use Rattle.door.specs.Job.{Job, baseCount, rubyCount, elementCount, takesBase, takesRuby, takesRuns, known, element, elementsFrom, elements, given}
 use Rattle.door.specs.Refusals.{_when_, outside, emWrong, measureWrong, listShort, baseWrong, rubyWrong, blanksWrong, countsOut, countsWrong, runOut, leftOver, baseFaults, rubyFaults, elementFaults, jobFaults, charFaults, elementsFaults, leftFaults, ownFaults}
 use Rattle.door.specs.Verdict.{append-none, each-none, when-none}
 use Rattle.door.specs.Entries.{length-entries, none-zero, some-sum}

@@ -2,7 +2,7 @@
 use mathlib.Core.Bool.{Bool, true, false, not, _&&_, _||_}
 use mathlib.Core.List.{List, [], _∷_, _++_, map}
 use Prim.Native.Nat.{ℕ, suc, _+_, _%_}
-use lib.Dec.{eqb, leb, ltb}
+use lib.Dec.{eqb, ltb}
 use lib.ListN.{getD}
 use Rattle.basics.specs.Lists.{sum, count, any, each}
 use Rattle.class.specs.Class.{accepted, western, kanaLike, blankBefore, blankAfter}
@@ -12,7 +12,7 @@ use Rattle.word.specs.declared.Form.{Form}
 use Rattle.word.specs.declared.Form.the-variants.{P, M, G, J}
 use Rattle.word.specs.Answer.{blankInside, jukugoBase, mixedIn, westernOver}
 use Rattle.door.specs.declared.Piece.{Piece}
-use Rattle.door.specs.Job.{Job, baseCount, rubyCount, elementCount, entries, known, elements, given}
+use Rattle.door.specs.Job.{Job, baseCount, rubyCount, elementCount, known, elements, given}
 
 abbrev pub outside : ℕ → ℕ → ℕ → Bool
 outside a b n = ltb n a || ltb b n

@@ -1,33 +1,31 @@
 -- The walk along the elements: where it stands, what one element does to it, and how it ends.
-use mathlib.Core.Path.{_≡_, refl, sym, ap, ap₂, _∙_, subst}
-use mathlib.Core.Bool.{Bool, true, false, cond, not, _&&_, _||_, false≢true, true≢false}
-use mathlib.Core.List.{List, [], _∷_, _++_, map, append-assoc}
-use Prim.Native.Nat.{ℕ, zero, suc, _+_, _-_, _*_, _^_, _≤_, _<_, zero-le}
-use native.Mathlib.Numerals.{add-one}
+use mathlib.Core.Path.{_≡_, refl, sym, ap, _∙_}
+use mathlib.Core.Bool.{Bool, true, false, cond, not, _||_}
+use mathlib.Core.List.{List, [], _++_}
+use Prim.Native.Nat.{ℕ, _+_, _^_, _≤_, _<_}
 use native.Mathlib.Omega.{arith}
 use lib.Dec.{eqb, ltb}
 use lib.ListN.{length, getD}
 use borrow.Author.Tests.{ltb-false, ne-eqb}
-use Rattle.basics.specs.Lists.{sum, any, All}
+use Rattle.basics.specs.Lists.{All}
 use Rattle.basics.specs.Laws.{or-none, none-any, all-map}
 use Rattle.refusal.specs.declared.Refusal.{Refusal}
 use Rattle.refusal.specs.declared.Refusal.the-variants.{Element, Supply, BlankInside, JukugoBase, Mixed, WesternOver}
 use Rattle.word.specs.declared.Form.{Form}
 use Rattle.word.specs.declared.Form.the-variants.{P, M, G, J}
-use Rattle.word.specs.Given.{hasRuby, isJ}
+use Rattle.word.specs.Given.{isJ}
 use Rattle.word.specs.declared.Word.{Word}
 use Rattle.word.specs.declared.Answer.the-variants as word
 use Rattle.word.specs.Answer.{blankInside, jukugoBase, mixedIn, westernOver, answer}
-use Rattle.word.specs.Sized.{Sized}
 use Rattle.door.specs.declared.Piece.{Piece}
 use Rattle.door.specs.declared.Counted.{Counted}
 use Rattle.door.specs.declared.Counted.the-variants.{Is, Out}
 use Rattle.door.specs.declared.Step.{Step}
 use Rattle.door.specs.declared.Step.the-variants.{Next, Stop}
-use Rattle.door.specs.Job.{Job, entries, known, formOf, takesBase, takesRuby, takesRuns, element, given}
+use Rattle.door.specs.Job.{Job, entries, known, formOf, takesRuns, element, given}
 use Rattle.door.specs.Refusals.{_when_, countsOut, countsWrong}
 use Rattle.door.specs.Entries.{length-entries, sum-most, sum-first, some-within}
-use Rattle.door.specs.Elements.{countedAs, countedBy, elementRows, stepped, Reads, by-rows}
+use Rattle.door.specs.Elements.{countedBy, elementRows, stepped, Reads, by-rows}
 use Rattle.door.specs.Passed.{Few, few-of}
 
 -- the walk at element k: those before it took b base characters, r ruby characters and u runs, of bases and rubies in all; the characters are those that the checks of characters leave

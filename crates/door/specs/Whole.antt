@@ -1,21 +1,19 @@
 -- The door's groups one after the other: what each asks for, and what it decides of the whole.
-use mathlib.Core.Path.{_≡_, refl, sym, ap, ap₂, _∙_}
-use mathlib.Core.Bool.{Bool}
+use mathlib.Core.Path.{_≡_, refl, sym, ap, _∙_}
 use mathlib.Core.List.{List, [], _∷_, _++_, append-assoc}
-use Prim.Native.Nat.{ℕ, zero, suc, _+_, _≤_, _<_, min}
+use Prim.Native.Nat.{ℕ, zero, suc, _+_, _≤_, min}
 use native.Mathlib.Omega.{arith}
-use lib.ListN.{length, getD}
+use lib.ListN.{length}
 use Rattle.basics.specs.Lists.{each, count}
 use Rattle.refusal.specs.declared.Refusal.{Refusal}
 use Rattle.door.specs.declared.Piece.{Piece}
-use Rattle.door.specs.declared.Checked.{Checked}
 use Rattle.door.specs.declared.Checked.the-variants.{Passed, Refused}
 use Rattle.door.specs.Job.{Job, baseCount, rubyCount, elementCount, takesRuns, element, elementsFrom, elements}
 use Rattle.door.specs.Refusals.{baseFaults, rubyFaults, elementFaults, jobFaults, charFaults, elementsFaults, leftFaults, ownFaults}
 use Rattle.door.specs.Verdict.{verdict, passed-none, front-refused, front-passed}
 use Rattle.door.specs.Values.{sizeRows, basesOnly, rubiesOnly, BaseHolds, RubyHolds}
 use Rattle.door.specs.Elements.{partsOnly}
-use Rattle.door.specs.Loop.{elementsRows, leftRows, allRows, Holds}
+use Rattle.door.specs.Loop.{elementsRows, allRows, Holds}
 use Rattle.door.specs.Passed.{base-good, ruby-good, limits}
 
 -- a job's parts

@@ -1,11 +1,9 @@
 // The library for callers in C and C++ (include/bolyverit.h): the entry point over lists and the setting of a sheet, as functions over pointers and lengths. Nothing is decided here: an
 // answer becomes a struct of two numbers, and the tables of a sheet are lent to `setter`. It relies on `engine`, `setter` and `refusal`.
-ghost use mathlib.Core.Path.{_≡_};
 ghost use Rattle.text.specs.Print.{Wrote};
 ghost use Rattle.door.specs.Job.{jobOf};
-ghost use Rattle.job.specs.Outcome.{outcome};
 ghost use Rattle.setter.specs.Answer.{answerText};
-ghost use Rattle.exports.specs.Told.{told, Left};
+ghost use Rattle.exports.specs.Told.{Left};
 
 // Number 0 and the number of lines, or a refusal's number and its place.
 #[repr(C)]

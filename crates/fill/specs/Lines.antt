@@ -1,21 +1,19 @@
 -- The lines so far chain from the first base character up to here; they fill the job, or are stuck.
 use mathlib.Core.Path.{_≡_, refl, sym, ap, _∙_, subst}
-use mathlib.Core.Bool.{Bool, true, false}
 use mathlib.Core.List.{List, [], _∷_, _++_}
-use Prim.Native.Nat.{ℕ, zero, suc, _+_, _-_, _≤_, _<_, zero-le}
+use Prim.Native.Nat.{ℕ, _+_, _≤_, _<_, zero-le}
 use native.Mathlib.Numerals.{add-one}
 use native.Mathlib.Omega.{arith}
 use borrow.Author.Tests.{eq-eqb, ne-eqb}
 use lib.ListN.{length, take, set, length-set}
 use lib.Seq.{take-suc-set, length-take-le}
-use Rattle.refusal.specs.declared.Refusal.{Refusal}
 use Rattle.refusal.specs.declared.Refusal.the-variants.{NoBreak}
-use Rattle.door.specs.Job.{Job, baseCount, elementCount, element}
+use Rattle.door.specs.Job.{Job, baseCount}
 use Rattle.door.specs.Passed.{Passed}
 use Rattle.job.specs.Line.{ends, furthest}
 use Rattle.job.specs.Refusals.{noBreak, linesFaults}
-use Rattle.job.specs.Promise.{Ends, Chain, Filled, Stuck}
-use Rattle.job.specs.Filled.{filled-unique, chain-few, line-ends, no-break}
+use Rattle.job.specs.Promise.{Ends, Chain, Filled}
+use Rattle.job.specs.Filled.{filled-unique, line-ends, no-break}
 use Rattle.job.specs.Declined as declined
 use Rattle.job.specs.Walk.{at-first, at-element}
 use Rattle.fill.specs.declared.Break.{Break}

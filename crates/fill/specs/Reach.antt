@@ -1,28 +1,22 @@
 -- A piece placed: level one sets it, the line sees it, and its place is the least after the state. So the state is that of the line up to there.
-use mathlib.Core.Path.{_≡_, refl, sym, ap, ap₂, _∙_, subst}
-use mathlib.Core.Bool.{Bool, true, false, cond}
-use mathlib.Core.List.{List, [], _∷_, _++_}
-use Prim.Native.Nat.{ℕ, _+_, _-_, _*_, _^_, _≤_, _<_}
+use mathlib.Core.Path.{_≡_, sym, ap, _∙_, subst}
+use mathlib.Core.List.{[]}
+use Prim.Native.Nat.{ℕ, _+_, _^_, _≤_, _<_}
 use native.Mathlib.Omega.{arith}
-use lib.Dec.{leb}
-use lib.ListN.{length, getD}
+use lib.ListN.{length}
 use Rattle.refusal.specs.declared.Refusal.{Refusal}
-use Rattle.word.specs.declared.Word.{Word}
 use Rattle.word.specs.declared.Answer.the-variants.{Set}
 use Rattle.word.specs.Answer.{answer}
 use Rattle.line.specs.declared.State.{State}
-use Rattle.line.specs.declared.Placed.{Placed}
 use Rattle.line.specs.declared.Placed.the-variants.{At, Refused}
 use Rattle.line.specs.Setting.{origin, put, placed, furthest}
 use Rattle.line.specs.Place.{placed-near}
 use Rattle.door.specs.declared.Piece.{Piece}
-use Rattle.door.specs.Job.{Job, baseCount, rubyCount, takesRuns, given}
+use Rattle.door.specs.Job.{Job, given}
 use Rattle.door.specs.Elements.{partsOnly, Reads}
 use Rattle.door.specs.Whole.{base-within, ruby-within}
-use Rattle.door.specs.Passed.{Passed}
 use Rattle.job.specs.Line.{wordOf, seen}
 use Rattle.job.specs.Walk.{stateOf, state-more}
-use Rattle.job.specs.Words.{GoodPiece}
 use Rattle.job.specs.Bounded.{state-bounded}
 use Rattle.fill.specs.Piece.{Into, pieceUpto, more, good, runs-held, run-small}
 

@@ -1,13 +1,12 @@
 -- The search for a line's end, element by element: what is known at an element, and what its breaks add.
-use mathlib.Core.Path.{_≡_, refl, sym, ap, ap₂, _∙_, subst}
+use mathlib.Core.Path.{_≡_, refl, sym, ap, _∙_, subst}
 use mathlib.Core.Bool.{Bool, true, false, cond, _&&_, _||_, and-false, false≢true, true≢false}
-use mathlib.Core.List.{List, [], _∷_, _++_}
+use mathlib.Core.List.{List, []}
 use Prim.Native.Nat.{ℕ, _+_, _-_, _*_, _^_, _≤_, _<_, max}
 use native.Mathlib.Omega.{arith}
-use borrow.Author.Tests.{le-leb, lt-leb, leb-true, leb-false}
+use borrow.Author.Tests.{leb-false}
 use lib.Dec.{eqb, leb}
 use lib.ListN.{length, getD}
-use Rattle.refusal.specs.declared.Refusal.{Refusal}
 use native.Mathlib.Decide.{decLt}
 use Rattle.word.specs.declared.Form.{Form}
 use Rattle.word.specs.declared.Form.the-variants.{P, M, G, J}
@@ -21,7 +20,7 @@ use Rattle.job.specs.Line.{permitted, canSet, furthest}
 use Rattle.job.specs.Pieces.{IsElement, none-before}
 use Rattle.door.specs.Whole.{base-within, element-within}
 use Rattle.basics.specs.Lists.{sum}
-use Rattle.job.specs.Walk.{At, at-next, at-element, at-end, stateOf, state-none, best-all, can-set, permitted-end, permitted-within, best, best-none, best-step, best-over, stop, too-long}
+use Rattle.job.specs.Walk.{At, at-next, at-element, at-end, stateOf, state-none, best-all, can-set, permitted-end, permitted-within, best, best-none, best-step, best-over, stop}
 use Rattle.job.specs.Words.{runs-within}
 use Rattle.fill.specs.declared.Break.{Break}
 use Rattle.fill.specs.declared.Ended.{Ended}

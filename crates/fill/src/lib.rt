@@ -7,7 +7,7 @@ ghost use mathlib.Core.Bool.{true, _&&_, _||_};
 ghost use Prim.Native.Nat.{_+_, _-_, _*_, _^_, _≤_, _<_, max};
 ghost use lib.Dec.{leb, eqb};
 ghost use lib.ListN.{length, getD};
-ghost use mathlib.Core.List.{[], _∷_};
+ghost use mathlib.Core.List.{[]};
 ghost use Rattle.line.specs.Setting as setting;
 ghost use Rattle.line.specs.declared.Placed.the-variants as placed;
 ghost use Rattle.door.specs.Job.{jobOf, baseCount, elementCount, element};

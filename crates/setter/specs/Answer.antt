@@ -15,7 +15,7 @@ use Rattle.sheet.specs.Sheet.{Sheet, reading, emOf, measureOf}
 use Rattle.door.specs.Job.{Job, jobOf}
 use Rattle.job.specs.Line.{ends, baseIn, rubyIn, byLine}
 use Rattle.job.specs.Refusals.{fault}
-use Rattle.job.specs.Outcome.{Outcome, outcome}
+use Rattle.job.specs.Outcome.{outcome}
 use Rattle.result.specs.Text.{resultText, refusalText}
 use Rattle.result.specs.Short.{longest}
 

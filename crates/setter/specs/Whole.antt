@@ -3,20 +3,19 @@ use mathlib.Core.List.{List}
 use mathlib.Core.Path.{_≡_, refl, sym, ap, subst, _∙_}
 use Prim.Native.Nat.{ℕ, _+_, _-_, _*_, _≤_}
 use native.Mathlib.Omega.{arith}
-use lib.ListN.{length, take}
+use lib.ListN.{length}
 use lib.Seq.{length-sets, length-take-le}
 use Rattle.text.specs.Print.{Wrote}
 use Rattle.refusal.specs.declared.Refusal.{Refusal}
-use Rattle.rows.specs.Table.{laid, column, length-laid}
+use Rattle.rows.specs.Table.{column, length-laid}
 use Rattle.sheet.specs.declared.Counts.{Counts}
 use Rattle.sheet.specs.declared.Reading.{Reading}
 use Rattle.sheet.specs.declared.Reading.the-variants.{Sound, Refused}
 use Rattle.sheet.specs.Sheet.{reading, Into}
 use Rattle.sheet.specs.Lent.{base-long, ruby-long, elem-long, runs-long, sound, base-part, ruby-part, elem-part, runs-part, em-part, measure-part}
-use Rattle.door.specs.Job.{Job}
 use Rattle.result.specs.Text.{refusalText}
 use Rattle.result.specs.Short.{longest, refusal-short}
-use Rattle.setter.specs.Answer.{jobText, sheetJob, answerBy, answerText, listsBy, Told, part, tablesJob, Fits, ElementsReady, TablesReady, Answered}
+use Rattle.setter.specs.Answer.{sheetJob, answerBy, answerText, listsBy, Told, part, tablesJob, Fits, TablesReady, Answered}
 
 module _ {s set base ruby elem runs : List ℕ} {a : Reading} {set' base' ruby' elem' runs' : List ℕ} (into : Into s set base ruby elem runs a set' base' ruby' elem' runs')
     {bases rubies lines out bases' rubies' lines' out' : List ℕ} {r : ℕ} where

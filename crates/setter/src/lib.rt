@@ -1,7 +1,6 @@
 // A job sheet in, its answer out (document 01, "The job sheet": "reads a sheet .. and writes `refused N P`, or a result"): bytes to bytes, and nothing is asked of the caller. The
 // tables are lent, so that a program says once how large they are; what each holds afterwards is part of the contract. It relies on `sheet` for the reading, on
 // `engine` for the job and on `result` for the text.
-ghost use mathlib.Core.Path.{_≡_};
 ghost use Prim.Native.Nat.{_+_, _≤_};
 ghost use lib.ListN.{length};
 ghost use Rattle.door.specs.Job.{jobOf};

@@ -1,5 +1,5 @@
 -- The gap rule, by three numbers, and the starts of a string that has them. `Laws` shows that these are the characters of `Worded`.
-use mathlib.Core.Bool.{Bool, cond}
+use mathlib.Core.Bool.{cond}
 use mathlib.Core.List.{List}
 use Prim.Native.Nat.{ℕ, _+_, _-_, _*_, _/_, min}
 use lib.Dec.{leb}

@@ -1,9 +1,9 @@
 -- Laws of the gap rule and of the starts: they are document 01's sentences, a gap is at most the difference, all space sums to 2D, a string ends where
 -- its space and widths say, and moving its start moves each character alike.
-use mathlib.Core.Path.{_≡_, refl, ap, ap₂, _∙_, sym}
+use mathlib.Core.Path.{_≡_, refl, ap, _∙_, sym}
 use mathlib.Core.Bool.{Bool, true, false, cond}
 use mathlib.Core.List.{List, [], _∷_, map, map-map}
-use Prim.Native.Nat.{ℕ, zero, suc, _+_, _-_, _*_, _/_, _≤_, _<_, min, max}
+use Prim.Native.Nat.{ℕ, zero, suc, _+_, _-_, _*_, _/_, _≤_, _<_, min}
 use native.Mathlib.Numerals.{add-one}
 use native.Mathlib.Nat.{add-zero, zero-add, add-suc, suc-add, le-refl, le-trans, le-of-suc-le-suc, not-suc-le-zero, min-le-left, div-le-self, div-one, div-zero, sub-self, zero-mul, mul-zero, zero-div, mul-comm, mul-le-mul-left, div-le-of-le-mul, mul-div-cancel}
 use native.Mathlib.Omega.{arith}

@@ -1,6 +1,6 @@
 -- Solid and spread as document 01 words them ("Level one"): where character i (from 0) of a string starts, in half units from the start of the longer
 -- string. D is the difference of the sums in units, n the number of characters in the string that is spread.
-use mathlib.Core.Bool.{Bool, true, false, cond}
+use mathlib.Core.Bool.{cond}
 use mathlib.Core.List.{List, map}
 use Prim.Native.Nat.{ℕ, _+_, _-_, _*_, _/_, min}
 use lib.Dec.{eqb}

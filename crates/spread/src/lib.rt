@@ -2,7 +2,7 @@
 // rule gives three numbers, the gap in front, the space within and the gap behind, and everything above cites only those; one
 // loop then writes the starts of any string. It relies on `basics` alone and knows nothing of kinds, elements or lines.
 ghost use mathlib.Core.Path.{_≡_};
-ghost use Prim.Native.Nat.{_-_, _≤_, _<_, max};
+ghost use Prim.Native.Nat.{_-_, _≤_, _<_};
 ghost use Rattle.spread.specs.Gap.{gap, starts};
 ghost use Rattle.spread.specs.Running.{Ready, parts};
 

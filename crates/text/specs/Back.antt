@@ -1,16 +1,16 @@
 -- Theorem `number-back`: what is written is read back. A number in decimal, followed by a byte below the digits, is read as that number, and the reading ends past that byte.
 use Prim.Native.Nat.{ℕ, zero, suc, _+_, _-_, _*_, _/_, _%_, _^_, _<_, _≤_}
-use mathlib.Core.Path.{_≡_, refl, _∙_, sym, ap}
-use mathlib.Core.List.{List, [], _∷_, _++_}
+use mathlib.Core.Path.{_≡_, refl, _∙_}
+use mathlib.Core.List.{List, _∷_, _++_}
 use native.Mathlib.Omega.{arith}
 use native.Mathlib.Nat.{pow-suc, pow-succ', add-mul, mul-assoc, le-mul-of-pos-right, add-zero, zero-mul, mod-lt, mod-eq-of-lt, div-lt-iff-lt-mul, div-add-mod'}
 use lib.Arith.{mod-mul}
-use borrow.Author.Tests.{eq-eqb, ne-eqb, lt-ltb, le-ltb, leb-true, leb-false, ltb-true, ltb-false}
+use borrow.Author.Tests.{eq-eqb, ne-eqb, le-ltb, leb-true, leb-false, ltb-true, ltb-false}
 use mathlib.Core.Bool.{Bool, true, false, cond}
 use lib.Dec.{leb, ltb}
 use Rattle.text.specs.Text.{most, more, number, alone}
 use Rattle.text.specs.Print.{spell, width, widthFrom, decimal}
-use Rattle.text.specs.declared.Number.the-variants.{Is, Fault}
+use Rattle.text.specs.declared.Number.the-variants.{Is}
 
 more-digit : (d stop v at : ℕ) (l : List ℕ) → stop < 48 → d < 10 → v * 10 + d ≤ most → more ((48 + d) ∷ l) stop v at ≡ more l stop (v * 10 + d) (at + 1)
 unfolding more

@@ -1,6 +1,6 @@
 -- Level one as document 01 words it ("Level one: the word alone"): where each character of a word stands, in half units from the
 -- start of the word's longer string. Solid and spread, character by character, are in `Worded` of the crate `spread`.
-use mathlib.Core.Bool.{Bool, true, false, cond}
+use mathlib.Core.Bool.{Bool, cond}
 use mathlib.Core.List.{List, [], _∷_, _++_, map}
 use Prim.Native.Nat.{ℕ, _+_, _-_, _*_}
 use lib.Dec.{eqb, leb, ltb}

@@ -5,7 +5,6 @@ use mathlib.Core.List.{List, [], _∷_, map}
 use Prim.Native.Nat.{ℕ}
 use lib.ListN.{length, replicate}
 use Rattle.basics.specs.Lists.{sum}
-use Rattle.spread.specs.Gap.{starts}
 use Rattle.word.specs.declared.Form.{Form}
 use Rattle.word.specs.declared.Form.the-variants as form
 use Rattle.word.specs.declared.Answer.{Answer}

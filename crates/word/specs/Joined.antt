@@ -1,14 +1,14 @@
 -- The numbers of a word are document 01's places: the strings that they describe are those of `Alone`, character by character.
 use mathlib.Core.Path.{_≡_, refl, sym, ap, ap₂, _∙_}
-use mathlib.Core.Bool.{Bool, true, false, cond, _||_, false≢true}
+use mathlib.Core.Bool.{Bool, true, false, cond, false≢true}
 use mathlib.Core.List.{List, [], _∷_, _++_, map, map-append}
-use Prim.Native.Nat.{ℕ, _+_, _-_, _*_, _≤_, _<_}
+use Prim.Native.Nat.{ℕ, _+_, _-_, _*_, _≤_}
 use native.Mathlib.Nat.{add-zero, add-assoc, sub-self}
 use native.Mathlib.Omega.{arith}
-use borrow.Author.Tests.{le-leb, leb-true, leb-false, eqb-true, ltb-false}
+use borrow.Author.Tests.{le-leb, eqb-true, ltb-false}
 use lib.Dec.{leb, eqb, ltb}
 use lib.ListN.{length}
-use Rattle.basics.specs.Lists.{sum, any}
+use Rattle.basics.specs.Lists.{sum}
 use Rattle.basics.specs.Laws.{or-none}
 use Rattle.spread.specs.declared.Way.{Way}
 use Rattle.spread.specs.declared.Way.the-variants.{Solid}

@@ -1,30 +1,30 @@
 -- A J cut by a line end (document 01, "Level one"): "A J cut by a line end is two words: a part of one character is set as M, a part of more as J."
 -- A part of a J that is set is set, and a part of one character stands alike as M and as J.
-use mathlib.Core.Path.{_≡_, refl, sym, ap, ap₂, _∙_}
-use mathlib.Core.Bool.{Bool, true, false, cond, not, _&&_, _||_, false≢true, true≢false}
+use mathlib.Core.Path.{_≡_, refl, sym, _∙_}
+use mathlib.Core.Bool.{Bool, true, false, cond, not, _&&_, _||_, true≢false}
 use mathlib.Core.List.{List, [], _∷_, _++_, map, map-id, append-nil}
-use Prim.Native.Nat.{ℕ, zero, suc, _+_, _-_, _*_, _≤_, _<_, min}
+use Prim.Native.Nat.{ℕ, zero, suc, _+_, _-_, _≤_, _<_}
 use native.Mathlib.Nat.{zero-add, add-zero}
 use native.Mathlib.Omega.{arith}
 use borrow.Author.Tests.{lt-leb, le-leb, ltb-true, ltb-false, eqb-true, not-false}
-use lib.Dec.{eqb, leb, ltb}
-use lib.ListN.{length, take, drop, length-take, length-drop}
+use lib.Dec.{eqb, ltb}
+use lib.ListN.{length, take, drop, length-drop}
 use lib.Seq.{length-take-le, take-all}
 use Rattle.basics.specs.Lists.{sum, any, other, All}
-use Rattle.basics.specs.Laws.{or-none, any-none, none-any, all-take, all-drop, all-least, sum-part, sum-split, sum-some}
+use Rattle.basics.specs.Laws.{or-none, any-none, none-any, all-take, all-drop, all-least, sum-part, sum-split}
 use Rattle.class.specs.Class.{western, kanaLike}
 use Rattle.word.specs.declared.Form.{Form}
 use Rattle.word.specs.declared.Form.the-variants.{M, J}
 use Rattle.word.specs.declared.Word.{Word}
 use Rattle.word.specs.declared.Answer.the-variants.{Set}
-use Rattle.word.specs.Given.{Given, hasRuby, isJ}
+use Rattle.word.specs.Given.{Given}
 use Rattle.spread.specs.declared.Way.the-variants.{Solid}
 use Rattle.spread.specs.Worded.{solid, along}
 use Rattle.word.specs.declared.Script.{Script}
 use Rattle.word.specs.declared.Script.the-variants.{Kana, Western}
 use Rattle.word.specs.Alone.{Places, byWay, mono, group, jukugo, places, script, rubyWay, baseWay, overOwn}
 use Rattle.word.specs.Word.{wordOf}
-use Rattle.word.specs.Answer.{blankInside, jukugoBase, mixed, mixedIn, westernOver, answer}
+use Rattle.word.specs.Answer.{blankInside, jukugoBase, mixed, mixedIn, answer}
 use Rattle.word.specs.Sized.{Sized}
 use Rattle.word.specs.Joined.{group-is}
 use Rattle.word.specs.Promise.{passed, set}

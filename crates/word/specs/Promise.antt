@@ -1,13 +1,13 @@
 -- What level one promises of a word to those above: lengths, protrusions and limits. Lines and jobs use these laws and no definition of this crate.
-use mathlib.Core.Path.{_≡_, refl, sym, ap, _∙_, subst}
-use mathlib.Core.Bool.{Bool, true, false, cond, not, _&&_, _||_, false≢true, true≢false}
-use mathlib.Core.List.{List, [], _∷_, map}
+use mathlib.Core.Path.{_≡_, refl, sym, subst}
+use mathlib.Core.Bool.{Bool, true, false, cond, not, false≢true, true≢false}
+use mathlib.Core.List.{List, map}
 use mathlib.Core.Logic.{_⊎_, inl, inr}
-use Prim.Native.Nat.{ℕ, _+_, _-_, _*_, _≤_, _<_, max, zero-le}
+use Prim.Native.Nat.{ℕ, _+_, _-_, _*_, _≤_, _<_, zero-le}
 use native.Mathlib.Nat.{sub-self}
 use native.Mathlib.Omega.{arith}
 use borrow.Author.Tests.{leb-true, leb-false}
-use lib.Dec.{leb, ltb}
+use lib.Dec.{leb}
 use lib.ListN.{length, getD}
 use Rattle.basics.specs.Lists.{sum, any, other, lastOr}
 use Rattle.basics.specs.Laws.{or-none, sum-some, all-least}
@@ -18,14 +18,12 @@ use Rattle.spread.specs.declared.Way.the-variants.{Solid}
 use Rattle.spread.specs.Gap.{gap, inner}
 use Rattle.spread.specs.Running.{Ready}
 use Rattle.spread.specs.Laws.{gap-le, gap-one}
-use Rattle.word.specs.declared.Script.{Script}
 use Rattle.word.specs.declared.Script.the-variants.{Kana}
 use Rattle.word.specs.declared.Form.{Form}
 use Rattle.word.specs.declared.Form.the-variants.{P, M, G, J}
 use Rattle.word.specs.declared.Word.{Word}
-use Rattle.word.specs.declared.Answer.{Answer}
 use Rattle.word.specs.declared.Answer.the-variants.{Set, Refused}
-use Rattle.word.specs.Given.{Given, hasRuby, isG, isJ}
+use Rattle.word.specs.Given.{Given, hasRuby, isJ}
 use Rattle.word.specs.Alone.{script, rubyWay, baseWay, split, anyLonger}
 use Rattle.word.specs.Word.{shortRuby, shortBase, wordBy, plain, groupWord, overEach, jukugoWord, wordOf, total}
 use Rattle.word.specs.Answer.{blankInside, jukugoBase, mixedIn, westernOver, answer}

@@ -1,8 +1,8 @@
 -- What the callers of level one have made sure of: few enough characters, narrow enough. The checks of characters and counts (numbers 3, 5 and 6) leave nothing else.
 use mathlib.Core.Path.{_≡_}
-use mathlib.Core.Bool.{Bool, true, false}
+use mathlib.Core.Bool.{true, false}
 use mathlib.Core.List.{List}
-use Prim.Native.Nat.{ℕ, _+_, _*_, _≤_, _<_}
+use Prim.Native.Nat.{ℕ, _≤_, _<_}
 use lib.ListN.{length}
 use Rattle.basics.specs.Lists.{sum}
 use Rattle.word.specs.declared.Form.{Form}

@@ -1,10 +1,10 @@
 -- What is proved of level one, where people will look. `answer` is the contract of `measure`, `baseStarts` and `rubyStarts` are those of `put_base`
 -- and `put_ruby`; `places` is document 01's own wording of where the characters of a word stand.
-use mathlib.Core.Path.{_≡_, refl, sym, ap, _∙_}
-use mathlib.Core.Bool.{Bool, true, false}
+use mathlib.Core.Path.{_≡_, sym, ap, _∙_}
+use mathlib.Core.Bool.{true, false}
 use mathlib.Core.List.{List, [], _∷_, map}
 use mathlib.Core.Logic.{_⊎_, inl, inr}
-use Prim.Native.Nat.{ℕ, _+_, _-_, _*_, _≤_, _<_, max}
+use Prim.Native.Nat.{ℕ, _+_, _-_, _*_, _≤_, _<_}
 use native.Mathlib.Omega.{arith}
 use lib.ListN.{length}
 use Rattle.basics.specs.Lists.{All}
@@ -14,7 +14,6 @@ use Rattle.spread.specs.Laws as spread
 use Rattle.word.specs.declared.Form.{Form}
 use Rattle.word.specs.declared.Form.the-variants.{M, J}
 use Rattle.word.specs.declared.Word.{Word}
-use Rattle.word.specs.declared.Answer.{Answer}
 use Rattle.word.specs.declared.Answer.the-variants.{Set}
 use Rattle.word.specs.Given.{Given, hasRuby}
 use Rattle.word.specs.Alone.{places}

@@ -1,5 +1,5 @@
 -- A word by its numbers, as the engine carries it: block, ruby, and the space within each string. `Joined` shows that these are the places of `Alone`.
-use mathlib.Core.Bool.{Bool, true, false, cond}
+use mathlib.Core.Bool.{true, false, cond}
 use mathlib.Core.List.{List, [], _∷_, _++_, map}
 use Prim.Native.Nat.{ℕ, _+_, _-_, _*_, max}
 use lib.Dec.{leb}
@@ -9,7 +9,7 @@ use Rattle.spread.specs.declared.Way.{Way}
 use Rattle.spread.specs.declared.Way.the-variants.{Solid}
 use Rattle.spread.specs.Gap.{gap, inner, starts}
 use Rattle.word.specs.declared.Script.{Script}
-use Rattle.word.specs.declared.Script.the-variants.{Kana, Western}
+use Rattle.word.specs.declared.Script.the-variants.{Kana}
 use Rattle.word.specs.declared.Form.{Form}
 use Rattle.word.specs.declared.Form.the-variants.{P, M, G, J}
 use Rattle.word.specs.declared.Word.{Word}

@@ -1,5 +1,5 @@
 -- The entry's fields are the rule's, and the depth that they give is document 01's. An entry has at most two quarters.
-use mathlib.Core.Path.{_≡_, _∙_}
+use mathlib.Core.Path.{_∙_}
 use borrow.Author.Needs.{needs}
 use Rattle.class.specs.Class.{rowOf}
 use Rattle.class.specs.Laws.{quarters-most, before-share}

@@ -1,5 +1,5 @@
 -- The table says of each class from 0 to 30 what the rule says, which antt computes once. Past the table the rule gives a class outside.
-use mathlib.Core.Path.{_≡_, refl, sym, ap, _∙_}
+use mathlib.Core.Path.{refl, sym, ap, _∙_}
 use native.Mathlib.Omega.{arith}
 use borrow.Author.Needs.{needs}
 use Rattle.class.specs.Class.{rowOf, accepted, western, kanaLike, kindOf, blankBefore, blankAfter, blankWhole, quarters}

@@ -1,5 +1,5 @@
 -- The kind is the row's field, and the row is what the entry says.
-use mathlib.Core.Path.{_≡_, _∙_, ap}
+use mathlib.Core.Path.{_∙_, ap}
 use borrow.Author.Needs.{needs}
 use Rattle.class.specs.declared.Row.{Row}
 use Rattle.class.specs.Class.{rowOf}

@@ -1,5 +1,5 @@
 -- The shortest of five, by comparing two at a time. That is the definition's own order.
-use mathlib.Core.Path.{_≡_, refl, sym, ap, _∙_}
+use mathlib.Core.Path.{_∙_}
 use borrow.Author.Needs.{needs}
 use Rattle.door.proofs.base_count.Statement.{statement}
 use Rattle.door.proofs.base_count.Tie as tie

@@ -1,5 +1,5 @@
 -- The two fields against the class, then both against the width. The sum is taken in u64, where it cannot wrap.
-use mathlib.Core.Path.{_≡_, refl, sym, ap, _∙_}
+use mathlib.Core.Path.{_≡_, _∙_}
 use mathlib.Core.Bool.{not, _&&_}
 use lib.Dec.{ltb}
 use Rattle.class.specs.Class.{rowOf, blankBefore, blankAfter}

@@ -1,5 +1,5 @@
 -- The class by its entry, then the width, then the flag. Each is its part of the row.
-use mathlib.Core.Path.{_≡_, refl, sym, ap, _∙_}
+use mathlib.Core.Path.{_≡_, sym, ap, _∙_}
 use mathlib.Core.Bool.{true, false}
 use Rattle.class.specs.declared.Row.{Row}
 use Rattle.class.specs.Class.{rowOf, accepted}

@@ -1,5 +1,5 @@
 -- What is left to look at decides the whole. A character that is refused ends the walk, and past the last there is nothing to refuse.
-use mathlib.Core.Path.{_≡_, refl, sym, ap, _∙_}
+use mathlib.Core.Path.{_≡_, sym, _∙_}
 use Prim.Native.Nat.{_≤_, _-_}
 use Rattle.basics.specs.Lists.{each, count}
 use Rattle.door.specs.Refusals.{baseFaults}

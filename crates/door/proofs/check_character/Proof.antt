@@ -1,5 +1,4 @@
 -- Number 3, then number 4. Past both the rows are empty.
-use mathlib.Core.Path.{_≡_, refl, sym, ap, _∙_}
 use borrow.Author.Needs.{needs}
 use Rattle.door.proofs.check_character.Statement.{statement}
 use Rattle.door.proofs.check_character.Tie as tie

@@ -1,11 +1,10 @@
 -- Number 5, then 6, then what level one answers: each is its row, and past them all stands the piece. A piece that passes 5 and 6 lies within the lists, so level one may be asked.
-use mathlib.Core.Path.{_≡_, refl, sym, ap, _∙_}
-use mathlib.Core.Bool.{false, _||_}
+use mathlib.Core.Path.{_≡_, sym, _∙_}
+use mathlib.Core.Bool.{_||_}
 use lib.Dec.{ltb}
 use Prim.Native.Nat.{_+_}
 use Rattle.door.specs.declared.Piece.{Piece}
 use Rattle.door.specs.declared.Counted.the-variants.{Is}
-use Rattle.door.specs.declared.Step.the-variants.{Next}
 use Rattle.door.specs.Job.{element, given}
 use Rattle.word.specs.Answer.{answer}
 use Rattle.door.specs.Elements.{partsOnly, own-reads}

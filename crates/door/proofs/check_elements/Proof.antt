@@ -1,5 +1,5 @@
 -- What is left of the walk decides, and what was taken and what is left make up all characters. An element that is refused ends it; past the last the leftovers decide.
-use mathlib.Core.Path.{_≡_, refl, sym, ap, _∙_}
+use mathlib.Core.Path.{_≡_, sym, _∙_}
 use Prim.Native.Nat.{_+_, _-_}
 use Rattle.door.specs.declared.Step.the-variants.{Next}
 use Rattle.door.specs.Job.{takesRuns}

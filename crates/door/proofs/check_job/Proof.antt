@@ -1,5 +1,5 @@
 -- The groups in the order of the list, each by its own check: a group that refuses decides the whole, one that passes leaves the rest. What each asks for, the groups before it have made sure of.
-use mathlib.Core.Path.{_≡_, refl, sym, ap, _∙_}
+use mathlib.Core.Path.{_≡_, sym, _∙_}
 use Rattle.door.specs.declared.Checked.the-variants.{Passed}
 use Rattle.door.specs.Job.{baseCount, rubyCount, elementCount, jobOf}
 use Rattle.door.specs.Verdict.{verdict}

@@ -1,5 +1,4 @@
 -- The row of a ruby character, which has no flag. With the flag 0 its part of the test is empty.
-use mathlib.Core.Path.{_≡_, refl, sym, ap, _∙_}
 use mathlib.Core.Bool.{or-false}
 use Rattle.door.specs.Refusals.{outside}
 use borrow.Author.Needs.{needs}

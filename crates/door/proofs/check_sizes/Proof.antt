@@ -1,6 +1,5 @@
 -- Each test is its row, in the order of the list. Past them all the rows are empty.
-use mathlib.Core.Path.{_≡_, refl, sym, ap, _∙_}
-use borrow.Author.Tests.{lt-ltb, le-ltb, eq-eqb, ne-eqb}
+use borrow.Author.Tests.{lt-ltb, le-ltb}
 use borrow.Author.Needs.{needs}
 use Rattle.door.proofs.check_sizes.Statement.{statement}
 use Rattle.door.proofs.check_sizes.Tie as tie

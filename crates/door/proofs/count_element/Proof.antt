@@ -1,5 +1,4 @@
 -- By the kind, once it is known. Each form is counted as its own row has it.
-use mathlib.Core.Path.{_≡_, refl, sym, ap, _∙_}
 use borrow.Author.Tests.{not-true, not-false}
 use Rattle.door.specs.Elements.{countedBy}
 use borrow.Author.Needs.{needs}

@@ -1,5 +1,4 @@
 -- The base count, then the ruby count, each in its range. Each is its part of the row.
-use mathlib.Core.Path.{_≡_, refl, sym, ap, _∙_}
 use borrow.Author.Needs.{needs}
 use Rattle.door.proofs.count_group.Statement.{statement}
 use Rattle.door.proofs.count_group.Tie as tie

@@ -1,12 +1,11 @@
 -- The base count in its range, then the runs. What the runs take is the ruby count.
-use mathlib.Core.Path.{_≡_, refl, sym, ap, _∙_}
+use mathlib.Core.Path.{_≡_, sym, _∙_}
 use borrow.Author.Tests.{ltb-false}
 use mathlib.Core.Bool.{false, _||_}
 use lib.Dec.{ltb, eqb}
 use Rattle.basics.specs.Lists.{any, sum}
 use Rattle.door.specs.Job.{entries}
 use Rattle.basics.specs.Laws.{or-none}
-use Rattle.door.specs.Refusals.{outside}
 use Rattle.door.specs.Values.{runs-wrong, runs-sum}
 use borrow.Author.Needs.{needs}
 use Rattle.door.proofs.count_jukugo.Statement.{statement}

@@ -1,5 +1,4 @@
 -- The ruby count in its range, or not. The other counts are not read.
-use mathlib.Core.Path.{_≡_, refl, sym, ap, _∙_}
 use borrow.Author.Needs.{needs}
 use Rattle.door.proofs.count_mono.Statement.{statement}
 use Rattle.door.proofs.count_mono.Tie as tie

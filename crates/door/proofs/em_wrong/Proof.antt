@@ -1,6 +1,6 @@
 -- Odd, or else outside its range. Each is its part of the row.
-use mathlib.Core.Path.{_≡_, refl, sym, ap, _∙_}
-use borrow.Author.Tests.{lt-ltb, le-ltb, eq-eqb, ne-eqb}
+use mathlib.Core.Path.{_∙_}
+use borrow.Author.Tests.{eq-eqb, ne-eqb}
 use borrow.Author.Needs.{needs}
 use Rattle.door.proofs.em_wrong.Statement.{statement}
 use Rattle.door.proofs.em_wrong.Tie as tie

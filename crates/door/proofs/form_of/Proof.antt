@@ -1,5 +1,4 @@
 -- Three letters in turn; all else is set as P. Each is its part of `formOf`.
-use mathlib.Core.Path.{_≡_, refl, sym, ap, _∙_}
 use borrow.Author.Tests.{eq-eqb, ne-eqb}
 use Rattle.door.proofs.form_of.Statement.{statement}
 use Rattle.door.proofs.form_of.Tie as tie

@@ -1,5 +1,5 @@
 -- The four letters in turn. Each is its part of `known`.
-use mathlib.Core.Path.{_≡_, refl, sym, ap, _∙_}
+use mathlib.Core.Path.{sym}
 use borrow.Author.Tests.{eq-eqb, ne-eqb}
 use mathlib.Core.Bool.{or-false}
 use lib.Dec.{eqb}

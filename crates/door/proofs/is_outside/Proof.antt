@@ -1,6 +1,5 @@
 -- Below, or else above. Each is its part of `outside`.
-use mathlib.Core.Path.{_≡_, refl, sym, ap, _∙_}
-use borrow.Author.Tests.{lt-ltb, le-ltb, eq-eqb, ne-eqb}
+use borrow.Author.Tests.{lt-ltb, le-ltb}
 use Rattle.door.proofs.is_outside.Statement.{statement}
 use Rattle.door.proofs.is_outside.Tie as tie
 

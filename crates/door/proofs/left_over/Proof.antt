@@ -1,5 +1,4 @@
 -- The base characters, or else the ruby characters. Each is its part of the row.
-use mathlib.Core.Path.{_≡_, refl, sym, ap, _∙_}
 use borrow.Author.Tests.{lt-ltb, le-ltb}
 use Rattle.door.proofs.left_over.Statement.{statement}
 use Rattle.door.proofs.left_over.Tie as tie

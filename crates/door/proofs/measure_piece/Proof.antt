@@ -1,5 +1,5 @@
 -- Each part that is lent lies within its list, and holds what level one is given of the piece. So its answer is the piece's.
-use mathlib.Core.Path.{_≡_, refl, sym, ap, _∙_}
+use mathlib.Core.Path.{_∙_}
 use Rattle.door.specs.Elements.{lent-answer, lent-sized}
 use borrow.Author.Needs.{needs}
 use native.Mathlib.Omega.{arith}

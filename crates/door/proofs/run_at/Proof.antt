@@ -1,5 +1,5 @@
 -- Within the list its entry, past the end 0. That is what `getD` reads.
-use mathlib.Core.Path.{_≡_, refl, sym, ap, _∙_}
+use mathlib.Core.Path.{sym}
 use lib.ListN.{List·getD-eq-default}
 use borrow.Author.Needs.{needs}
 use Rattle.door.proofs.run_at.Statement.{statement}

@@ -1,5 +1,5 @@
 -- Only a J takes runs, one for each base character. The other forms end where they start.
-use mathlib.Core.Path.{_≡_, refl, sym, ap, _∙_}
+use mathlib.Core.Path.{sym}
 use native.Mathlib.Nat.{add-zero}
 use borrow.Author.Needs.{needs}
 use Rattle.door.proofs.runs_end.Statement.{statement}

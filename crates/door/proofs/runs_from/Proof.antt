@@ -1,10 +1,9 @@
 -- What is left to read decides whether some run is 0, and makes up the sum with what was taken. A run that is 0 ends it.
-use mathlib.Core.Path.{_≡_, refl, sym, ap, _∙_}
+use mathlib.Core.Path.{_≡_, sym, ap, _∙_}
 use Prim.Native.Nat.{_+_, _-_, _*_, _≤_}
 use borrow.Author.Tests.{eq-eqb, ne-eqb, lt-ltb, le-ltb}
-use mathlib.Core.Bool.{true, false, or-true}
+use mathlib.Core.Bool.{false}
 use lib.Dec.{eqb}
-use lib.ListN.{getD}
 use Rattle.basics.specs.Lists.{sum, any}
 use Rattle.door.specs.Job.{entries}
 use Rattle.door.specs.Entries.{entries-next, entries-all, entries-none}

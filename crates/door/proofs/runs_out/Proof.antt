@@ -1,5 +1,4 @@
 -- The base characters, or else the ruby characters. Each is its part of the row.
-use mathlib.Core.Path.{_≡_, refl, sym, ap, _∙_}
 use borrow.Author.Tests.{lt-ltb, le-ltb}
 use borrow.Author.Needs.{needs}
 use Rattle.door.proofs.runs_out.Statement.{statement}

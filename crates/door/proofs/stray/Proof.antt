@@ -1,6 +1,6 @@
 -- A class that may have the blank has none to refuse. For the others any width but 0 is one.
 use lib.Dec.{ltb}
-use mathlib.Core.Path.{_≡_, refl, sym, ap, _∙_}
+use mathlib.Core.Path.{_≡_, sym}
 use mathlib.Core.Bool.{Bool, true, false, not, _&&_, and-false, and-true}
 use Rattle.door.proofs.stray.Statement.{statement}
 use Rattle.door.proofs.stray.Tie as tie

@@ -1,6 +1,5 @@
 -- The three lists in turn. Each is its part of the row.
-use mathlib.Core.Path.{_≡_, refl, sym, ap, _∙_}
-use borrow.Author.Tests.{lt-ltb, le-ltb, eq-eqb, ne-eqb}
+use borrow.Author.Tests.{lt-ltb, le-ltb}
 use Rattle.door.proofs.too_short.Statement.{statement}
 use Rattle.door.proofs.too_short.Tie as tie
 

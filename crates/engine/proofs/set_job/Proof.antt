@@ -2,7 +2,6 @@
 -- result list has been lent to anything yet.
 use mathlib.Core.Path.{_≡_, refl, sym, _∙_, subst}
 use borrow.Author.Needs.{needs}
-use native.Mathlib.Omega.{arith}
 use Rattle.door.specs.Job.{jobOf}
 use Rattle.door.specs.Refusals.{ownFaults}
 use Rattle.door.specs.Verdict.{verdict}
@@ -13,11 +12,6 @@ use Rattle.engine.specs.Whole as whole
 use lib.ListN.{length}
 use Rattle.engine.proofs.set_job.Statement.{statement}
 use Rattle.engine.proofs.set_job.Tie as tie
-use Rattle.engine.proofs.set_job.Reads as reads
-use Rattle.engine.proofs.set_job.Lts as lts
-use Rattle.door.proofs.check_job.Reads as check-job-reads
-use Rattle.fill.proofs.fill_lines.Reads as fill-lines-reads
-use Rattle.write.proofs.write_lines.Reads as write-lines-reads
 
 passes : (c : tie.After-enum-told) → verdict (ownFaults (jobOf (c .before .before .before .before .before .before .before .before .before .before .before .before .before .before .before .before .before .args .em) (c .before .before .before .before .before .before .before .before .before .before .before .before .before .before .before .before .before .args .measure) (c .before .before .before .before .before .before .before .before .before .before .before .before .before .before .before .before .before .args .class .now) (c .before .before .before .before .before .before .before .before .before .before .before .before .before .before .before .before .before .args .width .now) (c .before .before .before .before .before .before .before .before .before .before .before .before .before .before .before .before .before .args .before .now) (c .before .before .before .before .before .before .before .before .before .before .before .before .before .before .before .before .before .args .after .now) (c .before .before .before .before .before .before .before .before .before .before .before .before .before .before .before .before .before .args .flag .now) (c .before .before .before .before .before .before .before .before .before .before .before .before .before .before .before .before .before .args .rclass .now) (c .before .before .before .before .before .before .before .before .before .before .before .before .before .before .before .before .before .args .rwidth .now) (c .before .before .before .before .before .before .before .before .before .before .before .before .before .before .before .before .before .args .kind .now) (c .before .before .before .before .before .before .before .before .before .before .before .before .before .before .before .before .before .args .ebase .now) (c .before .before .before .before .before .before .before .before .before .before .before .before .before .before .before .before .before .args .eruby .now) (c .before .before .before .before .before .before .before .before .before .before .before .before .before .before .before .before .before .args .runs .now)) (length (c .before .before .before .before .before .before .before .before .before .before .before .before .before .before .before .before .before .args .base .now)) (length (c .before .before .before .before .before .before .before .before .before .before .before .before .before .before .before .before .before .args .ruby .now)) (length (c .before .before .before .before .before .before .before .before .before .before .before .before .before .before .before .before .before .args .lines .now))) ≡ Passed
 passes c = sym (c .before .before .check-job .ensures) ∙ c .enum-told .given .1

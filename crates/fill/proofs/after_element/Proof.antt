@@ -1,8 +1,7 @@
 -- Where the line may end with the element and can be set, that is the furthest break so far. Else the inner breaks of a J decide, and of any other element the break before it remains.
-use mathlib.Core.Path.{_≡_, refl, sym, ap, _∙_, subst}
-use mathlib.Core.Bool.{true, false, _&&_, and-comm}
-use Prim.Native.Nat.{_+_, _-_}
-use Rattle.word.specs.Given.{isJ}
+use mathlib.Core.Path.{_≡_, sym, _∙_}
+use mathlib.Core.Bool.{_&&_, and-comm}
+use Prim.Native.Nat.{_+_}
 use Rattle.door.specs.Job.{jobOf}
 use Rattle.job.specs.Line.{permitted, canSet}
 use Rattle.fill.specs.Search as search

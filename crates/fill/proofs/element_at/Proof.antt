@@ -1,5 +1,5 @@
 -- By the form, with the counts that it shows; a J takes what its runs take. Each arm is the definition's record.
-use mathlib.Core.Path.{_≡_, refl, sym, ap, _∙_, subst}
+use mathlib.Core.Path.{_≡_}
 use mathlib.Core.Bool.{true}
 use Prim.Native.Nat.{_+_, _≤_, _<_}
 use lib.ListN.{length, getD}

@@ -1,5 +1,5 @@
 -- By the form: a P has the depths of its one character, every other form none. The lengths are the word's.
-use mathlib.Core.Path.{_≡_, refl, sym, ap, _∙_}
+use mathlib.Core.Path.{_∙_}
 use borrow.Author.Needs.{needs}
 use Rattle.fill.proofs.element_of.Statement.{statement}
 use Rattle.fill.proofs.element_of.Tie as tie

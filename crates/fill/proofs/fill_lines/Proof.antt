@@ -1,5 +1,5 @@
 -- The lines so far chain up to here, `Sofar`, and the next ends where `line_end` says. A line without an end is stuck there; at the last base character the lines fill the job, and there is only one way to.
-use mathlib.Core.Path.{_≡_, refl, sym, ap, _∙_, subst}
+use mathlib.Core.Path.{_≡_, subst}
 use Prim.Native.Nat.{_<_, _≤_, _-_}
 use Rattle.door.specs.Job.{jobOf, baseCount, elementCount}
 use Rattle.fill.specs.declared.Ended.{Ended}

@@ -1,5 +1,4 @@
 -- The further of the last block's end and the furthest ruby's is the extent. It is compared in u64, so that no measure is too large.
-use mathlib.Core.Path.{_≡_, refl, sym, ap, _∙_}
 use borrow.Author.Needs.{needs}
 use Rattle.fill.proofs.fits.Statement.{statement}
 use Rattle.fill.proofs.fits.Tie as tie

@@ -1,5 +1,4 @@
 -- One character is an M, more are a J. Each is its arm of the definition.
-use mathlib.Core.Path.{_≡_, refl, sym, ap, _∙_}
 use borrow.Author.Tests.{eq-eqb, ne-eqb}
 use Rattle.fill.proofs.form_of_part.Statement.{statement}
 use Rattle.fill.proofs.form_of_part.Tie as tie

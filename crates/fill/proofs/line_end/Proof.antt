@@ -1,8 +1,7 @@
 -- What is known at each element, `Seeks`, goes on from one to the next; the search stops at a whole element that passes the measure, or behind the last. Either way the break found is the furthest.
-use mathlib.Core.Path.{_≡_, refl, sym, ap, _∙_, subst}
+use mathlib.Core.Path.{_≡_, refl, _∙_, subst}
 use Prim.Native.Nat.{_+_, _-_, _<_}
-use Rattle.door.specs.declared.Piece.{Piece}
-use Rattle.door.specs.Job.{jobOf, elementCount, element, takesRuns}
+use Rattle.door.specs.Job.{jobOf, elementCount, element}
 use Rattle.fill.specs.declared.Turn.{Turn}
 use Rattle.fill.specs.Search as search
 use borrow.Author.Needs.{needs}

@@ -1,5 +1,4 @@
 -- A line that cannot be set ends nowhere. One that can ends at the job's end or behind a flag.
-use mathlib.Core.Path.{_≡_, refl, sym, ap, _∙_, subst}
 use borrow.Author.Tests.{eq-eqb, ne-eqb}
 use borrow.Author.Needs.{needs}
 use Rattle.fill.proofs.may_end.Statement.{statement}

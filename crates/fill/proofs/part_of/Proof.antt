@@ -1,5 +1,4 @@
 -- The two sums are those of the runs before the part and of the part's own. The rest is the definition's record.
-use mathlib.Core.Path.{_≡_, refl, sym, ap, _∙_}
 use Prim.Native.Nat.{_+_}
 use Rattle.door.specs.Entries.{part-of}
 use Rattle.job.specs.Line.{part}

@@ -1,5 +1,5 @@
 -- The state behind the element says whether its line can be set, and `after_element` the furthest break up to there. If it cannot, nothing further can, and the search ends.
-use mathlib.Core.Path.{_≡_, refl, sym, ap, _∙_, subst}
+use mathlib.Core.Path.{_≡_, sym, ap, _∙_, subst}
 use Prim.Native.Nat.{_+_, _*_}
 use lib.Dec.{leb}
 use Rattle.line.specs.declared.State.{State}
@@ -7,7 +7,6 @@ use Rattle.line.specs.Setting as setting
 use Rattle.door.specs.Job.{jobOf}
 use Rattle.job.specs.Line.{canSet}
 use Rattle.job.specs.Walk.{stateOf, can-set}
-use Rattle.fill.specs.declared.Break.{Break}
 use Rattle.fill.specs.Reach.{at-state, at-refused}
 use Rattle.fill.specs.Search as search
 use borrow.Author.Needs.{needs}

@@ -1,7 +1,6 @@
 -- By the form: only a J is cut, and only where fewer characters than it has are in the line. Every other form is whole.
-use mathlib.Core.Path.{_≡_, refl, sym, ap, _∙_}
+use mathlib.Core.Path.{_∙_}
 use borrow.Author.Tests.{lt-ltb, le-ltb}
-use Rattle.word.specs.Given.{isJ}
 use borrow.Author.Needs.{needs}
 use Rattle.fill.proofs.piece_upto.Statement.{statement}
 use Rattle.fill.proofs.piece_upto.Tie as tie

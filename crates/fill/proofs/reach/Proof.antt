@@ -1,8 +1,7 @@
 -- The piece is one that level one sets, so its refusals never come to pass; the line sees it as `seen` has it, and its place is the least. The state then is that of the line up to c.
-use mathlib.Core.Path.{_≡_, refl, sym, ap, _∙_}
+use mathlib.Core.Path.{_≡_, sym, _∙_}
 use Prim.Native.Nat.{ℕ}
 use Rattle.word.specs.declared.Answer.the-variants.{Set}
-use Rattle.door.specs.declared.Piece.{Piece}
 use Rattle.door.specs.Job.{jobOf}
 use Rattle.job.specs.Line.{wordOf, seen}
 use Rattle.fill.specs.Piece.{pieceUpto, same-piece, cuts}

@@ -1,9 +1,8 @@
 -- From the J's last inner break down: each that fails leaves the furthest break where it was, the first that can be set is it. Below the lowest the break of the elements before remains.
-use mathlib.Core.Path.{_≡_, refl, sym, ap, _∙_, subst}
-use Prim.Native.Nat.{ℕ, _+_, _-_, _*_, _≤_, _<_, max}
+use mathlib.Core.Path.{_≡_, refl, sym, _∙_}
+use Prim.Native.Nat.{_+_, _-_, _*_, _≤_, _<_, max}
 use mathlib.Core.Bool.{Bool}
 use lib.Dec.{leb}
-use Rattle.line.specs.declared.State.{State}
 use Rattle.line.specs.Setting as setting
 use Rattle.door.specs.Job.{jobOf}
 use Rattle.job.specs.Walk.{stateOf, best}

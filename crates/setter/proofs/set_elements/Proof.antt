@@ -1,6 +1,5 @@
 -- The parts that are lent lie within their tables, and what the job in lists is told is what is told here.
 use borrow.Author.Needs.{needs}
-use native.Mathlib.Omega.{arith}
 use borrow.Author.Needs.{needs}
 use Rattle.setter.proofs.set_elements.Statement.{statement}
 use Rattle.setter.proofs.set_elements.Tie as tie

@@ -4,7 +4,6 @@ use Rattle.text.specs.Places.{drop-at}
 use lib.ListN.{drop-of-length-le}
 use borrow.Author.Tests.{eq-eqb, ne-eqb}
 use borrow.Author.Needs.{needs}
-use native.Mathlib.Omega.{arith}
 use Rattle.text.proofs.alone.Statement.{statement}
 use Rattle.text.proofs.alone.Tie as tie
 

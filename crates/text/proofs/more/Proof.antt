@@ -8,7 +8,6 @@ use lib.ListN.{length, drop}
 use Rattle.text.specs.Places.{drop-at}
 use lib.ListN.{drop-of-length-le}
 use borrow.Author.Needs.{needs}
-use native.Mathlib.Omega.{arith}
 use Rattle.text.proofs.more.Statement.{statement}
 use Rattle.text.proofs.more.Tie as tie
 

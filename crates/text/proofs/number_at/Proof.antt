@@ -5,7 +5,6 @@ use mathlib.Core.Path.{_∙_, sym}
 use lib.ListN.{drop-of-length-le}
 use borrow.Author.Tests.{eq-eqb, ne-eqb, lt-ltb, le-ltb}
 use borrow.Author.Needs.{needs}
-use native.Mathlib.Omega.{arith}
 use Rattle.text.proofs.number_at.Statement.{statement}
 use Rattle.text.proofs.number_at.Tie as tie
 

@@ -5,9 +5,7 @@ use Rattle.text.specs.Places.{drop-at}
 use mathlib.Core.Path.{_≡_, _∙_, sym}
 use Prim.Native.Nat.{_≤_, _-_}
 use lib.ListN.{length, drop, drop-of-length-le}
-use borrow.Author.Tests.{eq-eqb, ne-eqb, lt-ltb, le-ltb}
 use borrow.Author.Needs.{needs}
-use native.Mathlib.Omega.{arith}
 use Rattle.text.proofs.word_at.Statement.{statement}
 use Rattle.text.proofs.word_at.Tie as tie
 

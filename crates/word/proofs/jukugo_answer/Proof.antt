@@ -1,5 +1,5 @@
 -- Each test is its row of the answer; a base that is kana-like throughout is no mixture, so row 9 asks the ruby alone. Past them all stands the word of the runs.
-use mathlib.Core.Path.{_≡_, refl, sym, ap, _∙_}
+use mathlib.Core.Path.{_≡_, sym, ap, _∙_}
 use mathlib.Core.Bool.{not, false}
 use Rattle.class.specs.Class.{kanaLike}
 use Rattle.basics.specs.Lists.{any}

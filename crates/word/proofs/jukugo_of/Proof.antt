@@ -1,5 +1,5 @@
 -- A run longer than one em makes it a G; else the first and the last run bound the ruby. No run is longer than the em that is taken from.
-use mathlib.Core.Path.{_≡_, refl, sym, ap, _∙_}
+use mathlib.Core.Path.{_≡_, sym, _∙_}
 use mathlib.Core.Bool.{false}
 use mathlib.Core.List.{List, map}
 use Prim.Native.Nat.{ℕ, zero-le}

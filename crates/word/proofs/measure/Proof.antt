@@ -1,5 +1,4 @@
 -- By the form: each arm is the answer of that form. What the arm leaves out the answer does not read.
-use mathlib.Core.Path.{_≡_}
 use Rattle.word.specs.Sized.{small}
 use Rattle.word.specs.Word.{wordOf}
 use Rattle.word.specs.Answer.{answer}

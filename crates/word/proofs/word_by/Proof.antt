@@ -1,5 +1,4 @@
 -- By which string is the longer. The gap in front is at most the difference, so no number of the record wraps.
-use mathlib.Core.Path.{_≡_, refl, sym, ap, _∙_}
 use Prim.Native.Nat.{_≤_, _-_}
 use lib.ListN.{length}
 use borrow.Author.Tests.{lt-leb, le-leb}

@@ -1,6 +1,5 @@
 -- The lent part of the list is written whole by the word's writer, and the rest of the list is what it was. Its length is that of the part.
 use mathlib.Core.Path.{_∙_}
-use lib.ListN.{length}
 use Rattle.basics.specs.Laws.{length-part}
 use Rattle.write.specs.Lists.{sets-part}
 use borrow.Author.Needs.{needs}

@@ -1,6 +1,5 @@
 -- A quotient by the power and a remainder by ten: a digit, so its byte does not pass 57.
 use borrow.Author.Needs.{needs}
-use native.Mathlib.Omega.{arith}
 use Rattle.text.proofs.print.digit.Statement.{statement}
 use Rattle.text.proofs.print.digit.Tie as tie
 

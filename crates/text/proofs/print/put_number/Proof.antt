@@ -3,8 +3,8 @@ use Rattle.text.specs.Written.{length-decimal, spell-more, spell-end}
 use Rattle.text.specs.Print.{width, spell, decimal}
 use lib.Seq.{sets}
 use lib.ListN.{length}
-use mathlib.Core.Path.{_≡_, _∙_, sym, ap}
-use Prim.Native.Nat.{ℕ, suc, _≤_, _-_, _+_}
+use mathlib.Core.Path.{_≡_, _∙_, sym}
+use Prim.Native.Nat.{_≤_, _+_}
 use borrow.Author.Needs.{needs}
 use native.Mathlib.Omega.{arith}
 use Rattle.text.proofs.print.put_number.Statement.{statement}

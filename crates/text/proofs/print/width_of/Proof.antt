@@ -1,11 +1,9 @@
 -- How wide n is, is how wide it is from k digits on with the fuel that is left. The loop stops at the first power that passes n.
 use Rattle.text.specs.Written.{width-stop, width-more, width-end}
 use Rattle.text.specs.Print.{width, widthFrom}
-use borrow.Author.Tests.{le-leb, lt-leb}
-use mathlib.Core.Path.{_≡_, _∙_, sym, ap}
-use Prim.Native.Nat.{ℕ, suc, _≤_, _-_, _+_}
+use mathlib.Core.Path.{_≡_, _∙_, sym}
+use Prim.Native.Nat.{_+_}
 use borrow.Author.Needs.{needs}
-use native.Mathlib.Omega.{arith}
 use Rattle.text.proofs.print.width_of.Statement.{statement}
 use Rattle.text.proofs.print.width_of.Tie as tie
 
