@@ -21,10 +21,10 @@ module _ (es : List Element) (xs : List ℕ) (e : Element) (x : ℕ) (each : len
   abbrev xs′ : List ℕ
   xs′ = xs ++ (x ∷ [])
 
-  el-old : (k : ℕ) → k < length es → el es′ k ≡ el es k
+  pub el-old : (k : ℕ) → k < length es → el es′ k ≡ el es k
   el-old k h = List·getD-append es (e ∷ []) _ k h
 
-  org-old : (k : ℕ) → k < length es → org xs′ k ≡ org xs k
+  pub org-old : (k : ℕ) → k < length es → org xs′ k ≡ org xs k
   org-old k h = List·getD-append xs (x ∷ []) 0 k (omega arith)
 
   last-at : {A : Type 0} (d v : A) (ys : List A) → getD (ys ++ (v ∷ [])) (length ys) d ≡ v

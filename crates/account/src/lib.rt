@@ -63,7 +63,7 @@ pub const START: Before = Before {
 };
 
 // Start and end of the block and of the ruby of e at x.
-fn block_start(e: Element, x: u32) -> u64
+pub fn block_start(e: Element, x: u32) -> u64
     ensures { λ r. ⌜ (r ≡ blockOf e x .start) × (r ≤ 8589934590) ⌝ }
 {
     x as u64 + e.front as u64

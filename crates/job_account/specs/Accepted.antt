@@ -1,5 +1,4 @@
--- An accepted job can be told: what the entry point leaves is all that `tell_lines` asks for, given lists of the maximum lengths; and what is proved of a line's account
--- holds of all its lines.
+-- What is proved of a line's account holds of all lines of an accepted job.
 use mathlib.Core.Path.{_≡_, refl, sym, ap, _∙_}
 use mathlib.Core.List.{List}
 use mathlib.Core.Option.{Option, none, some}
@@ -39,22 +38,3 @@ module _ (job : Job) (base ruby lines : List ℕ) {n : ℕ} (set : outcome job b
   -- the line's start.
   pub gaps : (s e i : ℕ) → i < length (lineOf job s e) → Accounted (lineOf job s e) (origins job s e) i × Tight (lineOf job s e) (origins job s e) i (reasonIn job s e i)
   gaps s e i h = (accounted job door s e i h, tight job door s e i h)
-
-  lines-ready : {out told : List ℕ} → 4096 ≤ length out → 1024 ≤ length told → LinesReady job n (outcome job base ruby lines .lines) out told
-  lines-ready room rows =
-      record {
-        passed = door;
-        full =
-            record {
-              lines = ap (take n) (lines-told job base ruby lines accepted .1) ∙ take-at (ends job) (drop (length (ends job)) lines) n (sym many);
-              many = many;
-              none = fills job door (ends job) (lines-filled job base ruby lines accepted);
-            };
-        room = omega (arith, door .fewBase);
-        rows = omega (arith, door .fewBase);
-      }
-
--- of what a call of the entry point leaves: its answer is `Set n`, and its lists are as they are now
-pub set-ready : (job : Job) (base ruby lines : List ℕ) {n : ℕ} {out told : List ℕ} (o : Outcome) → o ≡ outcome job base ruby lines → o .answer ≡ Set n →
-    4096 ≤ length out → 1024 ≤ length told → LinesReady job n (o .lines) out told
-set-ready job base ruby lines o e set room rows = rw e (lines-ready job base ruby lines (sym (ap (λ (x : Outcome). x .answer) e) ∙ set) room rows)

@@ -1,5 +1,6 @@
 pub mod Flush
 pub mod Theorems
+pub mod First
 pub mod Tell
 pub mod Rows
 pub mod Line

@@ -8,7 +8,7 @@ use lib.ListN.{length, length-map, length-append}
 use Rattle.line.specs.declared.Element.{Element}
 use Rattle.line.specs.declared.State.{State}
 use Rattle.line.specs.declared.Placed.the-variants.{At}
-use Rattle.line.specs.Rules.{Apart, Sounds}
+use Rattle.line.specs.Rules.{blockOf, blockAt, Apart, Sounds}
 use Rattle.line.specs.Setting.{origin, placed}
 use Rattle.door.specs.declared.Piece.{Piece}
 use Rattle.door.specs.Job.{Job}
@@ -36,9 +36,10 @@ pub record TellReady (job : Job) (s c k : ℕ) (x : Piece) (st : State) (i : ℕ
   pub count : i ≡ length (lineOf job s (x .base))
   pub stands : b ≡ standingIn job s (x .base) i
 
--- the account of piece i, and the line up to c
+-- the account of piece i and its block's start, and the line up to c
 pub record Tells (job : Job) (s c i : ℕ) (r : Told) : Type 0 where
   pub account : r .account ≡ accountIn job s c i
+  pub start : r .start ≡ blockAt (lineOf job s c) (origins job s c) i .start
   pub state : r .st ≡ stateOf job s c
   pub stands : r .before ≡ standingIn job s c (i + 1)
 
@@ -78,6 +79,12 @@ module _ {job : Job} {s c k : ℕ} {x : Piece} {st : State} {i : ℕ} {b : Befor
       (more.account-new es xs p at each (subst Sounds line-is (sounds job (ready .into .passed) s c))
       (subst (λ os. Apart (es ++ (p ∷ [])) os) origins-is (subst (λ ls. Apart ls (origins job s c)) line-is (apart job (ready .into .passed) s c)))
       ∙ ap₂ (λ ls os. accountOf ls os (length es)) (sym line-is) (sym origins-is))
+
+  pub start-is : blockOf p at .start ≡ blockAt (lineOf job s c) (origins job s c) i .start
+  start-is =
+      rw (ready .count)
+      (sym (ap₂ (λ e x. blockOf e x .start) (more.el-new es xs p at each) (more.org-new es xs p at each))
+      ∙ ap₂ (λ ls os. blockAt ls os (length es) .start) (sym line-is) (sym origins-is))
 
   pub stands-is : passed i b p at ≡ standingIn job s c (i + 1)
   stands-is =

@@ -9,9 +9,10 @@ ghost use Rattle.door.specs.Job.{jobOf};
 ghost use Rattle.job.specs.Line.{seen};
 ghost use Rattle.fill.specs.Piece.{Into, pieceUpto};
 ghost use Rattle.job_account.specs.Tell.{TellReady, Tells};
-ghost use Rattle.job_account.specs.Rows.{row};
+ghost use Rattle.account.specs.Claims.{other};
+ghost use Rattle.job_account.specs.Rows.{otherFrom, row};
 ghost use Rattle.job_account.specs.Line.{LineReady, LineTold};
-ghost use Rattle.job_account.specs.Lines.{LinesReady, accounts, counts};
+ghost use Rattle.job_account.specs.Lines.{LinesReady, LinesTold};
 
 // What a line sees where nothing stands.
 const NOTHING: line::Element = line::Element {
@@ -66,9 +67,10 @@ pub fn element_upto(
     fill::element_of(p, w, em, class, width, before, after)
 }
 
-// The account of a piece, with the line's state and what stands once it is set.
+// The account of a piece and where its block starts, with the line's state and what stands once it is set.
 pub struct Told {
     pub account: account::Account,
+    pub start: u64,
     pub st: line::State,
     pub before: account::Before,
 }
@@ -122,39 +124,61 @@ pub fn tell_piece(
     let line::Placed::At(at, next) = placed else {
         return Told {
             account: account::account_of(i, b, e, 0),
+            start: 0,
             st: st,
             before: b,
         };
     };
     let told = account::account_of(i, b, e, at);
+    let start = account::block_start(e, at);
     let stands = account::pass(i, b, e, at);
     Told {
         account: told,
+        start: start,
         st: next,
         before: stands,
     }
 }
 
-// An account as four numbers of a list: the gap, the reason's place in the rules' order, the other piece and the depth.
-fn put_row(a: account::Account, q: usize, out: &mut [u32])
-    requires { ⌜ (a .gap < 2 ^ 32) × (q + 4 ≤ length (now out)) ⌝ }
-    ensures { λ _. ⌜ now (out .exit) ≡ sets (now (out .entry)) q (row a) ⌝ }
+// The other element's index in the job, where the line's first element has the index `first`; 0 where there is none.
+fn other_index(first: u32, r: account::Reason) -> u32
+    requires { ⌜ first + other r < 2 ^ 32 ⌝ }
+    ensures { λ n. ⌜ n ≡ otherFrom first r ⌝ }
 {
-    let r = a.reason;
-    out[q] = a.gap as u32;
-    out[q + 1] = account::number_of(r);
-    out[q + 2] = account::other_of(r);
-    out[q + 3] = account::depth_of(r);
+    match r {
+        account::Reason::Start => 0,
+        account::Reason::Block(j) => first + j,
+        account::Reason::Under(j, _) => first + j,
+        account::Reason::Over(j, _) => first + j,
+        account::Reason::Ruby(j) => first + j,
+        account::Reason::Edge => 0,
+        account::Reason::Free => 0,
+    }
 }
 
-// Where the walk stands behind a line, and the list's next place.
+// The account of element k as a row of six numbers: its index, its block's start, the gap, the reason's place in the rules' order, the other element and the depth.
+fn put_row(a: account::Account, first: u32, k: u32, start: u64, q: usize, out: &mut [u32])
+    requires { ⌜ (a .gap < 2 ^ 32) × (start < 2 ^ 32) × (first + other (a .reason) < 2 ^ 32) × (q + 6 ≤ length (now out)) ⌝ }
+    ensures { λ _. ⌜ now (out .exit) ≡ sets (now (out .entry)) q (row first k start a) ⌝ }
+{
+    let r = a.reason;
+    out[q] = k;
+    out[q + 1] = start as u32;
+    out[q + 2] = a.gap as u32;
+    out[q + 3] = account::number_of(r);
+    out[q + 4] = other_index(first, r);
+    out[q + 5] = account::depth_of(r);
+}
+
+// Where the walk stands behind a line, the list's next row, and the line's extent.
 pub struct Next {
     pub at: write::Cursor,
     pub q: usize,
+    pub extent: u32,
 }
 
-// The accounts of the line from s up to e, which begins where the walk stands, four numbers for each piece from place `first` of the list on. A J that e cuts is not
-// passed: it goes on in the next line.
+// The accounts of the line from s up to e, which begins where the walk stands, a row for each piece from row `first` of the list on. A J that e cuts is not passed: it
+// goes on in the next line.
 pub fn tell_line(
     s: usize,
     e: usize,
@@ -209,21 +233,36 @@ pub fn tell_line(
             eruby,
             runs,
         );
-        put_row(told.account, q, out);
-        q += 4;
+        put_row(
+            told.account,
+            from.k as u32,
+            at.k as u32,
+            told.start,
+            6 * q,
+            out,
+        );
+        q += 1;
+        st = told.st;
         if e < end {
-            return Next { at: at, q: q };
+            return Next {
+                at: at,
+                q: q,
+                extent: basics::larger(st.end, st.reach),
+            };
         }
         at = write::after_element(at.k, x);
-        st = told.st;
         b = told.before;
         i += 1;
     }
-    Next { at: at, q: q }
+    Next {
+        at: at,
+        q: q,
+        extent: basics::larger(st.end, st.reach),
+    }
 }
 
-// The accounts of all lines of a job whose n lines end where the front of `ends` says: in `out` four numbers for each piece, and in `told` for each line the count of
-// these numbers up to its end. Entries that are not used stay as they were.
+// The accounts of all lines of a job whose n lines end where the front of `ends` says: in `rows` six numbers for each piece, in `told` for each line the count of
+// pieces up to its end, and in `extents` its extent. Entries that are not used stay as they were.
 pub fn tell_lines(
     n: usize,
     ends: &[u32],
@@ -240,11 +279,12 @@ pub fn tell_lines(
     ebase: &[u32],
     eruby: &[u32],
     runs: &[u32],
-    out: &mut [u32],
+    rows: &mut [u32],
     told: &mut [u32],
+    extents: &mut [u32],
 )
-    requires { ⌜ LinesReady (jobOf em measure (now class) (now width) (now before) (now after) (now flag) (now rclass) (now rwidth) (now kind) (now ebase) (now eruby) (now runs)) n (now ends) (now out) (now told) ⌝ }
-    ensures { λ _. ⌜ (now (out .exit) ≡ sets (now (out .entry)) 0 (accounts (jobOf em measure (now (class .entry)) (now (width .entry)) (now (before .entry)) (now (after .entry)) (now (flag .entry)) (now (rclass .entry)) (now (rwidth .entry)) (now (kind .entry)) (now (ebase .entry)) (now (eruby .entry)) (now (runs .entry))))) × (now (told .exit) ≡ sets (now (told .entry)) 0 (counts (jobOf em measure (now (class .entry)) (now (width .entry)) (now (before .entry)) (now (after .entry)) (now (flag .entry)) (now (rclass .entry)) (now (rwidth .entry)) (now (kind .entry)) (now (ebase .entry)) (now (eruby .entry)) (now (runs .entry))))) ⌝ }
+    requires { ⌜ LinesReady (jobOf em measure (now class) (now width) (now before) (now after) (now flag) (now rclass) (now rwidth) (now kind) (now ebase) (now eruby) (now runs)) n (now ends) (now rows) (now told) (now extents) ⌝ }
+    ensures { λ _. ⌜ LinesTold (jobOf em measure (now (class .entry)) (now (width .entry)) (now (before .entry)) (now (after .entry)) (now (flag .entry)) (now (rclass .entry)) (now (rwidth .entry)) (now (kind .entry)) (now (ebase .entry)) (now (eruby .entry)) (now (runs .entry))) (now (rows .entry)) (now (told .entry)) (now (extents .entry)) (now (rows .exit)) (now (told .exit)) (now (extents .exit)) ⌝ }
 {
     let mut at = write::Cursor {
         k: 0,
@@ -275,9 +315,10 @@ pub fn tell_lines(
             ebase,
             eruby,
             runs,
-            out,
+            rows,
         );
         told[l] = next.q as u32;
+        extents[l] = next.extent;
         at = next.at;
         q = next.q;
         s = e;

@@ -64,17 +64,21 @@ returns c = absurd (at-refused (sym (located (c .before .before .before)) ∙ c 
 account-of-requires-2 : tie.Need-account-of-requires-2
 account-of-requires-2 c κs = search needs
 
+block-start-requires : tie.Need-block-start-requires
+block-start-requires c κs = search needs
+
 pass-requires : tie.Need-pass-requires
 pass-requires c κs = search needs
 
 returns-2 : tie.Need-returns-2
 returns-2 c =
-    let is = c .before .before .before .before .before .before .element-upto .ensures in
-    let at = spot (c .before .before) in
+    let is = c .before .before .before .before .before .before .before .element-upto .ensures in
+    let at = spot (c .before .before .before) in
     record {
-      account = c .before .account-of2 .ensures ∙ rw (at .0, is) (tell.account-is (c .before .before .before .before .before .before .before .before .before .before .before .before .before .before .before .before .before .before .pre));
+      account = c .before .before .account-of2 .ensures ∙ rw (at .0, is) (tell.account-is (c .before .before .before .before .before .before .before .before .before .before .before .before .before .before .before .before .before .before .before .pre));
+      start = c .before .block-start .ensures .0 ∙ rw (at .0, is) (tell.start-is (c .before .before .before .before .before .before .before .before .before .before .before .before .before .before .before .before .before .before .before .pre));
       state = at .1;
-      stands = c .pass .ensures ∙ rw (at .0, is) (tell.stands-is (c .before .before .before .before .before .before .before .before .before .before .before .before .before .before .before .before .before .before .pre));
+      stands = c .pass .ensures ∙ rw (at .0, is) (tell.stands-is (c .before .before .before .before .before .before .before .before .before .before .before .before .before .before .before .before .before .before .before .pre));
     }
 
 pub tell-piece-spec : {M : Type 1} → statement M
@@ -89,5 +93,6 @@ tell-piece-spec =
     account-of-requires
     returns
     account-of-requires-2
+    block-start-requires
     pass-requires
     returns-2)
