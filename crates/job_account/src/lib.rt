@@ -2,7 +2,7 @@
 // as `write` does, sets each after the line so far and asks `account` for what holds it there. It relies on `door` for a job without faults of its own, on `fill`
 // and `write` for the pieces of a line, on `line` for their places, and on `job` for what all this means.
 ghost use mathlib.Core.Path.{_≡_};
-ghost use Prim.Native.Nat.{_+_, _^_, _≤_, _<_};
+ghost use Prim.Native.Nat.{_+_, _/_, _^_, _≤_, _<_, min};
 ghost use lib.ListN.{length};
 ghost use lib.Seq.{sets};
 ghost use Rattle.door.specs.Job.{jobOf};
@@ -13,6 +13,7 @@ ghost use Rattle.account.specs.Claims.{other};
 ghost use Rattle.job_account.specs.Rows.{otherFrom, row};
 ghost use Rattle.job_account.specs.Line.{LineReady, LineTold};
 ghost use Rattle.job_account.specs.Lines.{LinesReady, LinesTold};
+ghost use Rattle.job_account.specs.Outcome.{Telling, telling};
 
 // What a line sees where nothing stands.
 const NOTHING: line::Element = line::Element {
@@ -323,5 +324,100 @@ pub fn tell_lines(
         q = next.q;
         s = e;
         l += 1;
+    }
+}
+
+// For how many base characters the lists of an account have room.
+fn room_of(rows: usize, told: usize, extents: usize) -> usize
+    ensures { λ r. ⌜ r ≡ min (rows / 6) (min told extents) ⌝ }
+{
+    door::fewer(rows / 6, door::fewer(told, extents))
+}
+
+// The account of a job: the checks and refusals of the setting, and for an accepted job the lists of `tell_lines`. Nothing is asked of the caller; a list that is too short
+// is refused as a result list is (12), and no list is altered by a refusal. The answer is the number of lines.
+pub fn account_job(
+    em: u32,
+    measure: u32,
+    class: &[u32],
+    width: &[u32],
+    before: &[u32],
+    after: &[u32],
+    flag: &[u32],
+    rclass: &[u32],
+    rwidth: &[u32],
+    kind: &[u32],
+    ebase: &[u32],
+    eruby: &[u32],
+    runs: &[u32],
+    rows: &mut [u32],
+    told: &mut [u32],
+    extents: &mut [u32],
+) -> job::Answer
+    ensures { λ r. ⌜ _≡_ {A = Telling} (record { answer = r; rows = now (rows .exit); told = now (told .exit); extents = now (extents .exit) }) (telling (jobOf em measure (now (class .entry)) (now (width .entry)) (now (before .entry)) (now (after .entry)) (now (flag .entry)) (now (rclass .entry)) (now (rwidth .entry)) (now (kind .entry)) (now (ebase .entry)) (now (eruby .entry)) (now (runs .entry))) (now (rows .entry)) (now (told .entry)) (now (extents .entry))) ⌝ }
+{
+    let room = room_of(rows.len(), told.len(), extents.len());
+    match door::check_job(
+        em,
+        measure,
+        class,
+        width,
+        before,
+        after,
+        flag,
+        rclass,
+        rwidth,
+        kind,
+        ebase,
+        eruby,
+        runs,
+        1024,
+        2048,
+        room,
+    ) {
+        door::Checked::Refused(why) => return job::Answer::Refused(why),
+        door::Checked::Passed => {}
+    }
+    let mut ends = [0; 1024];
+    match fill::fill_lines(
+        &mut ends,
+        em,
+        measure,
+        class,
+        width,
+        before,
+        after,
+        flag,
+        rclass,
+        rwidth,
+        kind,
+        ebase,
+        eruby,
+        runs,
+    ) {
+        fill::Lines::Refused(why) => job::Answer::Refused(why),
+        fill::Lines::Filled(n) => {
+            tell_lines(
+                n,
+                &ends,
+                em,
+                measure,
+                class,
+                width,
+                before,
+                after,
+                flag,
+                rclass,
+                rwidth,
+                kind,
+                ebase,
+                eruby,
+                runs,
+                rows,
+                told,
+                extents,
+            );
+            job::Answer::Set(n)
+        }
     }
 }
