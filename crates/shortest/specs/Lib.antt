@@ -1,4 +1,5 @@
 pub mod Needed
+pub mod Cases
 pub mod Upto
 pub mod Pass
 pub mod Theorems

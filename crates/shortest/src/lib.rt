@@ -1,7 +1,8 @@
-// How far a declined line falls short (document 01, refusal 11: "after the lines so far, no permitted break gives a line that can be set"): the extent that the
-// shortest permitted line from a base character has, so that an editor is told what measure would do. One pass over the elements, as the filling makes it, but with no
-// measure to stop at: every permitted break ahead is a try, and the least extent of all remains. It runs only once a job is refused, so it is kept simple: it begins with the job's
-// first element and passes those before the line. It relies on `fill` for an element and its place in the line, and on `job` for what all this means.
+// How far a declined line falls short (document 01, refusal 11: "after the lines so far, no permitted break gives a line that can be set"): the extent that
+// the shortest permitted line from a base character has, so that an editor is told what measure would do. One pass over the elements, as the filling makes
+// it, but with no measure to stop at: every permitted break ahead is a try, and the least extent of all remains. It runs only once a job is refused, so it is
+// kept simple: it begins with the job's first element and passes those before the line. It relies on `fill` for an element and its place in the line, and on
+// `job` for what all this means.
 ghost use mathlib.Core.Path.{_≡_};
 ghost use mathlib.Core.Bool.{true, _||_};
 ghost use Prim.Native.Nat.{_+_, _-_, _≤_, _<_, min, max};

@@ -39,8 +39,8 @@ more : (c : tie.In-loop Inv-loop μ-loop) → c .before .loop .k < elementCount 
 more c = omega (arith, c .loop-test .taken, elements-are (c .before .before .before))
 
 -- the element that is read is the job's
-the : (c : tie.After-element-at Inv-loop μ-loop) → let l = c .before .before .loop in c .element-at .result ≡ element (job (start (c .before .before .before .before .before))) (l .k) (l .b) (l .r) (l .u)
-the c = let l = c .before .before .loop in c .element-at .ensures ∙ same-element (job (start (c .before .before .before .before .before))) (l .k) (l .b) (l .r) (l .u)
+the : (c : tie.After-element-at Inv-loop μ-loop) → c .element-at .result ≡ element (job (start (c .before .before .before .before .before))) (c .before .before .loop .k) (c .before .before .loop .b) (c .before .before .loop .r) (c .before .before .loop .u)
+the c = c .element-at .ensures ∙ same-element (job (start (c .before .before .before .before .before))) (c .before .before .loop .k) (c .before .before .loop .b) (c .before .before .loop .r) (c .before .before .loop .u)
 
 faces : (c : tie.After-element-at Inv-loop μ-loop) →
     let l = c .before .before .loop in
