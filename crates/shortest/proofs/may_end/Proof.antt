@@ -1,0 +1,24 @@
+-- At the job's end a line always may end. Anywhere else the flag of the character before decides.
+use borrow.Author.Tests.{eq-eqb, ne-eqb}
+use borrow.Author.Needs.{needs}
+use Rattle.shortest.proofs.may_end.Statement.{statement}
+use Rattle.shortest.proofs.may_end.Tie as tie
+
+returns : tie.Need-returns
+returns c = rw (eq-eqb _ _ (c .if1 .taken))
+
+sub-result : tie.Need-sub-result
+sub-result c = search needs
+
+mul-result : tie.Need-mul-result
+mul-result c = search needs
+
+shared-slice-read-result : tie.Need-shared-slice-read-result
+shared-slice-read-result c = search needs
+
+returns-2 : tie.Need-returns-2
+returns-2 c = rw (ne-eqb (c .before .before .args .c) (c .before .before .args .bases) (c .before .if1 .left))
+
+pub may-end-spec : {M : Type 1} → statement M
+may-end-spec =
+    tie.close (tie.spec returns sub-result mul-result shared-slice-read-result returns-2)

@@ -1,0 +1,7 @@
+pub mod Needed
+pub mod Cases
+pub mod Upto
+pub mod Pass
+pub mod Theorems
+pub mod Measure
+pub mod Determined
