@@ -1,5 +1,7 @@
 """Why each element of a set line stands no nearer the line's start.
 
+    python3 account.py < sheet    the account of a sheet as a text
+
 account(sheet) gives a list for each line of the sheet's result.  It has a row
 for each element of the line, in order:
 
@@ -15,8 +17,16 @@ None where there is no other.  A sheet that is refused raises second.Refused.
 
 The rules are stated here once more, over what is drawn: spans of blocks and
 of rubies at the positions of the result.
+
+verdict(sheet) has the rest of what an account tells: how many lines, elements
+and readings there are, or the refusal, and with number 11 the extent that the
+line would need.  text(sheet) writes everything down in the form of the
+account program (README.md, "The account").  It names one reason for each
+element, and finds it in another way than account(sheet) does: not by moving
+the element but by what it touches where it stands.
 """
 
+import collections
 import os
 import sys
 
@@ -124,6 +134,17 @@ def drawn_element(job, element, bases, rubies, base_out, ruby_out):
     return Drawn(element, block, ruby, 0, 0)
 
 
+def sound_job(arguments):
+    """The job with its elements.
+
+    Asked of jobs that are accepted or refused by number 11: their elements
+    have passed every check.
+    """
+    job = second.Job(*arguments)
+    second.take_elements(job)
+    return job
+
+
 def drawn_lines(sheet):
     """The elements of each line, as the result of the sheet places them."""
     arguments = second.read_sheet(sheet)
@@ -133,8 +154,7 @@ def drawn_lines(sheet):
     result = second.set_job(*arguments, base_out, ruby_out, line_out)
     if result[0] == 'refused':
         raise second.Refused(result[1], result[2])
-    job = second.Job(*arguments)
-    second.take_elements(job)
+    job = sound_job(arguments)
     owner = second.owners(job)
     ends = line_out[:result[1]]
     lines = [[] for _ in ends]
@@ -158,3 +178,166 @@ def line_account(line):
 
 def account(sheet):
     return [line_account(line) for line in drawn_lines(sheet)]
+
+
+# ---------------------------------------------------------------------------
+# The verdict: the counts of an accepted sheet, or the refusal
+# ---------------------------------------------------------------------------
+
+# lines has a list of Drawn for each line; elements counts those of the job,
+# and readings those of them that have ruby (M, G and J).
+Clear = collections.namedtuple('Clear', 'lines elements readings')
+
+# needs is (extent, measure) in half units with number 11, else None.
+Refusal = collections.namedtuple('Refusal', 'number place needs')
+
+
+def verdict(sheet):
+    """Clear or Refusal."""
+    try:
+        lines = drawn_lines(sheet)
+    except second.Refused as refusal:
+        needs = None
+        if refusal.number == 11:
+            needs = needs_of_line(sheet, refusal.place)
+        return Refusal(refusal.number, refusal.place, needs)
+    elements = sound_job(second.read_sheet(sheet)).elements
+    readings = [element for element in elements if element.kind != second.P]
+    return Clear(lines, len(elements), len(readings))
+
+
+def needs_of_line(sheet, first):
+    """(least extent of a line that begins with first, the measure)"""
+    job = sound_job(second.read_sheet(sheet))
+    return needed_extent(job, first), 2 * job.measure
+
+
+def needed_extent(job, first):
+    """The least extent of any line from base character first to a break.
+
+    Every permitted break ahead counts.  A line is at least as long as its
+    base widths together (rule 1) and as its ruby widths together (rule 3),
+    and only a line that is shorter than the least so far matters; so it is
+    set within a measure that is one half unit less, and not at all if its
+    widths pass that already.
+    """
+    owner = second.owners(job)
+    least = second.LARGEST_NUMBER + 1   # more than any extent
+    for end in second.permitted_breaks(job):
+        if end <= first or least_by_widths(job, owner, first, end) >= least:
+            continue
+        words = second.words_of_line(job, owner, first, end)
+        origins = second.least_setting(words, least - 1)
+        if origins is not None:
+            least = max(origin + word.end
+                        for word, origin in zip(words, origins))
+    return least
+
+
+def least_by_widths(job, owner, first, end):
+    ruby_first = second.ruby_before(job, owner, first)
+    ruby_end = second.ruby_before(job, owner, end)
+    return 2 * max(sum(job.base_width[first:end]),
+                   sum(job.ruby_width[ruby_first:ruby_end]))
+
+
+def extent(line):
+    # "The line's extent is the furthest end of any block or ruby in it."
+    return max([drawn.block[1] for drawn in line]
+               + [drawn.ruby[1] for drawn in line if drawn.ruby is not None])
+
+
+# ---------------------------------------------------------------------------
+# The reasons: what an element touches where it stands
+# ---------------------------------------------------------------------------
+
+# mine is what touches, 'block' or 'ruby'; its is what is touched, 'start',
+# 'block' or 'ruby'.  other is the element whose block or ruby that is, None
+# with 'start'; depth is None but for rule 2.
+Reason = collections.namedtuple('Reason', 'rule mine its other depth')
+
+
+def reasons(earlier, drawn):
+    """Every reason that holds, in the order in which one is named."""
+    block, ruby = drawn.block, drawn.ruby
+    # The block stands at the line's start.
+    if block[0] == 0:
+        yield Reason(4, 'block', 'start', None, None)
+    if earlier:
+        before = earlier[-1]
+        # The block touches the end of the block before.
+        if before.block[1] == block[0]:
+            yield Reason(1, 'block', 'block', before.element, None)
+        # The ruby before lies on the block as deep as it may.
+        if before.ruby and before.ruby[1] == block[0] + drawn.depth_before:
+            yield Reason(2, 'block', 'ruby', before.element,
+                         drawn.depth_before)
+        # The ruby lies on the block before as deep as it may.
+        if ruby and before.block[1] == ruby[0] + before.depth_after:
+            yield Reason(2, 'ruby', 'block', before.element,
+                         before.depth_after)
+    # The ruby touches the end of an earlier ruby; the nearest comes first.
+    for before in reversed(earlier):
+        if ruby and before.ruby and before.ruby[1] == ruby[0]:
+            yield Reason(3, 'ruby', 'ruby', before.element, None)
+    # The ruby stands at the line's start.
+    if ruby and ruby[0] == 0:
+        yield Reason(4, 'ruby', 'start', None, None)
+
+
+def line_reasons(line):
+    """The reason named for each element of a line, a list of Drawn."""
+    return [next(reasons(line[:place], drawn))
+            for place, drawn in enumerate(line)]
+
+
+# ---------------------------------------------------------------------------
+# The text
+# ---------------------------------------------------------------------------
+
+def text(sheet):
+    """The account of a sheet, as bytes."""
+    found = verdict(sheet)
+    if isinstance(found, Refusal):
+        rows = refusal_rows(found)
+    else:
+        rows = clear_rows(found)
+    return ''.join(row + '\n' for row in rows).encode('ascii')
+
+
+def refusal_rows(refusal):
+    yield 'refused %d %d' % (refusal.number, refusal.place)
+    if refusal.needs is not None:
+        yield 'needs %d measure %d' % refusal.needs
+
+
+def clear_rows(clear):
+    yield ('clear lines %d elements %d readings %d'
+           % (len(clear.lines), clear.elements, clear.readings))
+    for line in clear.lines:
+        yield 'line %d' % extent(line)
+        block_before = 0
+        for drawn, reason in zip(line, line_reasons(line)):
+            yield ('element %d at %d gap %d %s'
+                   % (drawn.element, drawn.block[0],
+                      drawn.block[0] - block_before, reason_words(reason)))
+            block_before = drawn.block[1]
+
+
+def reason_words(reason):
+    words = 'rule %d %s touches %s' % (reason.rule, reason.mine, reason.its)
+    if reason.other is not None:
+        words += ' of %d' % reason.other
+    if reason.depth is not None:
+        words += ' at depth %d' % reason.depth
+    return words
+
+
+def main(arguments):
+    if arguments != []:
+        sys.exit('usage: account.py < sheet')
+    sys.stdout.buffer.write(text(sys.stdin.buffer.read()))
+
+
+if __name__ == '__main__':
+    main(sys.argv[1:])

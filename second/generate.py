@@ -371,6 +371,29 @@ def tight(rng):
     return draft.text()
 
 
+def add_crowd(rng, draft, length):
+    """Mono words, each longer in its reading, nothing or little between."""
+    em = draft.em
+    while len(draft.base) < length:
+        total = em + surplus(rng, em)
+        widths = split(rng, total, ruby_count_for(rng, em, total))
+        draft.add([[19, em]], [[15, width] for width in widths],
+                  ['M', len(widths)])
+        if rng.randrange(2) == 0:
+            draft.add([blank_row(rng, em)], [], ['P'])
+
+
+def dense(rng):
+    """Few lines with much in them: long readings, narrow blanks between."""
+    draft = Draft(some_em(rng))
+    rng.choice((add_chain, add_crowd))(rng, draft, 10 + rng.randrange(30))
+    put_flags(rng, draft)
+    widths = stretches(draft)
+    draft.measure = clip(sum(widths) // rng.choice((1, 1, 2, 3)),
+                         max(widths), WIDEST_MEASURE)
+    return draft.text()
+
+
 def spare(rng):
     """Jobs with little in them."""
     draft = Draft(some_em(rng))
@@ -879,6 +902,16 @@ def sheets(seed, count):
     rng = random.Random(seed)
     for _ in range(count):
         yield one_sheet(rng)
+
+
+def account_sheets(seed, count):
+    """The same with more lines that are full or that cannot be set.
+
+    Of four sheets two are of the mixture, one is tight and one is dense.
+    """
+    rng = random.Random(seed)
+    for _ in range(count):
+        yield pick(rng, (2, one_sheet), (1, tight), (1, dense))(rng)
 
 
 def main(arguments):
