@@ -1,0 +1,5 @@
+pub mod Text
+pub mod Reason
+pub mod Readings
+pub mod Rows
+pub mod Lists

@@ -1,0 +1,183 @@
+// The text of an account: the verdict of the page, and for each line its extent and for each of its elements why it stands where it does, one a line. It is printed from the
+// lists of `job_account::account_job`, and says nothing that is not in them. It relies on `text` for words and numbers, and on `job_account` for what the lists hold.
+ghost use mathlib.Core.Path.{_≡_};
+ghost use Prim.Native.Nat.{_+_, _*_, _^_, _≤_, _<_};
+ghost use lib.ListN.{length};
+ghost use mathlib.Core.Bool.{cond};
+ghost use mathlib.Core.List.{_++_};
+ghost use Rattle.text.specs.Print.{Wrote};
+ghost use Rattle.word.specs.Given.{hasRuby};
+ghost use Rattle.door.specs.Job.{formOf};
+ghost use Rattle.account_text.specs.Text.{said, deep, reasonText, rowAt, segment, rowsText, headText, verdictText, listsText, readingsOf, needsText};
+ghost use Rattle.account_text.specs.Rows.{SegmentReady};
+ghost use Rattle.account_text.specs.Lists.{ListsReady};
+
+// A phrase and its number.
+fn put_said(out: &mut [u8], from: usize, phrase: &[u8], n: u32) -> usize
+    requires { ⌜ from + length (said (now phrase) n) ≤ length (now out) ⌝ }
+    ensures { λ r. ⌜ Wrote (now (out .entry)) from (said (now (phrase .entry)) n) r (now (out .exit)) ⌝ }
+{
+    let a = text::print::put_word(out, from, phrase);
+    text::print::put_number(out, a, n)
+}
+
+// A phrase with the other element and the depth.
+fn put_deep(out: &mut [u8], from: usize, phrase: &[u8], other: u32, depth: u32) -> usize
+    requires { ⌜ from + length (deep (now phrase) other depth) ≤ length (now out) ⌝ }
+    ensures { λ r. ⌜ Wrote (now (out .entry)) from (deep (now (phrase .entry)) other depth) r (now (out .exit)) ⌝ }
+{
+    let a = put_said(out, from, phrase, other);
+    put_said(out, a, b" at depth ", depth)
+}
+
+// What holds an element, by the reason's place in the rules' order.
+fn put_reason(out: &mut [u8], from: usize, reason: u32, other: u32, depth: u32) -> usize
+    requires { ⌜ from + length (reasonText reason other depth) ≤ length (now out) ⌝ }
+    ensures { λ r. ⌜ Wrote (now (out .entry)) from (reasonText reason other depth) r (now (out .exit)) ⌝ }
+{
+    if reason == 1 {
+        return text::print::put_word(out, from, b" rule 4 block touches start");
+    }
+    if reason == 2 {
+        return put_said(out, from, b" rule 1 block touches block of ", other);
+    }
+    if reason == 3 {
+        return put_deep(
+            out,
+            from,
+            b" rule 2 block touches ruby of ",
+            other,
+            depth,
+        );
+    }
+    if reason == 4 {
+        return put_deep(
+            out,
+            from,
+            b" rule 2 ruby touches block of ",
+            other,
+            depth,
+        );
+    }
+    if reason == 5 {
+        return put_said(out, from, b" rule 3 ruby touches ruby of ", other);
+    }
+    text::print::put_word(out, from, b" rule 4 ruby touches start")
+}
+
+// Row q of an account on its line.
+fn put_row(out: &mut [u8], from: usize, q: usize, rows: &[u32]) -> usize
+    requires { ⌜ (6 * q + 6 ≤ length (now rows)) × (q < 4096) × (from + length (rowAt (now rows) q) ≤ length (now out)) ⌝ }
+    ensures { λ r. ⌜ Wrote (now (out .entry)) from (rowAt (now (rows .entry)) q) r (now (out .exit)) ⌝ }
+{
+    let i = 6 * q;
+    let a = put_said(out, from, b"element ", rows[i]);
+    let b = put_said(out, a, b" at ", rows[i + 1]);
+    let c = put_said(out, b, b" gap ", rows[i + 2]);
+    let d = put_reason(out, c, rows[i + 3], rows[i + 4], rows[i + 5]);
+    text::print::put_byte(out, d, 10)
+}
+
+// The rows from q up to e.
+fn put_rows(out: &mut [u8], from: usize, q: usize, e: usize, rows: &[u32]) -> usize
+    requires { ⌜ SegmentReady (now out) from q e (now rows) (rowsText (segment (now rows) q e)) ⌝ }
+    ensures { λ r. ⌜ Wrote (now (out .entry)) from (rowsText (segment (now (rows .entry)) q e)) r (now (out .exit)) ⌝ }
+{
+    let mut at = from;
+    let mut k = q;
+    while k < e {
+        at = put_row(out, at, k, rows);
+        k += 1;
+    }
+    at
+}
+
+// A line's extent, and its rows.
+fn put_line(
+    out: &mut [u8],
+    from: usize,
+    extent: u32,
+    q: usize,
+    e: usize,
+    rows: &[u32],
+) -> usize
+    requires { ⌜ SegmentReady (now out) from q e (now rows) (headText extent ++ rowsText (segment (now rows) q e)) ⌝ }
+    ensures { λ r. ⌜ Wrote (now (out .entry)) from (headText extent ++ rowsText (segment (now (rows .entry)) q e)) r (now (out .exit)) ⌝ }
+{
+    let a = put_said(out, from, b"line ", extent);
+    let b = text::print::put_byte(out, a, 10);
+    put_rows(out, b, q, e, rows)
+}
+
+// The verdict of an accepted page.
+fn put_verdict(out: &mut [u8], lines: u32, elements: u32, readings: u32) -> usize
+    requires { ⌜ length (verdictText lines elements readings) ≤ length (now out) ⌝ }
+    ensures { λ r. ⌜ Wrote (now (out .entry)) 0 (verdictText lines elements readings) r (now (out .exit)) ⌝ }
+{
+    let a = put_said(out, 0, b"clear lines ", lines);
+    let b = put_said(out, a, b" elements ", elements);
+    let c = put_said(out, b, b" readings ", readings);
+    text::print::put_byte(out, c, 10)
+}
+
+// 1 for an element of this kind that has a reading: any but a P.
+fn reads(kind: u32) -> usize
+    ensures { λ r. ⌜ r ≡ cond (hasRuby (formOf kind)) 1 0 ⌝ }
+{
+    let form = door::form_of(kind);
+    match form {
+        word::Form::P => 0,
+        word::Form::M => 1,
+        word::Form::G => 1,
+        word::Form::J => 1,
+    }
+}
+
+// How many of n elements have a reading.
+pub fn count_readings(n: usize, kind: &[u32]) -> usize
+    requires { ⌜ (n ≤ length (now kind)) × (n ≤ 1024) ⌝ }
+    ensures { λ r. ⌜ r ≡ readingsOf (now (kind .entry)) n ⌝ }
+{
+    let mut k: usize = 0;
+    let mut readings: usize = 0;
+    while k < n {
+        readings += reads(kind[k]);
+        k += 1;
+    }
+    readings
+}
+
+// The account of a page that is clear, from its lists: n lines, as `account_job` tells them. The answer is the text's length.
+pub fn write_account(
+    n: usize,
+    elements: usize,
+    readings: usize,
+    rows: &[u32],
+    told: &[u32],
+    extents: &[u32],
+    out: &mut [u8],
+) -> usize
+    requires { ⌜ ListsReady n elements readings (now rows) (now told) (now extents) (now out) ⌝ }
+    ensures { λ r. ⌜ Wrote (now (out .entry)) 0 (listsText n elements readings (now (rows .entry)) (now (told .entry)) (now (extents .entry))) r (now (out .exit)) ⌝ }
+{
+    let mut at = put_verdict(out, n as u32, elements as u32, readings as u32);
+    let mut q: usize = 0;
+    let mut l: usize = 0;
+    while l < n {
+        let e = told[l] as usize;
+        at = put_line(out, at, extents[l], q, e, rows);
+        q = e;
+        l += 1;
+    }
+    at
+}
+
+// By how much a line is too long: the extent that it needs, and the measure in half units, from place `from` on.
+pub fn put_needs(out: &mut [u8], from: usize, needed: u32, measure: u32) -> usize
+    requires { ⌜ (from + length (needsText needed measure) ≤ length (now out)) × (measure < 2 ^ 31) ⌝ }
+    ensures { λ r. ⌜ Wrote (now (out .entry)) from (needsText needed measure) r (now (out .exit)) ⌝ }
+{
+    let a = put_said(out, from, b"needs ", needed);
+    let b = put_said(out, a, b" measure ", 2 * measure);
+    text::print::put_byte(out, b, 10)
+}
