@@ -3,3 +3,5 @@ pub mod Reason
 pub mod Readings
 pub mod Rows
 pub mod Lists
+pub mod Job
+pub mod Short
