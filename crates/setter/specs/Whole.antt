@@ -83,7 +83,7 @@ module _ {s set base ruby elem runs : List ℕ} {a : Reading} {n : Counts} {set'
   was-two : length set ≡ 2
   was-two = sym (length-laid set 0 2 (reading s .set)) ∙ ap length (sym (into .setHolds)) ∙ two
 
-  same-job : tablesJob n set' base' ruby' elem' runs' ≡ sheetJob (reading s)
+  pub same-job : tablesJob n set' base' ruby' elem' runs' ≡ sheetJob (reading s)
   unfolding sheetJob
   same-job =
       rw (

@@ -1,0 +1,82 @@
+-- The account of a sheet, from its bytes alone, and what the lent tables and lists are afterwards.
+use mathlib.Core.Bool.{cond}
+use mathlib.Core.List.{List, [], _++_}
+use mathlib.Core.Option.{Option, none, some}
+use mathlib.Core.Path.{_≡_}
+use Prim.Native.Nat.{ℕ, _≤_, _<_}
+use lib.Dec.{eqb}
+use lib.ListN.{length}
+use lib.Seq.{sets}
+use Rattle.text.specs.Print.{Wrote}
+use Rattle.refusal.specs.declared.Refusal.{Refusal}
+use Rattle.refusal.specs.Refusal.{numberOf, placeOf}
+use Rattle.rows.specs.Table.{laid}
+use Rattle.sheet.specs.declared.Reading.{Reading}
+use Rattle.sheet.specs.declared.Reading.the-variants.{Sound, Refused}
+use Rattle.sheet.specs.Sheet.{Sheet, reading}
+use Rattle.door.specs.Job.{Job, baseCount}
+use Rattle.door.specs.Passed.{Passed}
+use Rattle.job.specs.Refusals.{fault}
+use Rattle.result.specs.Text.{refusalText}
+use Rattle.setter.specs.Answer.{sheetJob}
+use Rattle.shortest.specs.Needed.{needed, CanBegin}
+use Rattle.job_account.specs.Outcome.{room, telling}
+use Rattle.account_text.specs.Text.{accountText, needsText}
+use Rattle.account_text.specs.Short.{longest}
+
+-- "For a line that is declined (refusal 11), say how far"
+unfoldable pub declinedText : Job → Refusal → List ℕ
+unfolding refusalText needsText needed
+declinedText job r = refusalText r ++ cond (eqb (numberOf r) 11) (needsText (needed job (placeOf r)) (job .measure)) []
+
+-- "first the verdict of the page"
+unfoldable pub tellingText : Job → Option Refusal → List ℕ
+unfolding accountText declinedText
+tellingText job none = accountText job
+tellingText job (some r) = declinedText job r
+
+-- the account of a job whose lists have room for m base characters
+unfoldable pub jobAccount : Job → ℕ → List ℕ
+unfolding tellingText fault
+jobAccount job m = tellingText job (fault job 1024 2048 m)
+
+-- "The other checks follow a sound reading." The program's lists have the maximum lengths.
+unfoldable pub accountBy : Sheet → Reading → List ℕ
+unfolding jobAccount sheetJob refusalText
+accountBy t (Refused r) = refusalText r
+accountBy t (Sound n) = jobAccount (sheetJob t) 1024
+
+-- the whole account of a sheet
+unfoldable pub accountOfSheet : List ℕ → List ℕ
+unfolding accountBy reading
+accountOfSheet s = accountBy (reading s) (reading s .end)
+
+-- the account's lists, where the reading is sound and where it is not
+unfoldable pub listsBy : Sheet → Reading → List ℕ → List ℕ → List ℕ → (List ℕ) × (List ℕ) × (List ℕ)
+unfolding sheetJob telling
+listsBy t (Refused r) rows told wide = (rows, told, wide)
+listsBy t (Sound n) rows told wide = let o = telling (sheetJob t) rows told wide in (o .rows, o .told, o .extents)
+
+-- what is asked for to write a refusal: a line that is declined begins where a line can
+pub record Declined (job : Job) (r : Refusal) (out : List ℕ) : Type 0 where
+  pub line : numberOf r ≡ 11 → Passed job × (placeOf r < baseCount job) × CanBegin job (placeOf r)
+  pub room : 66 ≤ length out
+
+-- A job is told: its lists are those of its account, and its text stands at the front of `out`.
+pub record Told (job : Job) (rows told wide out : List ℕ) (r : ℕ) (newRows newTold newWide newOut : List ℕ) : Type 0 where
+  pub newRowsAre : newRows ≡ telling job rows told wide .rows
+  pub newToldAre : newTold ≡ telling job rows told wide .told
+  pub newWideAre : newWide ≡ telling job rows told wide .extents
+  pub text : Wrote out 0 (jobAccount job (room rows told wide)) r newOut
+  pub short : r ≤ longest
+
+-- A sheet is answered: the tables hold what was read, the lists what the job's account leaves in them, and `out` begins with the account.
+pub record Answered (s set base ruby elem runs rows told wide out : List ℕ) (r : ℕ) (newSet newBase newRuby newElem newRuns newRows newTold newWide newOut : List ℕ) : Type 0 where
+  pub text : Wrote out 0 (accountOfSheet s) r newOut
+  pub short : r ≤ longest
+  pub lists : (newRows, newTold, newWide) ≡ listsBy (reading s) (reading s .end) rows told wide
+  pub setHolds : newSet ≡ laid set 0 2 (reading s .set)
+  pub baseHolds : newBase ≡ laid base 0 1024 (reading s .base)
+  pub rubyHolds : newRuby ≡ laid ruby 0 2048 (reading s .ruby)
+  pub elemHolds : newElem ≡ laid elem 0 1024 (reading s .elem)
+  pub runsHold : newRuns ≡ sets runs 0 (reading s .runs)

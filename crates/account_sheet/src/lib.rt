@@ -1,0 +1,243 @@
+// A job sheet in, its account out: bytes to bytes, and nothing is asked of the caller. A page that can be set is told line by line, with the reason for each gap; one that can't is
+// refused as the setting refuses it, and where a line is too long the account says how far. It relies on `sheet` for the reading, on `job_account` for the account, on `shortest` for what a
+// declined line needs, and on `account_text` for the text.
+ghost use Prim.Native.Nat.{_+_, _≤_};
+ghost use lib.ListN.{length};
+ghost use Rattle.text.specs.Print.{Wrote};
+ghost use Rattle.door.specs.Job.{jobOf};
+ghost use Rattle.setter.specs.Answer.{part, ElementsReady, TablesReady, tablesJob, Fits};
+ghost use Rattle.account_text.specs.Short.{longest};
+ghost use Rattle.account_sheet.specs.Answer.{declinedText, Declined, Told, Answered};
+
+// A refusal by its number and place; of a line that is too long also the extent that it needs, and the measure.
+fn write_declined(
+    why: refusal::Refusal,
+    em: u32,
+    measure: u32,
+    class: &[u32],
+    width: &[u32],
+    before: &[u32],
+    after: &[u32],
+    flag: &[u32],
+    rclass: &[u32],
+    rwidth: &[u32],
+    kind: &[u32],
+    ebase: &[u32],
+    eruby: &[u32],
+    runs: &[u32],
+    out: &mut [u8],
+) -> usize
+    requires { ⌜ Declined (jobOf em measure (now class) (now width) (now before) (now after) (now flag) (now rclass) (now rwidth) (now kind) (now ebase) (now eruby) (now runs)) why (now out) ⌝ }
+    ensures { λ r. ⌜ Wrote (now (out .entry)) 0 (declinedText (jobOf em measure (now (class .entry)) (now (width .entry)) (now (before .entry)) (now (after .entry)) (now (flag .entry)) (now (rclass .entry)) (now (rwidth .entry)) (now (kind .entry)) (now (ebase .entry)) (now (eruby .entry)) (now (runs .entry))) why) r (now (out .exit)) ⌝ }
+{
+    let at = result::write_refusal(why, out);
+    if refusal::number(why) != 11 {
+        return at;
+    }
+    let needed = shortest::needed_extent(
+        refusal::place(why) as usize,
+        em,
+        measure,
+        class,
+        width,
+        before,
+        after,
+        flag,
+        rclass,
+        rwidth,
+        kind,
+        ebase,
+        eruby,
+        runs,
+    );
+    account_text::put_needs(out, at, needed, measure)
+}
+
+// The account of a job in lists, in text.
+fn tell_lists(
+    em: u32,
+    measure: u32,
+    class: &[u32],
+    width: &[u32],
+    before: &[u32],
+    after: &[u32],
+    flag: &[u32],
+    rclass: &[u32],
+    rwidth: &[u32],
+    kind: &[u32],
+    ebase: &[u32],
+    eruby: &[u32],
+    runs: &[u32],
+    rows: &mut [u32],
+    told: &mut [u32],
+    extents: &mut [u32],
+    out: &mut [u8],
+) -> usize
+    requires { ⌜ longest ≤ length (now out) ⌝ }
+    ensures { λ r. ⌜ Told (jobOf em measure (now (class .entry)) (now (width .entry)) (now (before .entry)) (now (after .entry)) (now (flag .entry)) (now (rclass .entry)) (now (rwidth .entry)) (now (kind .entry)) (now (ebase .entry)) (now (eruby .entry)) (now (runs .entry))) (now (rows .entry)) (now (told .entry)) (now (extents .entry)) (now (out .entry)) r (now (rows .exit)) (now (told .exit)) (now (extents .exit)) (now (out .exit)) ⌝ }
+{
+    match job_account::account_job(
+        em,
+        measure,
+        class,
+        width,
+        before,
+        after,
+        flag,
+        rclass,
+        rwidth,
+        kind,
+        ebase,
+        eruby,
+        runs,
+        rows,
+        told,
+        extents,
+    ) {
+        job::Answer::Refused(why) => write_declined(
+            why,
+            em,
+            measure,
+            class,
+            width,
+            before,
+            after,
+            flag,
+            rclass,
+            rwidth,
+            kind,
+            ebase,
+            eruby,
+            runs,
+            out,
+        ),
+        job::Answer::Set(n) => {
+            let elements = door::element_count(kind, ebase, eruby);
+            let readings = account_text::count_readings(elements, kind);
+            account_text::write_account(n, elements, readings, rows, told, extents, out)
+        }
+    }
+}
+
+// The same, where the elements and their runs stand in tables: kind, base count and ruby count of e elements, 1,024 apart, and u runs.
+fn tell_elements(
+    em: u32,
+    measure: u32,
+    class: &[u32],
+    width: &[u32],
+    before: &[u32],
+    after: &[u32],
+    flag: &[u32],
+    rclass: &[u32],
+    rwidth: &[u32],
+    e: usize,
+    elem: &[u32],
+    u: usize,
+    runs: &[u32],
+    rows: &mut [u32],
+    told: &mut [u32],
+    extents: &mut [u32],
+    out: &mut [u8],
+) -> usize
+    requires { ⌜ ElementsReady e u (now elem) (now runs) (now out) × (longest ≤ length (now out)) ⌝ }
+    ensures { λ r. ⌜ Told (jobOf em measure (now (class .entry)) (now (width .entry)) (now (before .entry)) (now (after .entry)) (now (flag .entry)) (now (rclass .entry)) (now (rwidth .entry)) (part 0 e (now (elem .entry))) (part 1024 (1024 + e) (now (elem .entry))) (part 2048 (2048 + e) (now (elem .entry))) (part 0 u (now (runs .entry)))) (now (rows .entry)) (now (told .entry)) (now (extents .entry)) (now (out .entry)) r (now (rows .exit)) (now (told .exit)) (now (extents .exit)) (now (out .exit)) ⌝ }
+{
+    let e1 = 1024 + e;
+    let e2 = 2048 + e;
+    tell_lists(
+        em,
+        measure,
+        class,
+        width,
+        before,
+        after,
+        flag,
+        rclass,
+        rwidth,
+        &elem[0..e],
+        &elem[1024..e1],
+        &elem[2048..e2],
+        &runs[0..u],
+        rows,
+        told,
+        extents,
+        out,
+    )
+}
+
+// The job that the tables hold, column by column (`sheet::read_sheet`).
+fn tell_tables(
+    n: sheet::Counts,
+    set: &[u32],
+    base: &[u32],
+    ruby: &[u32],
+    elem: &[u32],
+    runs: &[u32],
+    rows: &mut [u32],
+    told: &mut [u32],
+    extents: &mut [u32],
+    out: &mut [u8],
+) -> usize
+    requires { ⌜ TablesReady n (now set) (now base) (now ruby) (now elem) (now runs) (now out) × (longest ≤ length (now out)) ⌝ }
+    ensures { λ r. ⌜ Told (tablesJob n (now (set .entry)) (now (base .entry)) (now (ruby .entry)) (now (elem .entry)) (now (runs .entry))) (now (rows .entry)) (now (told .entry)) (now (extents .entry)) (now (out .entry)) r (now (rows .exit)) (now (told .exit)) (now (extents .exit)) (now (out .exit)) ⌝ }
+{
+    let b = n.bases;
+    let b1 = 1024 + b;
+    let b2 = 2048 + b;
+    let b3 = 3072 + b;
+    let b4 = 4096 + b;
+    let r = n.rubies;
+    let r1 = 2048 + r;
+    tell_elements(
+        set[0],
+        set[1],
+        &base[0..b],
+        &base[1024..b1],
+        &base[2048..b2],
+        &base[3072..b3],
+        &base[4096..b4],
+        &ruby[0..r],
+        &ruby[2048..r1],
+        n.elements,
+        elem,
+        n.runs,
+        runs,
+        rows,
+        told,
+        extents,
+        out,
+    )
+}
+
+// The account of a sheet. The answer is how many bytes of `out` its text has.
+pub fn account_sheet(
+    s: &[u8],
+    set: &mut [u32; 2],
+    base: &mut [u32; 5120],
+    ruby: &mut [u32; 4096],
+    elem: &mut [u32; 3072],
+    runs: &mut [u32; 32768],
+    rows: &mut [u32; 6144],
+    told: &mut [u32; 1024],
+    extents: &mut [u32; 1024],
+    out: &mut [u8; 131072],
+) -> usize
+    ensures { λ r. ⌜ Answered (now (s .entry)) (now (set .entry)) (now (base .entry)) (now (ruby .entry)) (now (elem .entry)) (now (runs .entry)) (now (rows .entry)) (now (told .entry)) (now (extents .entry)) (now (out .entry)) r (now (set .exit)) (now (base .exit)) (now (ruby .exit)) (now (elem .exit)) (now (runs .exit)) (now (rows .exit)) (now (told .exit)) (now (extents .exit)) (now (out .exit)) ⌝ }
+    ensures { λ r. ⌜ Fits r (now (out .exit)) ⌝ }
+{
+    match sheet::read_sheet(s, set, base, ruby, elem, runs) {
+        sheet::Reading::Refused(why) => result::write_refusal(why, out),
+        sheet::Reading::Sound(n) => tell_tables(
+            n,
+            set,
+            base,
+            ruby,
+            elem,
+            runs,
+            rows,
+            told,
+            extents,
+            out,
+        ),
+    }
+}
