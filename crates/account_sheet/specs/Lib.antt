@@ -1,3 +1,5 @@
 pub mod Answer
 pub mod Tell
 pub mod Whole
+pub mod Determined
+pub mod Cases

@@ -1,0 +1,31 @@
+// The account program: a sheet on standard input, its account on standard output: the verdict of the page, and why each gap is as wide as it is. What is read of a sheet that is too long is
+// enough to tell that it is. The tables are `[0; n]` arrays, lent to the library; everything else is `account_sheet::account_sheet`.
+use libc::STDIN_FILENO;
+use libc::STDOUT_FILENO;
+
+fn main() {
+    let mut text = [0u8; 65536];
+    let n = io::read_full(STDIN_FILENO, &mut text);
+    let mut set = [0; 2];
+    let mut base = [0; 5120];
+    let mut ruby = [0; 4096];
+    let mut elem = [0; 3072];
+    let mut runs = [0; 32768];
+    let mut rows = [0; 6144];
+    let mut told = [0; 1024];
+    let mut extents = [0; 1024];
+    let mut out = [0; 131072];
+    let k = account_sheet::account_sheet(
+        &text[..n],
+        &mut set,
+        &mut base,
+        &mut ruby,
+        &mut elem,
+        &mut runs,
+        &mut rows,
+        &mut told,
+        &mut extents,
+        &mut out,
+    );
+    io::write_all(STDOUT_FILENO, &out[..k]);
+}
