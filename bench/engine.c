@@ -419,10 +419,15 @@ static struct rest rest_of(const struct job *j, u32 s, const struct cursor *at)
     return p;
 }
 
-/* The furthest inner break of a J whose line can be set, or 0. Each is a try, from the last on. */
+/*
+ * The furthest inner break of a J whose line can be set, or 0. Each is a try, from the last on, but for those whose block alone passes
+ * the measure: each of its base characters is one em wide.
+ */
 APART static u32 within_jukugo(const struct job *j, const struct state *st, struct rest p)
 {
     struct word w;
+    const u32 most = st->end < j->limit ? (j->limit - st->end) / (2 * j->em) : 0;
+    p.n = smaller(p.n, most + 1);
     while (p.n > 1) {
         struct state next = *st;
         p.n--;

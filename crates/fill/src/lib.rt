@@ -16,6 +16,7 @@ ghost use Rattle.job.specs.Line as meaning;
 ghost use Rattle.fill.specs.Piece.{elementAs, Cuts, Into, pieceUpto};
 ghost use Rattle.job.specs.Walk.{stateOf};
 ghost use Rattle.fill.specs.Search.{Here, Best, EndsAt, Counts, TurnsTo, Found, Starts};
+ghost use Rattle.fill.specs.Start.{lastTry, Tries};
 ghost use Rattle.door.specs.Passed.{Passed};
 ghost use Rattle.fill.specs.Lines.{FillsTo};
 ghost use Rattle.word.specs.Given.{isJ};
@@ -192,7 +193,22 @@ pub enum Ended {
     Refused(refusal::Refusal),
 }
 
-// The furthest break within a J whose line can be set, or the one before it. Each of its inner breaks is a try, from the last on.
+// The last inner break of a J that needs a try, where `low` is the first of its characters in the line and `end` the end of the block before it: "A J base
+// character .. not one em wide" is refused, so each adds 2 em half units to the block, and past this break the block alone passes the measure.
+fn last_try(low: usize, last: usize, end: u32, em: u32, measure: u32) -> usize
+    requires { ⌜ Tries low last em measure ⌝ }
+    ensures { λ c. ⌜ c ≡ lastTry low last end em measure ⌝ }
+{
+    let limit = 2 * measure;
+    if limit <= end {
+        return low;
+    }
+    let most = low + ((limit - end) / (2 * em)) as usize;
+    if last < most { last } else { most }
+}
+
+// The furthest break within a J whose line can be set, or the one before it. Each of its inner breaks is a try, from the last on, but for those whose
+// block alone passes the measure.
 fn within_jukugo(
     s: usize,
     k: usize,
@@ -217,7 +233,7 @@ fn within_jukugo(
     ensures { λ a. ⌜ EndsAt (Best (jobOf em measure (now (class .entry)) (now (width .entry)) (now (before .entry)) (now (after .entry)) (now (flag .entry)) (now (rclass .entry)) (now (rwidth .entry)) (now (kind .entry)) (now (ebase .entry)) (now (eruby .entry)) (now (runs .entry))) s (x .base + x .bases - 1)) a ⌝ }
 {
     let low = x.base + skipped_of(s, x.base);
-    let mut c = x.base + x.bases - 1;
+    let mut c = last_try(low, x.base + x.bases - 1, st.end, em, measure);
     while low < c {
         match reach(
             s,
