@@ -6,7 +6,7 @@ use mathlib.Core.List.{List, [], _∷_}
 use Prim.Native.Nat.{ℕ, zero, suc, _+_, _-_, _*_, _/_, _≤_, _<_, min, max}
 use native.Mathlib.Nat.{mul-assoc, mul-comm, mul-zero, mul-suc, div-lt-iff-lt-mul}
 use native.Mathlib.Omega.{arith}
-use borrow.Author.Tests.{lt-leb, eqb-true, ltb-false, not-false}
+use borrow.Author.Tests.{lt-leb, eqb-true, ltb-true, ltb-false, not-false}
 use lib.Dec.{eqb, ltb}
 use lib.ListN.{length, getD}
 use Rattle.basics.specs.Lists.{sum, any, other, All}
@@ -24,6 +24,8 @@ use Rattle.job.specs.Line.{part, seen, permitted, canSet}
 use Rattle.job.specs.Laws.{entries-cut}
 use Rattle.job.specs.Words as words
 use Rattle.job.specs.Walk.{stateOf, state-more, can-set, best, best-stays}
+use Rattle.fill.specs.declared.Reached.{Reached}
+use Rattle.fill.specs.declared.Reached.the-variants as reached
 use Rattle.fill.specs.Piece.{Into, pieceUpto, more, good}
 use Rattle.fill.specs.Search.{Here, the-element, into-jukugo, low-end, low-s}
 
@@ -38,6 +40,15 @@ pub record Tries (low last em measure : ℕ) : Type 0 where
   pub near : measure ≤ 4000000
   pub few : last < 4096
   pub upto : low ≤ last
+
+-- an element that passes the measure by its block alone
+abbrev pub tooWide : ℕ → Piece → ℕ → ℕ → ℕ → Bool
+tooWide s x end em measure = isJ (x .form) && ltb (2 * measure) (end + 2 * (em * (x .base + x .bases - (x .base + (max s (x .base) - x .base)))))
+
+-- what is known at the end c of an element
+abbrev pub ReachesTo : Job → ℕ → ℕ → Reached → Type 0
+ReachesTo job s c (reached.At fit st) = (fit ≡ canSet job s c) × (fit ≡ true → st ≡ stateOf job s c)
+ReachesTo job s c (reached.Refused r) = ⊥
 
 -- numbers of which each is v
 ems-sum : (v : ℕ) (xs : List ℕ) → All (λ x. other v x ≡ false) xs → sum xs ≡ v * length xs
@@ -159,3 +170,13 @@ module _ (job : Job) (s k : ℕ) (x : Piece) (st : State) (here : Here job s k x
       where
         rest : (c n : ℕ) → c ≤ n → n ≡ c + (n - c)
         rest c n h = omega arith
+
+-- a J that passes the measure by its block alone cannot be set up to its end
+pub wide-end : (job : Job) (s k : ℕ) (x : Piece) (st : State) → Here job s k x st → tooWide s x (st .end) (job .em) (job .measure) ≡ true → canSet job s (x .base + x .bases) ≡ false
+wide-end job s k x st here e = go (isJ (x .form)) refl e
+  where
+    go : (t : Bool) → isJ (x .form) ≡ t → (t && ltb (2 * job .measure) (st .end + 2 * (job .em * (x .base + x .bases - (x .base + (max s (x .base) - x .base)))))) ≡ true → canSet job s (x .base + x .bases) ≡ false
+    go false j f = absurd (true≢false (sym f))
+    go true j f =
+        let l = low-end job s k x st here in
+        too-wide job s k x st here j (x .base + x .bases) (omega (arith, l)) (omega arith) (ltb-true _ _ f)

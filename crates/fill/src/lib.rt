@@ -14,9 +14,10 @@ ghost use Rattle.door.specs.Job.{jobOf, baseCount, elementCount, element};
 ghost use Rattle.word.specs.Part.{formOfPart};
 ghost use Rattle.job.specs.Line as meaning;
 ghost use Rattle.fill.specs.Piece.{elementAs, Cuts, Into, pieceUpto};
+ghost use Rattle.fill.specs.Plain.{plainElement};
 ghost use Rattle.job.specs.Walk.{stateOf};
 ghost use Rattle.fill.specs.Search.{Here, Best, EndsAt, Counts, TurnsTo, Found, Starts};
-ghost use Rattle.fill.specs.Start.{lastTry, Tries};
+ghost use Rattle.fill.specs.Start.{lastTry, Tries, tooWide, ReachesTo};
 ghost use Rattle.door.specs.Passed.{Passed};
 ghost use Rattle.fill.specs.Lines.{FillsTo};
 ghost use Rattle.word.specs.Given.{isJ};
@@ -168,6 +169,79 @@ pub fn reach(
     };
     let e = element_of(p, w, em, class, width, before, after);
     line::place(s as u32, st, e)
+}
+
+// A P as the line sees it: "A P element is its own block", without ruby; how deep a neighbour's may lie on it is asked of the class table.
+pub fn plain_at(
+    i: usize,
+    em: u32,
+    class: &[u32],
+    width: &[u32],
+    before: &[u32],
+    after: &[u32],
+) -> line::Element
+    requires { ⌜ (i < length (now class)) × (i < length (now width)) × (i < length (now before)) × (i < length (now after)) × (getD (now width) i 0 ≤ 4096) ⌝ }
+    ensures { λ e. ⌜ e ≡ plainElement i em (now (class .entry)) (now (width .entry)) (now (before .entry)) (now (after .entry)) ⌝ }
+{
+    line::Element {
+        front: 0,
+        len: 2 * width[i],
+        ruby: false,
+        from: 0,
+        upto: 0,
+        before: class::depth_before(class[i], width[i], before[i], em),
+        after: class::depth_after(class[i], width[i], after[i], em),
+    }
+}
+
+// The same as `reach` for an element whose piece may be a P: that one has no word to be set.
+fn reach_any(
+    s: usize,
+    c: usize,
+    k: usize,
+    x: door::Piece,
+    st: line::State,
+    em: u32,
+    measure: u32,
+    class: &[u32],
+    width: &[u32],
+    before: &[u32],
+    after: &[u32],
+    flag: &[u32],
+    rclass: &[u32],
+    rwidth: &[u32],
+    kind: &[u32],
+    ebase: &[u32],
+    eruby: &[u32],
+    runs: &[u32],
+) -> line::Placed
+    requires { ⌜ (Into (jobOf em measure (now class) (now width) (now before) (now after) (now flag) (now rclass) (now rwidth) (now kind) (now ebase) (now eruby) (now runs)) s c x) × (st ≡ stateOf (jobOf em measure (now class) (now width) (now before) (now after) (now flag) (now rclass) (now rwidth) (now kind) (now ebase) (now eruby) (now runs)) s (x .base)) × (k < 1024) ⌝ }
+    ensures { λ r. ⌜ r ≡ placed.At (setting.origin st (meaning.seen (jobOf em measure (now (class .entry)) (now (width .entry)) (now (before .entry)) (now (after .entry)) (now (flag .entry)) (now (rclass .entry)) (now (rwidth .entry)) (now (kind .entry)) (now (ebase .entry)) (now (eruby .entry)) (now (runs .entry))) (pieceUpto (jobOf em measure (now (class .entry)) (now (width .entry)) (now (before .entry)) (now (after .entry)) (now (flag .entry)) (now (rclass .entry)) (now (rwidth .entry)) (now (kind .entry)) (now (ebase .entry)) (now (eruby .entry)) (now (runs .entry))) s c x))) (stateOf (jobOf em measure (now (class .entry)) (now (width .entry)) (now (before .entry)) (now (after .entry)) (now (flag .entry)) (now (rclass .entry)) (now (rwidth .entry)) (now (kind .entry)) (now (ebase .entry)) (now (eruby .entry)) (now (runs .entry))) s c) ⌝ }
+{
+    if door::is_plain(x) {
+        let e = plain_at(x.base, em, class, width, before, after);
+        return line::place(s as u32, st, e);
+    }
+    reach(
+        s,
+        c,
+        k,
+        x,
+        st,
+        em,
+        measure,
+        class,
+        width,
+        before,
+        after,
+        flag,
+        rclass,
+        rwidth,
+        kind,
+        ebase,
+        eruby,
+        runs,
+    )
 }
 
 // The line so far ends within the measure.
@@ -421,6 +495,82 @@ enum Turn {
     Refused(refusal::Refusal),
 }
 
+// The line up to an element's end can be set or not, and its state where it can.
+enum Reached {
+    At(bool, line::State),
+    Refused(refusal::Refusal),
+}
+
+// A J whose block alone, of one em for each character, passes the measure.
+fn too_wide(s: usize, x: door::Piece, end: u32, em: u32, measure: u32) -> bool
+    requires { ⌜ (x .base + x .bases < 4096) × (x .base + (max s (x .base) - x .base) ≤ x .base + x .bases) ⌝ }
+    ensures { λ t. ⌜ t ≡ tooWide s x end em measure ⌝ }
+{
+    let form = x.form;
+    match form {
+        word::Form::P => false,
+        word::Form::M => false,
+        word::Form::G => false,
+        word::Form::J => {
+            let low = x.base + skipped_of(s, x.base);
+            let n = (x.base + x.bases - low) as u64;
+            2 * (measure as u64) < end as u64 + 2 * (em as u64 * n)
+        }
+    }
+}
+
+// Up to the end of element x. Of a J whose block alone passes the measure nothing else need be known.
+fn reach_end(
+    s: usize,
+    k: usize,
+    x: door::Piece,
+    st: line::State,
+    em: u32,
+    measure: u32,
+    class: &[u32],
+    width: &[u32],
+    before: &[u32],
+    after: &[u32],
+    flag: &[u32],
+    rclass: &[u32],
+    rwidth: &[u32],
+    kind: &[u32],
+    ebase: &[u32],
+    eruby: &[u32],
+    runs: &[u32],
+) -> Reached
+    requires { ⌜ Here (jobOf em measure (now class) (now width) (now before) (now after) (now flag) (now rclass) (now rwidth) (now kind) (now ebase) (now eruby) (now runs)) s k x st ⌝ }
+    ensures { λ a. ⌜ ReachesTo (jobOf em measure (now (class .entry)) (now (width .entry)) (now (before .entry)) (now (after .entry)) (now (flag .entry)) (now (rclass .entry)) (now (rwidth .entry)) (now (kind .entry)) (now (ebase .entry)) (now (eruby .entry)) (now (runs .entry))) s (x .base + x .bases) a ⌝ }
+{
+    if too_wide(s, x, st.end, em, measure) {
+        return Reached::At(false, st);
+    }
+    let c = x.base + x.bases;
+    match reach_any(
+        s,
+        c,
+        k,
+        x,
+        st,
+        em,
+        measure,
+        class,
+        width,
+        before,
+        after,
+        flag,
+        rclass,
+        rwidth,
+        kind,
+        ebase,
+        eruby,
+        runs,
+    ) {
+        line::Placed::Refused(why) => Reached::Refused(why),
+        line::Placed::At(_, next) => Reached::At(fits(next, measure), next),
+    }
+}
+
 // Element x passed: once a whole element passes the measure, nothing further can be set.
 fn pass_element(
     s: usize,
@@ -446,10 +596,8 @@ fn pass_element(
     requires { ⌜ Here (jobOf em measure (now class) (now width) (now before) (now after) (now flag) (now rclass) (now rwidth) (now kind) (now ebase) (now eruby) (now runs)) s k x st × Best (jobOf em measure (now class) (now width) (now before) (now after) (now flag) (now rclass) (now rwidth) (now kind) (now ebase) (now eruby) (now runs)) s (x .base) last × (bases ≡ baseCount (jobOf em measure (now class) (now width) (now before) (now after) (now flag) (now rclass) (now rwidth) (now kind) (now ebase) (now eruby) (now runs))) ⌝ }
     ensures { λ a. ⌜ TurnsTo (jobOf em measure (now (class .entry)) (now (width .entry)) (now (before .entry)) (now (after .entry)) (now (flag .entry)) (now (rclass .entry)) (now (rwidth .entry)) (now (kind .entry)) (now (ebase .entry)) (now (eruby .entry)) (now (runs .entry))) s (x .base + x .bases) a ⌝ }
 {
-    let c = x.base + x.bases;
-    match reach(
+    match reach_end(
         s,
-        c,
         k,
         x,
         st,
@@ -467,9 +615,8 @@ fn pass_element(
         eruby,
         runs,
     ) {
-        line::Placed::Refused(why) => Turn::Refused(why),
-        line::Placed::At(_, next) => {
-            let fit = fits(next, measure);
+        Reached::Refused(why) => Turn::Refused(why),
+        Reached::At(fit, next) => {
             match after_element(
                 fit,
                 s,
