@@ -450,14 +450,18 @@ APART static u32 pass_jukugo(const struct job *j, u32 s, struct cursor *at, stru
     const struct rest p = rest_of(j, s, at);
     struct word w;
     u32 inner;
-    at->k++;
-    at->b = p.b + p.n;
-    at->r = p.r + part(&w, j, p.b, p.n, p.r, p.u);
-    at->u = p.u + p.n;
-    place_word(st, j, &w);
-    if (fits(st, j->limit) && (j->flag[at->b - 1] || at->b == j->bases)) {
-        *from = *at;
-        return at->b;
+    if (st->end + 2 * j->em * p.n > j->limit) {
+        st->end = j->limit + 1; /* its block alone passes the measure: nothing else of it matters, nor where the cursor is */
+    } else {
+        at->k++;
+        at->b = p.b + p.n;
+        at->r = p.r + part(&w, j, p.b, p.n, p.r, p.u);
+        at->u = p.u + p.n;
+        place_word(st, j, &w);
+        if (fits(st, j->limit) && (j->flag[at->b - 1] || at->b == j->bases)) {
+            *from = *at;
+            return at->b;
+        }
     }
     inner = within_jukugo(j, &before, p);
     if (inner)

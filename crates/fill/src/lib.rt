@@ -194,8 +194,8 @@ pub fn plain_at(
     }
 }
 
-// The same as `reach` for an element whose piece may be a P: that one has no word to be set.
-fn reach_any(
+// The same for what the door has judged: a P has no word to be set, and numbers 7 to 10 are not asked of the others again.
+fn reach_judged(
     s: usize,
     c: usize,
     k: usize,
@@ -222,26 +222,10 @@ fn reach_any(
         let e = plain_at(x.base, em, class, width, before, after);
         return line::place(s as u32, st, e);
     }
-    reach(
-        s,
-        c,
-        k,
-        x,
-        st,
-        em,
-        measure,
-        class,
-        width,
-        before,
-        after,
-        flag,
-        rclass,
-        rwidth,
-        kind,
-        ebase,
-        eruby,
-        runs,
-    )
+    let p = piece_upto(x, s, c, runs);
+    let w = door::piece_word(p, em, class, width, rclass, rwidth, runs);
+    let e = element_of(p, w, em, class, width, before, after);
+    line::place(s as u32, st, e)
 }
 
 // The line so far ends within the measure.
@@ -546,7 +530,7 @@ fn reach_end(
         return Reached::At(false, st);
     }
     let c = x.base + x.bases;
-    match reach_any(
+    match reach_judged(
         s,
         c,
         k,

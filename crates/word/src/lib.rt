@@ -428,19 +428,19 @@ fn script_by(cs: &[u32]) -> Script
     }
 }
 
-// A J that was judged. Its ruby's classes are asked only where a run is longer than one em.
-fn jukugo_by(em: u32, bs: &[u32], runs: &[u32], rc: &[u32], rs: &[u32]) -> Word
-    requires { ⌜ (Small (now bs) (now rs)) × (sum (now runs) ≤ length (now rs)) × (em ≤ sum (now bs)) × (Speaks (now rc)) ⌝ }
-    ensures { λ w. ⌜ w ≡ jukugoWord (script (now (rc .entry))) em (now (bs .entry)) (now (runs .entry)) (now (rs .entry)) ⌝ }
+// A J that was judged. Its ruby's classes are asked only where one of its own runs is longer than one em.
+fn jukugo_by(em: u32, bs: &[u32], own: &[u32], rc: &[u32], rs: &[u32]) -> Word
+    requires { ⌜ (Small (now bs) (now rs)) × (sum (now own) ≤ length (now rs)) × (em ≤ sum (now bs)) × (Speaks (now rc)) ⌝ }
+    ensures { λ w. ⌜ w ≡ jukugoWord (script (now (rc .entry))) em (now (bs .entry)) (now (own .entry)) (now (rs .entry)) ⌝ }
 {
     let b = basics::sum_of(bs);
-    match runs_in(em, runs, rs) {
+    match runs_in(em, own, rs) {
         Runs::Longer => {
             let r = script_by(rc);
             group_of(r, Script::Kana, em, bs, rs)
         }
         Runs::Fit(last) => {
-            let first = first_run(runs, rs);
+            let first = first_run(own, rs);
             Word {
                 front: 0,
                 len: 2 * b,

@@ -20,7 +20,7 @@ job a =
     jobOf (a .args .em) (a .args .measure) (a .args .class .now) (a .args .width .now) (a .args .before .now) (a .args .after .now) (a .args .flag .now) (a .args .rclass .now) (a .args .rwidth .now) (a .args .kind .now) (a .args .ebase .now) (a .args .eruby .now) (a .args .runs .now)
 
 state : (c : tie.After-known-told2) → let a = c .before .before .before .before .before .before .before .before .before .before .before .before .before .before .before .before .before .before in stateOf (job a) (a .args .s) (a .args .x .base + a .args .x .bases) ≡ c .before .next .given .0 .1 .0
-state c = at-state (sym (c .before .before .before .reach-any .ensures) ∙ c .before .next .given .1)
+state c = at-state (sym (c .before .before .before .reach-judged .ensures) ∙ c .before .next .given .1)
 
 too-wide-requires : tie.Need-too-wide-requires
 too-wide-requires c κs = let a = c .before .before .before .before .before .before .before .before .before .before .before in let l = search.low-end (job a) (a .args .s) (a .args .k) (a .args .x) (a .args .st) (a .pre) in (l .0, omega (arith, l))
@@ -31,8 +31,8 @@ returns c = let a = c .before .before .before .before .before .before .before .b
 add-c : tie.Need-add-c
 add-c c = let a = c .before .before .before .before .before .before .before .before .before .before .before .before .before .before in omega (arith, search.low-end (job a) (a .args .s) (a .args .k) (a .args .x) (a .args .st) (a .pre))
 
-reach-any-requires : tie.Need-reach-any-requires
-reach-any-requires c κs = let a = c .before .before .before .before .before .before .before .before .before .before .before .before .before .before in (search.into-end (job a) (a .args .s) (a .args .k) (a .args .x) (a .args .st) (a .pre), a .pre .state, search.index-small (job a) (a .args .s) (a .args .k) (a .args .x) (a .args .st) (a .pre))
+reach-judged-requires : tie.Need-reach-judged-requires
+reach-judged-requires c κs = let a = c .before .before .before .before .before .before .before .before .before .before .before .before .before .before in (search.into-end (job a) (a .args .s) (a .args .k) (a .args .x) (a .args .st) (a .pre), a .pre .state, search.index-small (job a) (a .args .s) (a .args .k) (a .args .x) (a .args .st) (a .pre))
 
 enum-known-why : tie.Need-enum-known-why
 enum-known-why c = search needs
@@ -44,7 +44,7 @@ fits-requires : tie.Need-fits-requires
 fits-requires c κs = search needs
 
 returns-2 : tie.Need-returns-2
-returns-2 c = at-refused (sym (c .before .before .before .reach-any .ensures) ∙ c .before .why .given .1)
+returns-2 c = at-refused (sym (c .before .before .before .reach-judged .ensures) ∙ c .before .why .given .1)
 
 returns-3 : tie.Need-returns-3
 returns-3 c =
@@ -54,4 +54,4 @@ returns-3 c =
     )
 
 pub reach-end-spec : {M : Type 1} → statement M
-reach-end-spec = tie.close (tie.spec too-wide-requires returns add-c reach-any-requires enum-known-why enum-known-next fits-requires returns-2 returns-3)
+reach-end-spec = tie.close (tie.spec too-wide-requires returns add-c reach-judged-requires enum-known-why enum-known-next fits-requires returns-2 returns-3)

@@ -12,10 +12,10 @@ use Rattle.word.proofs.jukugo_by.Statement.{statement}
 use Rattle.word.proofs.jukugo_by.Tie as tie
 
 abbrev lengths : tie.After-first-run → List ℕ
-lengths c = map sum (split (c .before .before .before .before .before .before .before .before .before .before .args .runs .now) (c .before .before .before .before .before .before .before .before .before .before .args .rs .now))
+lengths c = map sum (split (c .before .before .before .before .before .before .before .before .before .before .args .own .now) (c .before .before .before .before .before .before .before .before .before .before .args .rs .now))
 
-fit : (c : tie.After-first-run) → (anyLonger (c .before .before .before .before .before .before .before .before .before .before .args .em) (split (c .before .before .before .before .before .before .before .before .before .before .args .runs .now) (c .before .before .before .before .before .before .before .before .before .before .args .rs .now)) ≡ false) × (lastOr 0 (lengths c) ≡ c .before .before .last .given .0 .0)
-fit c = runs-fit (c .before .before .before .before .before .before .before .before .before .before .args .em) (c .before .before .before .before .before .before .before .before .before .before .args .runs .now) (c .before .before .before .before .before .before .before .before .before .before .args .rs .now) (sym (c .before .before .before .before .runs-in .ensures) ∙ c .before .before .last .given .1)
+fit : (c : tie.After-first-run) → (anyLonger (c .before .before .before .before .before .before .before .before .before .before .args .em) (split (c .before .before .before .before .before .before .before .before .before .before .args .own .now) (c .before .before .before .before .before .before .before .before .before .before .args .rs .now)) ≡ false) × (lastOr 0 (lengths c) ≡ c .before .before .last .given .0 .0)
+fit c = runs-fit (c .before .before .before .before .before .before .before .before .before .before .args .em) (c .before .before .before .before .before .before .before .before .before .before .args .own .now) (c .before .before .before .before .before .before .before .before .before .before .args .rs .now) (sym (c .before .before .before .before .runs-in .ensures) ∙ c .before .before .last .given .1)
 
 sum-of-requires : tie.Need-sum-of-requires
 sum-of-requires c κs = search needs
@@ -55,7 +55,7 @@ sub-t17 c = search needs
 
 returns : tie.Need-returns
 unfolding jukugoWord
-returns c = c .group-of .ensures ∙ rw (c .before .script-by .ensures, runs-longer (c .before .before .before .before .before .before .before .before .before .before .args .em) (c .before .before .before .before .before .before .before .before .before .before .args .runs .now) (c .before .before .before .before .before .before .before .before .before .before .args .rs .now) (sym (c .before .before .before .before .runs-in .ensures) ∙ c .before .before .enum-told .given .1))
+returns c = c .group-of .ensures ∙ rw (c .before .script-by .ensures, runs-longer (c .before .before .before .before .before .before .before .before .before .before .args .em) (c .before .before .before .before .before .before .before .before .before .before .args .own .now) (c .before .before .before .before .before .before .before .before .before .before .args .rs .now) (sym (c .before .before .before .before .runs-in .ensures) ∙ c .before .before .enum-told .given .1))
 
 returns-2 : tie.Need-returns-2
 unfolding jukugoWord overEach
