@@ -194,7 +194,7 @@ pub fn plain_at(
     }
 }
 
-// The same for what the door has judged: a P has no word to be set, and numbers 7 to 10 are not asked of the others again.
+// As `reach`, of an element that the door has judged: a P has no word to be set, and numbers 7 to 10 are not asked of the others again.
 fn reach_judged(
     s: usize,
     c: usize,
