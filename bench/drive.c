@@ -17,20 +17,26 @@ typedef uint32_t u32;
 
 #define EM 10u
 
-/* A mix: of 8 elements `words` are of `kind` and the rest are P; `wide` words have 1 to 3 base characters, others 1. */
+/*
+ * A mix: of 8 elements `words` are of `kind` and the rest are P. Words have 1 base character, or, where `wide` is 3, 1 to 3; where it is 32, all have 32
+ * with 2 ruby characters each.
+ */
 struct mix {
     const char *name;
     u32 kind, words, wide, measure;
 };
 
-/* Each measure gives lines of 20 to 25 elements. */
+/* Each measure gives lines of 20 to 25 elements, but for the long words, which it cuts. */
 static const struct mix mixes[] = {
-    {"plain", BV_P, 0, 0, 230},
-    {"mono", BV_M, 6, 0, 270},
-    {"group", BV_G, 6, 1, 440},
-    {"jukugo", BV_J, 6, 1, 440},
-    {"group-of-one", BV_G, 6, 0, 270},
-    {"jukugo-of-one", BV_J, 6, 0, 270}
+    {"plain", BV_P, 0, 1, 230},
+    {"mono", BV_M, 6, 1, 270},
+    {"group", BV_G, 6, 3, 440},
+    {"jukugo", BV_J, 6, 3, 440},
+    {"group-of-one", BV_G, 6, 1, 270},
+    {"jukugo-of-one", BV_J, 6, 1, 270},
+    {"long-30", BV_J, 8, 32, 30},
+    {"long-200", BV_J, 8, 32, 200},
+    {"long-4000", BV_J, 8, 32, 4000}
 };
 
 static u32 measure;
@@ -105,9 +111,9 @@ static void add_plain(void)
 static void add_word(const struct mix *mix)
 {
     u32 script = mix->kind == BV_G ? chosen(8) : 7;
-    u32 n = mix->wide ? 1 + chosen(3) : 1, m = 0, i;
+    u32 n = mix->wide == 3 ? 1 + chosen(3) : mix->wide, m = 0, i;
     for (i = 0; i < n; i++) {
-        u32 own = mix->wide ? 1 + chosen(3) : 1 + chosen(4);
+        u32 own = mix->wide == 32 ? 2 : mix->wide == 3 ? 1 + chosen(3) : 1 + chosen(4);
         add_base(script == 0 ? 27 : 19, EM, 0, 0);
         add_rubies(script == 1 ? 27 : 15, own);
         if (mix->kind == BV_J)
@@ -123,10 +129,10 @@ static void add_word(const struct mix *mix)
 /* 1 where the job would pass a limit. */
 static int make_job(const struct mix *mix, u32 count)
 {
-    const u32 most = mix->wide ? 3 : 1; /* base characters of one element; it has at most 9 ruby characters */
+    const u32 most = mix->wide == 32 ? 64 : 9; /* ruby characters of one element */
     measure = mix->measure;
     while (elements < count) {
-        if (elements == BV_MOST_ELEMENTS || bases + most > BV_MOST_BASE || rubies + 9 > BV_MOST_RUBY)
+        if (elements == BV_MOST_ELEMENTS || bases + mix->wide > BV_MOST_BASE || rubies + most > BV_MOST_RUBY)
             return 1;
         if (chosen(8) < mix->words)
             add_word(mix);

@@ -419,10 +419,15 @@ static struct rest rest_of(const struct job *j, u32 s, const struct cursor *at)
     return p;
 }
 
-/* The furthest inner break of a J whose line can be set, or 0. Each is a try, from the last on. */
+/*
+ * The furthest inner break of a J whose line can be set, or 0. Each is a try, from the last on, but for those whose block alone passes
+ * the measure: each of its base characters is one em wide.
+ */
 APART static u32 within_jukugo(const struct job *j, const struct state *st, struct rest p)
 {
     struct word w;
+    const u32 most = st->end < j->limit ? (j->limit - st->end) / (2 * j->em) : 0;
+    p.n = smaller(p.n, most + 1);
     while (p.n > 1) {
         struct state next = *st;
         p.n--;
@@ -445,14 +450,18 @@ APART static u32 pass_jukugo(const struct job *j, u32 s, struct cursor *at, stru
     const struct rest p = rest_of(j, s, at);
     struct word w;
     u32 inner;
-    at->k++;
-    at->b = p.b + p.n;
-    at->r = p.r + part(&w, j, p.b, p.n, p.r, p.u);
-    at->u = p.u + p.n;
-    place_word(st, j, &w);
-    if (fits(st, j->limit) && (j->flag[at->b - 1] || at->b == j->bases)) {
-        *from = *at;
-        return at->b;
+    if (st->end + 2 * j->em * p.n > j->limit) {
+        st->end = j->limit + 1; /* its block alone passes the measure: nothing else of it matters, nor where the cursor is */
+    } else {
+        at->k++;
+        at->b = p.b + p.n;
+        at->r = p.r + part(&w, j, p.b, p.n, p.r, p.u);
+        at->u = p.u + p.n;
+        place_word(st, j, &w);
+        if (fits(st, j->limit) && (j->flag[at->b - 1] || at->b == j->bases)) {
+            *from = *at;
+            return at->b;
+        }
     }
     inner = within_jukugo(j, &before, p);
     if (inner)

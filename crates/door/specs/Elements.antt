@@ -1,6 +1,6 @@
 -- The rows of the elements as the door walks along them: the counts of one element (5), what it takes (6), and level one's own answer (7 to 10).
 use mathlib.Core.Path.{_≡_, refl, ap, _∙_}
-use mathlib.Core.Bool.{Bool, true, false, cond, _||_, false≢true}
+use mathlib.Core.Bool.{Bool, true, false, cond, _||_, false≢true, true≢false}
 use mathlib.Core.List.{List, [], _∷_, _++_}
 use Prim.Native.Nat.{ℕ, _+_, _-_, _≤_}
 use lib.Dec.{ltb}
@@ -11,10 +11,11 @@ use Rattle.refusal.specs.declared.Refusal.the-variants.{Element, Supply, BlankI
 use Rattle.word.specs.declared.Form.{Form}
 use Rattle.word.specs.declared.Form.the-variants.{P, M, G, J}
 use Rattle.word.specs.declared.Answer.the-variants as word
-use Rattle.word.specs.Given.{Given, isJ}
+use Rattle.word.specs.Given.{Given, hasRuby, isJ}
 use Rattle.word.specs.Answer.{blankInside, jukugoBase, mixedIn, westernOver, answer}
 use Rattle.word.specs.Word.{wordOf}
 use Rattle.word.specs.Sized.{Sized}
+use Rattle.word.specs.First.{Judged}
 use Rattle.door.specs.declared.Piece.{Piece}
 use Rattle.door.specs.declared.Counted.{Counted}
 use Rattle.door.specs.declared.Counted.the-variants.{Is, Out}
@@ -129,17 +130,18 @@ lent-answer k job p h =
     )
     (runs-unread (p .form) k job p (h .run))
 
-pub lent-sized : (job : Job) (p : Piece) → Reads job p → Sized (p .form) (lent job p .width) (lent job p .rubyWidth) (lent job p .run)
-lent-sized job p h =
-    rw (part-of (job .width) (p .base) (p .bases) (h .width), part-of (job .rubyWidth) (p .ruby) (p .rubies) (h .rubyWidth))
+sized-lent : (job : Job) (p : Piece) → p .base + p .bases ≤ length (job .width) → p .ruby + p .rubies ≤ length (job .rubyWidth) → p .run + takesRuns (p .form) (p .bases) ≤ length (job .run) →
+    Sized (p .form) (given job p .width) (given job p .rubyWidth) (given job p .run) → Sized (p .form) (lent job p .width) (lent job p .rubyWidth) (lent job p .run)
+sized-lent job p width ruby run sized =
+    rw (part-of (job .width) (p .base) (p .bases) width, part-of (job .rubyWidth) (p .ruby) (p .rubies) ruby)
     (record {
-      some = h .sized .some;
-      few = h .sized .few;
-      narrow = h .sized .narrow;
-      reads = h .sized .reads;
-      fewRuby = h .sized .fewRuby;
-      narrowRuby = h .sized .narrowRuby;
-      whole = λ j. ap sum (runs-of (p .form) j (h .run)) ∙ h .sized .whole j;
+      some = sized .some;
+      few = sized .few;
+      narrow = sized .narrow;
+      reads = sized .reads;
+      fewRuby = sized .fewRuby;
+      narrowRuby = sized .narrowRuby;
+      whole = λ j. ap sum (runs-of (p .form) j run) ∙ sized .whole j;
     })
   where
     runs-of : (form : Form) → isJ form ≡ true → p .run + takesRuns form (p .bases) ≤ length (job .run) →
@@ -148,6 +150,70 @@ lent-sized job p h =
     runs-of M j k = absurd (false≢true j)
     runs-of G j k = absurd (false≢true j)
     runs-of J j k = part-of (job .run) (p .run) (p .bases) k
+
+pub lent-sized : (job : Job) (p : Piece) → Reads job p → Sized (p .form) (lent job p .width) (lent job p .rubyWidth) (lent job p .run)
+lent-sized job p h = sized-lent job p (h .width) (h .rubyWidth) (h .run) (h .sized)
+
+-- a P has none of the rows of level one
+pub plain-answer : (form : Form) (k : ℕ) (w : Given) → hasRuby form ≡ false → answer form k w ≡ word.Set (wordOf form w)
+unfolding answer
+plain-answer P k w e = refl
+plain-answer M k w e = absurd (true≢false e)
+plain-answer G k w e = absurd (true≢false e)
+plain-answer J k w e = absurd (true≢false e)
+
+-- A piece that was judged: what its word alone reads.
+pub record WordReads (job : Job) (p : Piece) : Type 0 where
+  pub class : p .base + p .bases ≤ length (job .class)
+  pub width : p .base + p .bases ≤ length (job .width)
+  pub rubyClass : p .ruby + p .rubies ≤ length (job .rubyClass)
+  pub rubyWidth : p .ruby + p .rubies ≤ length (job .rubyWidth)
+  pub run : p .run + takesRuns (p .form) (p .bases) ≤ length (job .run)
+  pub sized : Sized (p .form) (given job p .width) (given job p .rubyWidth) (given job p .run)
+  pub judged : Judged (p .form) (job .em) (given job p .class) (given job p .width) (given job p .rubyClass)
+
+-- blanks are not read
+word-unread : (form : Form) (job : Job) (p : Piece) → p .run + takesRuns form (p .bases) ≤ length (job .run) →
+    wordOf form (record {
+      em = job .em;
+      class = given job p .class;
+      width = given job p .width;
+      before = [];
+      after = [];
+      rubyClass = given job p .rubyClass;
+      rubyWidth = given job p .rubyWidth;
+      run = take (p .run + takesRuns form (p .bases) - p .run) (drop (p .run) (job .run));
+    })
+    ≡ wordOf form (given job p)
+unfolding wordOf
+word-unread P job p h = refl
+word-unread M job p h = refl
+word-unread G job p h = refl
+word-unread J job p h = rw (part-of (job .run) (p .run) (p .bases) h)
+
+pub lent-word : (job : Job) (p : Piece) → WordReads job p →
+    let w = lent job p in
+    wordOf (p .form) (record { em = job .em; class = w .class; width = w .width; before = []; after = []; rubyClass = w .rubyClass; rubyWidth = w .rubyWidth; run = w .run }) ≡ wordOf (p .form) (given job p)
+lent-word job p h =
+    rw (
+      part-of (job .class) (p .base) (p .bases) (h .class),
+      part-of (job .width) (p .base) (p .bases) (h .width),
+      part-of (job .rubyClass) (p .ruby) (p .rubies) (h .rubyClass),
+      part-of (job .rubyWidth) (p .ruby) (p .rubies) (h .rubyWidth),
+    )
+    (word-unread (p .form) job p (h .run))
+
+pub lent-sized-word : (job : Job) (p : Piece) → WordReads job p → Sized (p .form) (lent job p .width) (lent job p .rubyWidth) (lent job p .run)
+lent-sized-word job p h = sized-lent job p (h .width) (h .rubyWidth) (h .run) (h .sized)
+
+pub lent-judged : (job : Job) (p : Piece) → WordReads job p → Judged (p .form) (job .em) (lent job p .class) (lent job p .width) (lent job p .rubyClass)
+lent-judged job p h =
+    rw (
+      part-of (job .class) (p .base) (p .bases) (h .class),
+      part-of (job .width) (p .base) (p .bases) (h .width),
+      part-of (job .rubyClass) (p .ruby) (p .rubies) (h .rubyClass),
+    )
+    (h .judged)
 
 -- level one's answer, by its rows
 pub by-rows : (form : Form) (k : ℕ) (w : Given) (p : Piece) (s : Step) →

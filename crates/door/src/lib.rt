@@ -16,10 +16,12 @@ ghost use Rattle.refusal.specs.declared.Refusal.the-variants.{Character};
 ghost use Rattle.door.specs.Verdict.{verdict};
 ghost use Rattle.door.specs.Values.{sizeRows, characterWrong, baseRows, runsFrom, basesOnly, rubiesOnly, BaseHolds, RubyHolds};
 ghost use Rattle.word.specs.declared.Form.the-variants as form;
-ghost use Rattle.door.specs.Elements.{countedAs, countedBy, partsOnly, Reads};
+ghost use Rattle.door.specs.Elements.{countedAs, countedBy, partsOnly, Reads, WordReads};
 ghost use Rattle.door.specs.Walk.{Stands, elementStep};
 ghost use Rattle.door.specs.Loop.{Holds, allRows};
 ghost use Rattle.word.specs.Answer.{answer};
+ghost use Rattle.word.specs.Word.{wordOf};
+ghost use Rattle.word.specs.Given.{hasRuby};
 use refusal::Refusal;
 
 // An element, or the part of a J that stands in one line: its first base and ruby character in the job, how many it has of each, and the first of its runs.
@@ -447,6 +449,50 @@ pub fn measure_piece(
     )
 }
 
+// The word of a piece that was judged, without asking for numbers 7 to 10 again.
+pub fn piece_word(
+    p: Piece,
+    em: u32,
+    class: &[u32],
+    width: &[u32],
+    rclass: &[u32],
+    rwidth: &[u32],
+    runs: &[u32],
+) -> word::Word
+    requires { ⌜ (p .run + p .bases < 2 ^ 40) × WordReads (partsOnly em (now class) (now width) [] [] (now rclass) (now rwidth) [] [] [] (now runs)) p ⌝ }
+    ensures { λ w. ⌜ w ≡ wordOf (p .form) (given (partsOnly em (now (class .entry)) (now (width .entry)) [] [] (now (rclass .entry)) (now (rwidth .entry)) [] [] [] (now (runs .entry))) p) ⌝ }
+{
+    let form = p.form;
+    let b = p.base;
+    let e = p.base + p.bases;
+    let r = p.ruby;
+    let s = p.ruby + p.rubies;
+    let u = p.run;
+    let v = runs_end(p);
+    word::word_of(
+        form,
+        em,
+        &class[b..e],
+        &width[b..e],
+        &rclass[r..s],
+        &rwidth[r..s],
+        &runs[u..v],
+    )
+}
+
+// A P: it has no ruby, and so no row of level one.
+pub fn is_plain(p: Piece) -> bool
+    ensures { λ t. ⌜ t ≡ not (hasRuby (p .form)) ⌝ }
+{
+    let form = p.form;
+    match form {
+        word::Form::P => true,
+        word::Form::M => false,
+        word::Form::G => false,
+        word::Form::J => false,
+    }
+}
+
 // Element k, those before it having taken b base characters, r ruby characters and u runs, of `bases` and `rubies` in all: numbers 5, 6, and 7 to 10 as level one gives them.
 fn check_element(
     k: usize,
@@ -477,6 +523,9 @@ fn check_element(
     };
     if runs_out(p, bases, rubies) {
         return Step::Stop(Refusal::Supply(place));
+    }
+    if is_plain(p) {
+        return Step::Next(p);
     }
     match measure_piece(
         place,

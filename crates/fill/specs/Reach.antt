@@ -7,6 +7,7 @@ use lib.ListN.{length}
 use Rattle.refusal.specs.declared.Refusal.{Refusal}
 use Rattle.word.specs.declared.Answer.the-variants.{Set}
 use Rattle.word.specs.Answer.{answer}
+use Rattle.line.specs.declared.Element.{Element}
 use Rattle.line.specs.declared.State.{State}
 use Rattle.line.specs.declared.Placed.the-variants.{At, Refused}
 use Rattle.line.specs.Setting.{origin, put, placed, furthest}
@@ -61,6 +62,11 @@ module _ (job : Job) (s c : ℕ) (x : Piece) (in-it : Into job s c x) where
       let e : stateOf job s c ≡ put (stateOf job s (x .base)) (seen job p) (origin (stateOf job s (x .base)) (seen job p)) = state-more job s (x .base) c p (more job s c x in-it) in
       placed-near s (stateOf job s (x .base)) (seen job p) (subst (λ (t : State). furthest t ≤ 4294967295) e (omega (arith, state-bounded job (in-it .passed) s c)))
       ∙ ap (λ (t : State). At (origin (stateOf job s (x .base)) (seen job p)) t) (sym e)
+
+  -- by the state and the element that the code has
+  pub reached-from : (st : State) → st ≡ stateOf job s (x .base) → (e : Element) → e ≡ seen job p → placed s st e ≡ At (origin st (seen job p)) (stateOf job s c)
+  reached-from st h e f =
+      ap (λ (y : Element). placed s st y) f ∙ subst (λ (t : State). placed s t (seen job p) ≡ At (origin t (seen job p)) (stateOf job s c)) (sym h) reached
 
   pub small : p .run + p .bases < 2 ^ 40
   small = omega (arith, good job s c x in-it .few, run-small job s c x in-it)

@@ -14,8 +14,10 @@ ghost use Rattle.door.specs.Job.{jobOf, baseCount, elementCount, element};
 ghost use Rattle.word.specs.Part.{formOfPart};
 ghost use Rattle.job.specs.Line as meaning;
 ghost use Rattle.fill.specs.Piece.{elementAs, Cuts, Into, pieceUpto};
+ghost use Rattle.fill.specs.Plain.{plainElement};
 ghost use Rattle.job.specs.Walk.{stateOf};
 ghost use Rattle.fill.specs.Search.{Here, Best, EndsAt, Counts, TurnsTo, Found, Starts};
+ghost use Rattle.fill.specs.Start.{lastTry, Tries, tooWide, ReachesTo};
 ghost use Rattle.door.specs.Passed.{Passed};
 ghost use Rattle.fill.specs.Lines.{FillsTo};
 ghost use Rattle.word.specs.Given.{isJ};
@@ -169,6 +171,63 @@ pub fn reach(
     line::place(s as u32, st, e)
 }
 
+// A P as the line sees it: "A P element is its own block", without ruby; how deep a neighbour's may lie on it is asked of the class table.
+pub fn plain_at(
+    i: usize,
+    em: u32,
+    class: &[u32],
+    width: &[u32],
+    before: &[u32],
+    after: &[u32],
+) -> line::Element
+    requires { ⌜ (i < length (now class)) × (i < length (now width)) × (i < length (now before)) × (i < length (now after)) × (getD (now width) i 0 ≤ 4096) ⌝ }
+    ensures { λ e. ⌜ e ≡ plainElement i em (now (class .entry)) (now (width .entry)) (now (before .entry)) (now (after .entry)) ⌝ }
+{
+    line::Element {
+        front: 0,
+        len: 2 * width[i],
+        ruby: false,
+        from: 0,
+        upto: 0,
+        before: class::depth_before(class[i], width[i], before[i], em),
+        after: class::depth_after(class[i], width[i], after[i], em),
+    }
+}
+
+// As `reach`, of an element that the door has judged: a P has no word to be set, and numbers 7 to 10 are not asked of the others again.
+fn reach_judged(
+    s: usize,
+    c: usize,
+    k: usize,
+    x: door::Piece,
+    st: line::State,
+    em: u32,
+    measure: u32,
+    class: &[u32],
+    width: &[u32],
+    before: &[u32],
+    after: &[u32],
+    flag: &[u32],
+    rclass: &[u32],
+    rwidth: &[u32],
+    kind: &[u32],
+    ebase: &[u32],
+    eruby: &[u32],
+    runs: &[u32],
+) -> line::Placed
+    requires { ⌜ (Into (jobOf em measure (now class) (now width) (now before) (now after) (now flag) (now rclass) (now rwidth) (now kind) (now ebase) (now eruby) (now runs)) s c x) × (st ≡ stateOf (jobOf em measure (now class) (now width) (now before) (now after) (now flag) (now rclass) (now rwidth) (now kind) (now ebase) (now eruby) (now runs)) s (x .base)) × (k < 1024) ⌝ }
+    ensures { λ r. ⌜ r ≡ placed.At (setting.origin st (meaning.seen (jobOf em measure (now (class .entry)) (now (width .entry)) (now (before .entry)) (now (after .entry)) (now (flag .entry)) (now (rclass .entry)) (now (rwidth .entry)) (now (kind .entry)) (now (ebase .entry)) (now (eruby .entry)) (now (runs .entry))) (pieceUpto (jobOf em measure (now (class .entry)) (now (width .entry)) (now (before .entry)) (now (after .entry)) (now (flag .entry)) (now (rclass .entry)) (now (rwidth .entry)) (now (kind .entry)) (now (ebase .entry)) (now (eruby .entry)) (now (runs .entry))) s c x))) (stateOf (jobOf em measure (now (class .entry)) (now (width .entry)) (now (before .entry)) (now (after .entry)) (now (flag .entry)) (now (rclass .entry)) (now (rwidth .entry)) (now (kind .entry)) (now (ebase .entry)) (now (eruby .entry)) (now (runs .entry))) s c) ⌝ }
+{
+    if door::is_plain(x) {
+        let e = plain_at(x.base, em, class, width, before, after);
+        return line::place(s as u32, st, e);
+    }
+    let p = piece_upto(x, s, c, runs);
+    let w = door::piece_word(p, em, class, width, rclass, rwidth, runs);
+    let e = element_of(p, w, em, class, width, before, after);
+    line::place(s as u32, st, e)
+}
+
 // The line so far ends within the measure.
 fn fits(st: line::State, measure: u32) -> bool
     ensures { λ t. ⌜ t ≡ leb (setting.furthest st) (2 * measure) ⌝ }
@@ -192,7 +251,22 @@ pub enum Ended {
     Refused(refusal::Refusal),
 }
 
-// The furthest break within a J whose line can be set, or the one before it. Each of its inner breaks is a try, from the last on.
+// The last inner break of a J that needs a try, where `low` is the first of its characters in the line and `end` the end of the block before it: "A J base
+// character .. not one em wide" is refused, so each adds 2 em half units to the block, and past this break the block alone passes the measure.
+fn last_try(low: usize, last: usize, end: u32, em: u32, measure: u32) -> usize
+    requires { ⌜ Tries low last em measure ⌝ }
+    ensures { λ c. ⌜ c ≡ lastTry low last end em measure ⌝ }
+{
+    let limit = 2 * measure;
+    if limit <= end {
+        return low;
+    }
+    let most = low + ((limit - end) / (2 * em)) as usize;
+    if last < most { last } else { most }
+}
+
+// The furthest break within a J whose line can be set, or the one before it. Each of its inner breaks is a try, from the last on, but for those whose
+// block alone passes the measure.
 fn within_jukugo(
     s: usize,
     k: usize,
@@ -217,7 +291,7 @@ fn within_jukugo(
     ensures { λ a. ⌜ EndsAt (Best (jobOf em measure (now (class .entry)) (now (width .entry)) (now (before .entry)) (now (after .entry)) (now (flag .entry)) (now (rclass .entry)) (now (rwidth .entry)) (now (kind .entry)) (now (ebase .entry)) (now (eruby .entry)) (now (runs .entry))) s (x .base + x .bases - 1)) a ⌝ }
 {
     let low = x.base + skipped_of(s, x.base);
-    let mut c = x.base + x.bases - 1;
+    let mut c = last_try(low, x.base + x.bases - 1, st.end, em, measure);
     while low < c {
         match reach(
             s,
@@ -405,6 +479,82 @@ enum Turn {
     Refused(refusal::Refusal),
 }
 
+// The line up to an element's end can be set or not, and its state where it can.
+enum Reached {
+    At(bool, line::State),
+    Refused(refusal::Refusal),
+}
+
+// A J whose block alone, of one em for each character, passes the measure.
+fn too_wide(s: usize, x: door::Piece, end: u32, em: u32, measure: u32) -> bool
+    requires { ⌜ (x .base + x .bases < 4096) × (x .base + (max s (x .base) - x .base) ≤ x .base + x .bases) ⌝ }
+    ensures { λ t. ⌜ t ≡ tooWide s x end em measure ⌝ }
+{
+    let form = x.form;
+    match form {
+        word::Form::P => false,
+        word::Form::M => false,
+        word::Form::G => false,
+        word::Form::J => {
+            let low = x.base + skipped_of(s, x.base);
+            let n = (x.base + x.bases - low) as u64;
+            2 * (measure as u64) < end as u64 + 2 * (em as u64 * n)
+        }
+    }
+}
+
+// Up to the end of element x. Of a J whose block alone passes the measure nothing else need be known.
+fn reach_end(
+    s: usize,
+    k: usize,
+    x: door::Piece,
+    st: line::State,
+    em: u32,
+    measure: u32,
+    class: &[u32],
+    width: &[u32],
+    before: &[u32],
+    after: &[u32],
+    flag: &[u32],
+    rclass: &[u32],
+    rwidth: &[u32],
+    kind: &[u32],
+    ebase: &[u32],
+    eruby: &[u32],
+    runs: &[u32],
+) -> Reached
+    requires { ⌜ Here (jobOf em measure (now class) (now width) (now before) (now after) (now flag) (now rclass) (now rwidth) (now kind) (now ebase) (now eruby) (now runs)) s k x st ⌝ }
+    ensures { λ a. ⌜ ReachesTo (jobOf em measure (now (class .entry)) (now (width .entry)) (now (before .entry)) (now (after .entry)) (now (flag .entry)) (now (rclass .entry)) (now (rwidth .entry)) (now (kind .entry)) (now (ebase .entry)) (now (eruby .entry)) (now (runs .entry))) s (x .base + x .bases) a ⌝ }
+{
+    if too_wide(s, x, st.end, em, measure) {
+        return Reached::At(false, st);
+    }
+    let c = x.base + x.bases;
+    match reach_judged(
+        s,
+        c,
+        k,
+        x,
+        st,
+        em,
+        measure,
+        class,
+        width,
+        before,
+        after,
+        flag,
+        rclass,
+        rwidth,
+        kind,
+        ebase,
+        eruby,
+        runs,
+    ) {
+        line::Placed::Refused(why) => Reached::Refused(why),
+        line::Placed::At(_, next) => Reached::At(fits(next, measure), next),
+    }
+}
+
 // Element x passed: once a whole element passes the measure, nothing further can be set.
 fn pass_element(
     s: usize,
@@ -430,10 +580,8 @@ fn pass_element(
     requires { ⌜ Here (jobOf em measure (now class) (now width) (now before) (now after) (now flag) (now rclass) (now rwidth) (now kind) (now ebase) (now eruby) (now runs)) s k x st × Best (jobOf em measure (now class) (now width) (now before) (now after) (now flag) (now rclass) (now rwidth) (now kind) (now ebase) (now eruby) (now runs)) s (x .base) last × (bases ≡ baseCount (jobOf em measure (now class) (now width) (now before) (now after) (now flag) (now rclass) (now rwidth) (now kind) (now ebase) (now eruby) (now runs))) ⌝ }
     ensures { λ a. ⌜ TurnsTo (jobOf em measure (now (class .entry)) (now (width .entry)) (now (before .entry)) (now (after .entry)) (now (flag .entry)) (now (rclass .entry)) (now (rwidth .entry)) (now (kind .entry)) (now (ebase .entry)) (now (eruby .entry)) (now (runs .entry))) s (x .base + x .bases) a ⌝ }
 {
-    let c = x.base + x.bases;
-    match reach(
+    match reach_end(
         s,
-        c,
         k,
         x,
         st,
@@ -451,9 +599,8 @@ fn pass_element(
         eruby,
         runs,
     ) {
-        line::Placed::Refused(why) => Turn::Refused(why),
-        line::Placed::At(_, next) => {
-            let fit = fits(next, measure);
+        Reached::Refused(why) => Turn::Refused(why),
+        Reached::At(fit, next) => {
             match after_element(
                 fit,
                 s,

@@ -10,12 +10,13 @@ ghost use mathlib.Core.List.{[], map};
 ghost use Rattle.basics.specs.Lists.{sum, any, other};
 ghost use Rattle.spread.specs.Gap.{starts};
 ghost use Rattle.spread.specs.Running.{Ready};
-ghost use Rattle.word.specs.Alone.{rubyWay, baseWay, split};
-ghost use Rattle.word.specs.Word.{plain, wordBy, groupWord, jukugoWord, runStarts, baseStarts, rubyStarts};
+ghost use Rattle.word.specs.Alone.{script, rubyWay, baseWay, split};
+ghost use Rattle.word.specs.Word.{plain, wordBy, groupWord, jukugoWord, wordOf, runStarts, baseStarts, rubyStarts};
 ghost use Rattle.word.specs.Answer.{answer};
 ghost use Rattle.word.specs.Sized.{Small, Sized, RunsReady};
 ghost use Rattle.word.specs.Kinds.{mixOf, mixedBy, scriptBy, notKanaBy, with};
 ghost use Rattle.word.specs.Runs.{runsOf};
+ghost use Rattle.word.specs.First.{Speaks, Judged};
 
 // The kinds of element (document 01, "The job").
 pub enum Form {
@@ -411,6 +412,67 @@ pub fn measure(
         Form::M => mono_answer(place, em, bs, before, after, rs),
         Form::G => group_answer(place, em, bc, bs, before, after, rc, rs),
         Form::J => jukugo_answer(place, em, bc, bs, before, after, rc, rs, runs),
+    }
+}
+
+// What a string is made of, by its first character: number 9 has let the string pass.
+fn script_by(cs: &[u32]) -> Script
+    requires { ⌜ Speaks (now cs) ⌝ }
+    ensures { λ r. ⌜ r ≡ script (now (cs .entry)) ⌝ }
+{
+    match class::kind_of(cs[0]) {
+        class::Kind::KanaLike => Script::Kana,
+        class::Kind::Western => Script::Western,
+        class::Kind::Space => Script::Kana,
+        class::Kind::Outside => Script::Kana,
+    }
+}
+
+// A J that was judged. Its ruby's classes are asked only where one of its own runs is longer than one em.
+fn jukugo_by(em: u32, bs: &[u32], own: &[u32], rc: &[u32], rs: &[u32]) -> Word
+    requires { ⌜ (Small (now bs) (now rs)) × (sum (now own) ≤ length (now rs)) × (em ≤ sum (now bs)) × (Speaks (now rc)) ⌝ }
+    ensures { λ w. ⌜ w ≡ jukugoWord (script (now (rc .entry))) em (now (bs .entry)) (now (own .entry)) (now (rs .entry)) ⌝ }
+{
+    let b = basics::sum_of(bs);
+    match runs_in(em, own, rs) {
+        Runs::Longer => {
+            let r = script_by(rc);
+            group_of(r, Script::Kana, em, bs, rs)
+        }
+        Runs::Fit(last) => {
+            let first = first_run(own, rs);
+            Word {
+                front: 0,
+                len: 2 * b,
+                ruby: true,
+                from: em - first,
+                upto: 2 * b - (em - last),
+                inbase: 0,
+                inruby: 0,
+                runs: true,
+            }
+        }
+    }
+}
+
+// The word of an element that was judged: what `measure` answers where it refuses nothing, without asking for numbers 7 to 10 again.
+pub fn word_of(
+    form: Form,
+    em: u32,
+    bc: &[u32],
+    bs: &[u32],
+    rc: &[u32],
+    rs: &[u32],
+    runs: &[u32],
+) -> Word
+    requires { ⌜ (Sized form (now bs) (now rs) (now runs)) × (Judged form em (now bc) (now bs) (now rc)) ⌝ }
+    ensures { λ w. ⌜ w ≡ wordOf form (record { em = em; class = now (bc .entry); width = now (bs .entry); before = []; after = []; rubyClass = now (rc .entry); rubyWidth = now (rs .entry); run = now (runs .entry) }) ⌝ }
+{
+    match form {
+        Form::P => plain_of(basics::sum_of(bs)),
+        Form::M => word_by(spread::Way::Solid, spread::Way::Solid, em, bs, rs),
+        Form::G => group_of(script_by(rc), script_by(bc), em, bs, rs),
+        Form::J => jukugo_by(em, bs, runs, rc, rs),
     }
 }
 

@@ -32,7 +32,7 @@ use Rattle.line.specs.Setting.{origin, placed}
 use Rattle.line.specs.Bound.{origin-bound}
 use Rattle.door.specs.declared.Piece.{Piece}
 use Rattle.door.specs.Job.{Job, baseCount, rubyCount, entries, takesRuns, given}
-use Rattle.door.specs.Elements.{Reads, lent, lent-answer, lent-sized}
+use Rattle.door.specs.Elements.{Reads, WordReads, lent, lent-answer, lent-sized}
 use Rattle.door.specs.Entries.{part-of}
 use Rattle.job.specs.Line.{part, wordOf, seen, baseAt, rubyAt}
 use Rattle.job.specs.Laws.{entries-add}
@@ -40,6 +40,7 @@ use Rattle.job.specs.Walk.{stateOf}
 use Rattle.job.specs.Bounded.{state-bounded}
 use Rattle.fill.specs.Piece.{Into, Cuts, pieceUpto, good, cuts, before-it, not-far, line-start}
 use Rattle.fill.specs.Reach.{readsOf, reads, first-within, reached, small}
+use Rattle.fill.specs.Judged.{wordsOf, same-word, word-reads}
 
 -- the part of a list that is lent from a up to a + n
 abbrev pub lentPart : List ℕ → ℕ → ℕ → List ℕ
@@ -286,11 +287,11 @@ module _ {job : Job} {s c k : ℕ} {x : Piece} {st : State} {base ruby : List �
   pub asks-piece : (isJ (x .form) ≡ true → Cuts x (max s (x .base) - x .base) (c - (x .base + (max s (x .base) - x .base))) (job .run)) × (x .base + (max s (x .base) - x .base) ≤ c) × (c < 2 ^ 40)
   asks-piece = (cuts job s c x (ready .into), before-it job s c x (ready .into), not-far job s c x (ready .into))
 
-  pub asks-word : (q .run + q .bases < 2 ^ 40) × Reads (readsOf job) q
-  asks-word = (small job s c x (ready .into), reads job s c x (ready .into))
+  pub asks-word : (q .run + q .bases < 2 ^ 40) × WordReads (wordsOf job) q
+  asks-word = (small job s c x (ready .into), word-reads job s c x (ready .into))
 
-  pub is-set : answer (q .form) k (given job q) ≡ Set (wordOf job q)
-  is-set = good job s c x (ready .into) .set k
+  pub is-word : wordOf (wordsOf job) q ≡ wordOf job q
+  is-word = same-word job q
 
   pub asks-element : (q .base < length (job .class)) × (q .base < length (job .width)) × (q .base < length (job .before)) × (q .base < length (job .after))
   asks-element = first-within job s c x (ready .into)

@@ -12,6 +12,7 @@ ghost use Rattle.job.specs.Line as meaning;
 ghost use Rattle.job.specs.Outcome.{over};
 ghost use Rattle.job.specs.Walk.{stateOf};
 ghost use Rattle.write.specs.Piece.{BaseReady, RubyReady, basePut, rubyPut, PieceReady, baseWith, rubyWith};
+ghost use Rattle.write.specs.Plain.{PlainReady, plainOrigin, plainState};
 ghost use Rattle.write.specs.Line.{LineReady, LineWritten, rubiesUpto};
 ghost use Rattle.write.specs.Lines.{LinesReady};
 
@@ -56,7 +57,31 @@ fn write_ruby(
     }
 }
 
-// The piece of element x up to c, set after the line so far and written; the state after it. The job has passed the door, so neither answer is a refusal.
+// A P set after the line so far and written: "A P element is its own block", so its one base character stands at its origin. The place is within all positions, so it is no refusal.
+fn write_plain(
+    s: usize,
+    i: usize,
+    st: line::State,
+    em: u32,
+    class: &[u32],
+    width: &[u32],
+    before: &[u32],
+    after: &[u32],
+    base: &mut [u32],
+) -> line::State
+    requires { ⌜ PlainReady s i st em (now class) (now width) (now before) (now after) (now base) ⌝ }
+    ensures { λ t. ⌜ (t ≡ plainState i st em (now (class .entry)) (now (width .entry)) (now (before .entry)) (now (after .entry))) × (now (base .exit) ≡ set (now (base .entry)) i (plainOrigin i st em (now (class .entry)) (now (width .entry)) (now (before .entry)) (now (after .entry)))) ⌝ }
+{
+    let e = fill::plain_at(i, em, class, width, before, after);
+    let placed = line::place(s as u32, st, e);
+    let line::Placed::At(at, next) = placed else {
+        return st;
+    };
+    base[i] = at;
+    next
+}
+
+// The piece of element x up to c, set after the line so far and written; the state after it. The job has passed the door, so its word was judged and its place is no refusal.
 fn write_piece(
     s: usize,
     c: usize,
@@ -82,22 +107,11 @@ fn write_piece(
     requires { ⌜ PieceReady (jobOf em measure (now class) (now width) (now before) (now after) (now flag) (now rclass) (now rwidth) (now kind) (now ebase) (now eruby) (now runs)) s c k x st (now base) (now ruby) ⌝ }
     ensures { λ t. ⌜ (t ≡ stateOf (jobOf em measure (now (class .entry)) (now (width .entry)) (now (before .entry)) (now (after .entry)) (now (flag .entry)) (now (rclass .entry)) (now (rwidth .entry)) (now (kind .entry)) (now (ebase .entry)) (now (eruby .entry)) (now (runs .entry))) s c) × (now (base .exit) ≡ baseWith (jobOf em measure (now (class .entry)) (now (width .entry)) (now (before .entry)) (now (after .entry)) (now (flag .entry)) (now (rclass .entry)) (now (rwidth .entry)) (now (kind .entry)) (now (ebase .entry)) (now (eruby .entry)) (now (runs .entry))) s c x (now (base .entry))) × (now (ruby .exit) ≡ rubyWith (jobOf em measure (now (class .entry)) (now (width .entry)) (now (before .entry)) (now (after .entry)) (now (flag .entry)) (now (rclass .entry)) (now (rwidth .entry)) (now (kind .entry)) (now (ebase .entry)) (now (eruby .entry)) (now (runs .entry))) s c x (now (ruby .entry))) ⌝ }
 {
+    if door::is_plain(x) {
+        return write_plain(s, x.base, st, em, class, width, before, after, base);
+    }
     let p = fill::piece_upto(x, s, c, runs);
-    let answer = door::measure_piece(
-        k as u32,
-        p,
-        em,
-        class,
-        width,
-        before,
-        after,
-        rclass,
-        rwidth,
-        runs,
-    );
-    let word::Answer::Set(w) = answer else {
-        return st;
-    };
+    let w = door::piece_word(p, em, class, width, rclass, rwidth, runs);
     let e = fill::element_of(p, w, em, class, width, before, after);
     let placed = line::place(s as u32, st, e);
     let line::Placed::At(at, next) = placed else {

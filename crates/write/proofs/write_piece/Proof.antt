@@ -1,7 +1,9 @@
--- Level one sets the piece and its place is within all positions, so neither refusal comes to pass. The word then stands at the least origin after the state, and its writers put its characters there.
+-- The piece was judged and its place is within all positions, so it is no refusal. The word stands at the least origin after the state, and its writers put its characters there; a P has one character and no ruby.
 use mathlib.Core.Path.{_≡_, sym, _∙_}
 use Prim.Native.Nat.{ℕ}
-use Rattle.word.specs.declared.Answer.the-variants.{Set}
+use mathlib.Core.Bool.{false}
+use borrow.Author.Tests.{not-true}
+use Rattle.word.specs.Given.{hasRuby}
 use Rattle.line.specs.declared.State.{State}
 use Rattle.line.specs.declared.Placed.the-variants.{At}
 use Rattle.line.specs.Setting.{origin}
@@ -11,6 +13,7 @@ use Rattle.job.specs.Line.{wordOf, seen}
 use Rattle.job.specs.Walk.{stateOf}
 use Rattle.fill.specs.Piece.{pieceUpto, same-piece}
 use Rattle.write.specs.Piece as written
+use Rattle.write.specs.Plain as plain
 use borrow.Author.Needs.{needs}
 use native.Mathlib.Omega.{arith}
 use Rattle.write.proofs.write_piece.Statement.{statement}
@@ -30,45 +33,48 @@ org a = origin (stateOf (job a) (a .args .s) (a .args .x .base)) (seen (job a) (
 abbrev after : tie.Start → State
 after a = stateOf (job a) (a .args .s) (a .args .c)
 
-the : (c : tie.After-piece-upto) → c .piece-upto .result ≡ piece (c .before .before .before .before .before .before .before .before .before .before .before .before .before .before)
-the c = let a = c .before .before .before .before .before .before .before .before .before .before .before .before .before .before in c .piece-upto .ensures ∙ same-piece (job a) (a .args .s) (a .args .c) (a .args .x)
+is-p : (c : tie.Then1) → hasRuby (c .before .before .before .before .before .before .before .before .before .before .before .before .before .before .before .args .x .form) ≡ false
+is-p c = not-true (hasRuby (c .before .before .before .before .before .before .before .before .before .before .before .before .before .before .before .args .x .form)) (sym (c .before .is-plain .ensures) ∙ c .if1 .taken)
 
-told : (c : tie.After-measure-piece) → c .measure-piece .result ≡ Set (wordOf (job (c .before .before .before .before .before .before .before .before .before .before .before .before .before .before .before)) (piece (c .before .before .before .before .before .before .before .before .before .before .before .before .before .before .before)))
-told c = c .measure-piece .ensures ∙ rw (the (c .before)) (written.is-set (c .before .before .before .before .before .before .before .before .before .before .before .before .before .before .before .pre))
+the : (c : tie.After-piece-upto) → c .piece-upto .result ≡ piece (c .before .before .before .before .before .before .before .before .before .before .before .before .before .before .before .before)
+the c = let a = c .before .before .before .before .before .before .before .before .before .before .before .before .before .before .before .before in c .piece-upto .ensures ∙ same-piece (job a) (a .args .s) (a .args .c) (a .args .x)
 
-word : (c : tie.After-known-told) → c .before .answer .given .0 .0 ≡ wordOf (job (c .before .before .before .before .before .before .before .before .before .before .before .before .before .before .before .before .before .before)) (piece (c .before .before .before .before .before .before .before .before .before .before .before .before .before .before .before .before .before .before))
-word c = let e = sym (c .before .answer .given .1) ∙ told (c .before .before .before) in cc
+word : (c : tie.After-piece-word) → c .piece-word .result ≡ wordOf (job (c .before .before .before .before .before .before .before .before .before .before .before .before .before .before .before .before .before)) (piece (c .before .before .before .before .before .before .before .before .before .before .before .before .before .before .before .before .before))
+word c = c .piece-word .ensures ∙ rw (the (c .before)) (written.is-word (c .before .before .before .before .before .before .before .before .before .before .before .before .before .before .before .before .before .pre))
 
-located : (c : tie.After-place) → c .place .result ≡ At (org (c .before .before .before .before .before .before .before .before .before .before .before .before .before .before .before .before .before .before .before .before)) (after (c .before .before .before .before .before .before .before .before .before .before .before .before .before .before .before .before .before .before .before .before))
+located : (c : tie.After-place) → c .place .result ≡ At (org (c .before .before .before .before .before .before .before .before .before .before .before .before .before .before .before .before .before .before .before)) (after (c .before .before .before .before .before .before .before .before .before .before .before .before .before .before .before .before .before .before .before))
 unfolding seen
-located c = c .place .ensures ∙ rw (c .before .element-of .ensures, word (c .before .before), the (c .before .before .before .before .before .before)) (written.is-placed (c .before .before .before .before .before .before .before .before .before .before .before .before .before .before .before .before .before .before .before .before .pre))
+located c = c .place .ensures ∙ rw (c .before .element-of .ensures, word (c .before .before), the (c .before .before .before)) (written.is-placed (c .before .before .before .before .before .before .before .before .before .before .before .before .before .before .before .before .before .before .before .pre))
 
-spot : (c : tie.After-known-told2) → (c .before .placed .given .0 .0 ≡ org (c .before .before .before .before .before .before .before .before .before .before .before .before .before .before .before .before .before .before .before .before .before .before .before)) × (c .before .placed .given .0 .1 .0 ≡ after (c .before .before .before .before .before .before .before .before .before .before .before .before .before .before .before .before .before .before .before .before .before .before .before))
+spot : (c : tie.After-known-told) → (c .before .placed .given .0 .0 ≡ org (c .before .before .before .before .before .before .before .before .before .before .before .before .before .before .before .before .before .before .before .before .before .before)) × (c .before .placed .given .0 .1 .0 ≡ after (c .before .before .before .before .before .before .before .before .before .before .before .before .before .before .before .before .before .before .before .before .before .before))
 spot c = let e = sym (c .before .placed .given .1) ∙ located (c .before .before .before) in (cc, cc)
 
-piece-upto-requires : tie.Need-piece-upto-requires
-piece-upto-requires c κs = written.asks-piece (c .before .before .before .before .before .before .before .before .before .before .before .before .before .pre)
+is-plain-requires : tie.Need-is-plain-requires
+is-plain-requires c κs = search needs
 
-cast-measure-piece : tie.Need-cast-measure-piece
-cast-measure-piece c = omega (arith, c .before .before .before .before .before .before .before .before .before .before .before .before .before .before .pre .index)
+write-plain-requires : tie.Need-write-plain-requires
+write-plain-requires c κs = plain.asks-plain (c .before .before .before .before .before .before .before .before .before .before .before .before .before .before .before .before .pre) (is-p (c .before))
 
-measure-piece-requires : tie.Need-measure-piece-requires
-measure-piece-requires c κs = rw (the c) (written.asks-word (c .before .before .before .before .before .before .before .before .before .before .before .before .before .before .pre))
-
-enum-known-answer : tie.Need-enum-known-answer
-enum-known-answer c = search needs
-
-enum-told : tie.Need-enum-told
-enum-told c = search needs
+same-length : tie.Need-same-length
+same-length c = search needs
 
 returns : tie.Need-returns
-returns c = absurd (let e = sym (told (c .before .before)) ∙ c .enum-told .given .1 in let z : _≡_ {A = ℕ} 0 1 = cc in omega arith)
+returns c =
+    let a = c .before .before .before .before .before .before .before .before .before .before .before .before .before .before .before .before .before .before .before in
+    let h = is-p (c .before .before .before .before) in
+    (c .before .before .write-plain .ensures .0 ∙ plain.gives-state (a .pre) h, c .before .before .write-plain .ensures .1 ∙ plain.gives-base (a .pre) h, plain.gives-ruby (a .pre) h)
+
+piece-upto-requires : tie.Need-piece-upto-requires
+piece-upto-requires c κs = written.asks-piece (c .before .before .before .before .before .before .before .before .before .before .before .before .before .before .before .pre)
+
+piece-word-requires : tie.Need-piece-word-requires
+piece-word-requires c κs = rw (the c) (written.asks-word (c .before .before .before .before .before .before .before .before .before .before .before .before .before .before .before .before .pre))
 
 element-of-requires : tie.Need-element-of-requires
-element-of-requires c κs = rw (the (c .before .before .before .before)) (written.asks-element (c .before .before .before .before .before .before .before .before .before .before .before .before .before .before .before .before .before .before .pre))
+element-of-requires c κs = rw (the (c .before)) (written.asks-element (c .before .before .before .before .before .before .before .before .before .before .before .before .before .before .before .before .before .pre))
 
 cast-place : tie.Need-cast-place
-cast-place c = omega (arith, written.asks-place (c .before .before .before .before .before .before .before .before .before .before .before .before .before .before .before .before .before .before .before .pre))
+cast-place c = omega (arith, written.asks-place (c .before .before .before .before .before .before .before .before .before .before .before .before .before .before .before .before .before .before .pre))
 
 place-requires : tie.Need-place-requires
 place-requires c κs = search needs
@@ -76,51 +82,51 @@ place-requires c κs = search needs
 enum-known-placed : tie.Need-enum-known-placed
 enum-known-placed c = search needs
 
-enum-told-2 : tie.Need-enum-told-2
-enum-told-2 c = search needs
+enum-told : tie.Need-enum-told
+enum-told c = search needs
 
 returns-2 : tie.Need-returns-2
-returns-2 c = absurd (let e = sym (located (c .before .before)) ∙ c .enum-told2 .given .1 in let z : _≡_ {A = ℕ} 0 1 = cc in omega arith)
+returns-2 c = absurd (let e = sym (located (c .before .before)) ∙ c .enum-told .given .1 in let z : _≡_ {A = ℕ} 0 1 = cc in omega arith)
 
 write-base-requires : tie.Need-write-base-requires
-write-base-requires c κs = rw (the (c .before .before .before .before .before .before .before .before .before .before), word (c .before .before .before .before .before .before), spot (c .before) .0) (written.asks-base (c .before .before .before .before .before .before .before .before .before .before .before .before .before .before .before .before .before .before .before .before .before .before .before .before .pre))
+write-base-requires c κs = rw (the (c .before .before .before .before .before .before .before), word (c .before .before .before .before .before .before), spot (c .before) .0) (written.asks-base (c .before .before .before .before .before .before .before .before .before .before .before .before .before .before .before .before .before .before .before .before .before .before .before .pre))
 
 write-ruby-requires : tie.Need-write-ruby-requires
 write-ruby-requires c κs =
-    rw (the (c .before .before .before .before .before .before .before .before .before .before .before .before .before .before), word (c .before .before .before .before .before .before .before .before .before .before))
-    (rw (← spot (c .before .before .before .before .before) .0) at (written.asks-ruby (c .before .before .before .before .before .before .before .before .before .before .before .before .before .before .before .before .before .before .before .before .before .before .before .before .before .before .before .before .pre)))
-
-same-length : tie.Need-same-length
-same-length c = search needs
+    rw (the (c .before .before .before .before .before .before .before .before .before .before .before), word (c .before .before .before .before .before .before .before .before .before .before))
+    (rw (← spot (c .before .before .before .before .before) .0) at (written.asks-ruby (c .before .before .before .before .before .before .before .before .before .before .before .before .before .before .before .before .before .before .before .before .before .before .before .before .before .before .before .pre)))
 
 same-length-2 : tie.Need-same-length-2
 same-length-2 c = search needs
 
+same-length-3 : tie.Need-same-length-3
+same-length-3 c = search needs
+
 returns-3 : tie.Need-returns-3
 returns-3 c = (
   spot (c .before .before .before .before .before .before .before .before) .1,
-  c .before .before .before .before .before .before .write-base .ensures ∙ rw (the (c .before .before .before .before .before .before .before .before .before .before .before .before .before .before .before .before .before), word (c .before .before .before .before .before .before .before .before .before .before .before .before .before), spot (c .before .before .before .before .before .before .before .before) .0) (written.gives-base (c .before .before .before .before .before .before .before .before .before .before .before .before .before .before .before .before .before .before .before .before .before .before .before .before .before .before .before .before .before .before .before .pre)),
-  c .before .before .write-ruby .ensures ∙ rw (the (c .before .before .before .before .before .before .before .before .before .before .before .before .before .before .before .before .before), word (c .before .before .before .before .before .before .before .before .before .before .before .before .before), spot (c .before .before .before .before .before .before .before .before) .0) (written.gives-ruby (c .before .before .before .before .before .before .before .before .before .before .before .before .before .before .before .before .before .before .before .before .before .before .before .before .before .before .before .before .before .before .before .pre)),
+  c .before .before .before .before .before .before .write-base .ensures ∙ rw (the (c .before .before .before .before .before .before .before .before .before .before .before .before .before .before), word (c .before .before .before .before .before .before .before .before .before .before .before .before .before), spot (c .before .before .before .before .before .before .before .before) .0) (written.gives-base (c .before .before .before .before .before .before .before .before .before .before .before .before .before .before .before .before .before .before .before .before .before .before .before .before .before .before .before .before .before .before .pre)),
+  c .before .before .write-ruby .ensures ∙ rw (the (c .before .before .before .before .before .before .before .before .before .before .before .before .before .before), word (c .before .before .before .before .before .before .before .before .before .before .before .before .before), spot (c .before .before .before .before .before .before .before .before) .0) (written.gives-ruby (c .before .before .before .before .before .before .before .before .before .before .before .before .before .before .before .before .before .before .before .before .before .before .before .before .before .before .before .before .before .before .pre)),
 )
 
 pub write-piece-spec : {M : Type 1} → statement M
 write-piece-spec =
     tie.close
     (tie.spec
-    piece-upto-requires
-    cast-measure-piece
-    measure-piece-requires
-    enum-known-answer
-    enum-told
+    is-plain-requires
+    write-plain-requires
+    same-length
     returns
+    piece-upto-requires
+    piece-word-requires
     element-of-requires
     cast-place
     place-requires
     enum-known-placed
-    enum-told-2
+    enum-told
     returns-2
     write-base-requires
     write-ruby-requires
-    same-length
     same-length-2
+    same-length-3
     returns-3)
