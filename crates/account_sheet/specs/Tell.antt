@@ -24,6 +24,7 @@ use Rattle.job.specs.declared.Answer.the-variants.{Set, Refused}
 use Rattle.job.specs.Laws.{head-none}
 use Rattle.job.specs.Line.{ends}
 use Rattle.job.specs.Promise.{Filled}
+use Rattle.job.specs.Filled.{chain-few}
 use Rattle.job.specs.Refusals.{linesFaults, faults, fault}
 use Rattle.job.specs.Declined as declined
 use Rattle.job.specs.Order.{lines-turn}
@@ -170,6 +171,12 @@ module _ (job : Job) (rows told wide : List ℕ) {o : Telling} (e : o ≡ tellin
   pub account-ready : {n : ℕ} → o .answer ≡ Set n → {out : List ℕ} → longest ≤ length out →
       ListsReady n (elementCount job) (readingsOf (job .kind) (elementCount job)) (o .rows) (o .told) (o .extents) out
   account-ready is h = rw e (set-ready job rows told wide (as-told is) h)
+
+  -- there are at most as many lines as base characters
+  pub few-lines : {n : ℕ} → o .answer ≡ Set n → n ≤ 1024
+  few-lines is =
+      let set = as-told is in
+      omega (arith, set-given job rows told wide set .1, chain-few job 0 (baseCount job) (ends job) (fill job rows told wide set), door job rows told wide set .fewBase)
 
   pub few-elements : {n : ℕ} → o .answer ≡ Set n → elementCount job ≤ 1024
   few-elements is = door job rows told wide (as-told is) .fewElements

@@ -1,4 +1,4 @@
--- An answer as a caller in C gets it, and what `bv_set_job` leaves.
+-- An answer as a caller in C gets it, and what `bv_set_job` and `bv_account_job` leave.
 use mathlib.Core.List.{List}
 use mathlib.Core.Path.{_≡_, ap, sym, _∙_}
 use Prim.Native.Nat.{ℕ, _≤_}
@@ -12,6 +12,7 @@ use Rattle.job.specs.Outcome.{Outcome, outcome}
 use Rattle.job.specs.Filled.{chain-few}
 use Rattle.job.specs.Demands.{lines-filled}
 use Rattle.result.specs.Accepted.{accepted, many, door}
+use Rattle.job_account.specs.Outcome.{Telling, telling}
 use Rattle.exports.specs.declared.Answer as exported
 
 -- number 0 and the number of lines, or a refusal's "number and a place"
@@ -41,3 +42,20 @@ pub few-lines : (job : Job) (base ruby lines : List ℕ) (o : Outcome) → o ≡
 few-lines job base ruby lines o e is =
     let set = ap (λ (x : Outcome). x .answer) (sym e) ∙ is in
     omega (arith, many job base ruby lines set, chain-few job 0 (baseCount job) (ends job) (lines-filled job base ruby lines (accepted job base ruby lines set)), door job base ruby lines set .fewBase)
+
+-- The same of the account: the answer is told, and the lists are the account's.
+pub record Accounted (job : Job) (rows counts wide : List ℕ) (r : exported.Answer) (newRows newCounts newWide : List ℕ) : Type 0 where
+  pub answer : r ≡ told (telling job rows counts wide .answer)
+  pub newRowsAre : newRows ≡ telling job rows counts wide .rows
+  pub newCountsAre : newCounts ≡ telling job rows counts wide .told
+  pub newWideAre : newWide ≡ telling job rows counts wide .extents
+
+module _ {job : Job} {rows counts wide : List ℕ} {o : Telling} (e : o ≡ telling job rows counts wide) where
+  pub accounted : {r : exported.Answer} → r ≡ told (o .answer) → Accounted job rows counts wide r (o .rows) (o .told) (o .extents)
+  accounted h =
+      record {
+        answer = h ∙ ap (λ (x : Telling). told (x .answer)) e;
+        newRowsAre = ap (λ (x : Telling). x .rows) e;
+        newCountsAre = ap (λ (x : Telling). x .told) e;
+        newWideAre = ap (λ (x : Telling). x .extents) e;
+      }

@@ -1,9 +1,10 @@
-// The library for callers in C and C++ (include/bolyverit.h): the entry point over lists and the setting of a sheet, as functions over pointers and lengths. Nothing is decided here: an
-// answer becomes a struct of two numbers, and the tables of a sheet are lent to `setter`. It relies on `engine`, `setter` and `refusal`.
+// The library for callers in C and C++ (include/bolyverit.h): the setting and the account, each over lists and of a sheet, as functions over pointers and lengths. Nothing is decided here: an
+// answer becomes a struct of two numbers, and the tables of a sheet are lent to `setter` and `account_sheet`. It relies on these two, on `engine`, `job_account` and `refusal`.
 ghost use Rattle.text.specs.Print.{Wrote};
 ghost use Rattle.door.specs.Job.{jobOf};
 ghost use Rattle.setter.specs.Answer.{answerText};
-ghost use Rattle.exports.specs.Told.{Left};
+ghost use Rattle.account_sheet.specs.Answer.{accountOfSheet};
+ghost use Rattle.exports.specs.Told.{Left, Accounted};
 
 // Number 0 and the number of lines, or a refusal's number and its place.
 #[repr(C)]
@@ -86,6 +87,84 @@ pub extern "C" fn bv_set_sheet(sheet: &[u8], out: &mut [u8; 131072]) -> usize
         &mut bases,
         &mut rubies,
         &mut lines,
+        out,
+    )
+}
+
+// The account of a job in lists: a row of six numbers for each piece, and for each line the count of pieces up to its end and the extent.
+#[no_mangle]
+pub extern "C" fn bv_account_job(
+    em: u32,
+    measure: u32,
+    class: &[u32],
+    width: &[u32],
+    before: &[u32],
+    after: &[u32],
+    flag: &[u32],
+    rclass: &[u32],
+    rwidth: &[u32],
+    kind: &[u32],
+    ebase: &[u32],
+    eruby: &[u32],
+    runs: &[u32],
+    rows: &mut [u32],
+    told: &mut [u32],
+    extents: &mut [u32],
+) -> Answer
+    ensures { λ r. ⌜ Accounted (jobOf em measure (now (class .entry)) (now (width .entry)) (now (before .entry)) (now (after .entry)) (now (flag .entry)) (now (rclass .entry)) (now (rwidth .entry)) (now (kind .entry)) (now (ebase .entry)) (now (eruby .entry)) (now (runs .entry))) (now (rows .entry)) (now (told .entry)) (now (extents .entry)) r (now (rows .exit)) (now (told .exit)) (now (extents .exit)) ⌝ }
+{
+    match job_account::account_job(
+        em,
+        measure,
+        class,
+        width,
+        before,
+        after,
+        flag,
+        rclass,
+        rwidth,
+        kind,
+        ebase,
+        eruby,
+        runs,
+        rows,
+        told,
+        extents,
+    ) {
+        job::Answer::Set(n) => Answer {
+            number: 0,
+            place: n as u32,
+        },
+        job::Answer::Refused(why) => Answer {
+            number: refusal::number(why),
+            place: refusal::place(why),
+        },
+    }
+}
+
+// The account of a sheet; how many bytes at the front of `out` its text has.
+#[no_mangle]
+pub extern "C" fn bv_account_sheet(sheet: &[u8], out: &mut [u8; 131072]) -> usize
+    ensures { λ r. ⌜ Wrote (now (out .entry)) 0 (accountOfSheet (now (sheet .entry))) r (now (out .exit)) ⌝ }
+{
+    let mut set = [0; 2];
+    let mut base = [0; 5120];
+    let mut ruby = [0; 4096];
+    let mut elem = [0; 3072];
+    let mut runs = [0; 32768];
+    let mut rows = [0; 6144];
+    let mut told = [0; 1024];
+    let mut extents = [0; 1024];
+    account_sheet::account_sheet(
+        sheet,
+        &mut set,
+        &mut base,
+        &mut ruby,
+        &mut elem,
+        &mut runs,
+        &mut rows,
+        &mut told,
+        &mut extents,
         out,
     )
 }
