@@ -1,6 +1,6 @@
 -- Laws of `Lists`: of sums, of searches and tests, of counts, and of a list that is written from the front.
 use mathlib.Core.Path.{_≡_, refl, ap, ap₂, _∙_, sym, subst}
-use mathlib.Core.Bool.{Bool, true, false, _&&_, _||_, false≢true, true≢false}
+use mathlib.Core.Bool.{Bool, true, false, _||_, true≢false}
 use mathlib.Core.List.{List, [], _∷_, _++_, map, append-assoc}
 use Prim.Native.Nat.{ℕ, zero, suc, _+_, _-_, _≤_, _<_}
 use native.Mathlib.Numerals.{add-one}
@@ -10,7 +10,7 @@ use native.Mathlib.Omega.{arith}
 use borrow.Author.Tests.{eqb-true, not-false}
 use lib.Dec.{eqb}
 use lib.ListN.{length, take, drop, getD, set, drop-of-length-le, take-append-drop, length-append, length-take, length-drop}
-use lib.Seq.{drop-cons, take-suc-set, append-snoc, take-at, length-take-le}
+use lib.Seq.{sets, drop-cons, take-suc-set, append-snoc, take-at, length-take-le}
 use Rattle.basics.specs.Lists.{sum, count, any, other, All}
 
 -- Sums.
@@ -107,10 +107,6 @@ pub or-none : (a b : Bool) → (a || b) ≡ false → (a ≡ false) × (b ≡ fa
 or-none true b e = absurd (true≢false e)
 or-none false b e = (refl, e)
 
-pub and-none : (a b : Bool) → (a && b) ≡ false → a ≡ true → b ≡ false
-and-none true b e h = e
-and-none false b e h = absurd (false≢true h)
-
 pub any-none : {A : Type 0} (p : A → Bool) (xs : List A) → any p xs ≡ false → All (λ x. p x ≡ false) xs
 any-none p [] e = tt
 any-none p (x ∷ xs) e = let q = or-none (p x) (any p xs) e in (q .0, any-none p xs (q .1))
@@ -142,3 +138,11 @@ all-least v (x ∷ xs) h e = omega (arith, eqb-true v x (not-false (eqb v x) (or
 -- Determinacy: any two results that meet a contract of the form r ≡ d are equal. Every public contract of the house has that form unless docs/CONTRACTS.md says otherwise.
 pub determined : {A : Type 0} (d p q : A) → p ≡ d → q ≡ d → p ≡ q
 determined d p q e f = e ∙ sym f
+
+-- one part written after the other
+pub sets-append : (was xs ys : List ℕ) (a : ℕ) → sets was a (xs ++ ys) ≡ sets (sets was a xs) (a + length xs) ys
+sets-append was [] ys a = ap (λ (k : ℕ). sets was k ys) (sym (add-zero a))
+sets-append was (x ∷ xs) ys a = sets-append (set was a x) xs ys (suc a) ∙ ap (λ (k : ℕ). sets (sets (set was a x) (suc a) xs) k ys) (step a (length xs))
+  where
+    step : (a n : ℕ) → suc a + n ≡ a + suc n
+    step a n = omega arith

@@ -1,14 +1,8 @@
 // The ground floor: the words about lists and truth values that the definitions above share (specs/Lists.antt), their laws
 // (specs/Laws.antt), and the few loops over lists of numbers that know nothing of typesetting. It relies on nothing.
 ghost use mathlib.Core.Path.{_≡_};
-ghost use Prim.Native.Nat.{_<_, _^_, min, max};
+ghost use Prim.Native.Nat.{_<_, _^_, max};
 ghost use Rattle.basics.specs.Lists.{sum, any, other};
-
-pub fn smaller(a: u32, b: u32) -> u32
-    ensures { λ r. ⌜ r ≡ min a b ⌝ }
-{
-    if a <= b { a } else { b }
-}
 
 pub fn larger(a: u32, b: u32) -> u32
     ensures { λ r. ⌜ r ≡ max a b ⌝ }

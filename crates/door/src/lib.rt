@@ -357,7 +357,7 @@ fn count_jukugo(base: u32, b: usize, r: usize, u: usize, runs: &[u32]) -> Counte
 }
 
 // Number 5: an element by its kind and counts, those before it having taken b base characters, r ruby characters and u runs. Counts that its kind does not show are not read.
-pub fn count_element(
+fn count_element(
     kind: u32,
     base: u32,
     ruby: u32,
@@ -627,7 +627,7 @@ pub fn base_count(
     fewer(class.len(), fewer(width.len(), blanks))
 }
 
-pub fn ruby_count(rclass: &[u32], rwidth: &[u32]) -> usize
+fn ruby_count(rclass: &[u32], rwidth: &[u32]) -> usize
     ensures { λ n. ⌜ n ≡ min (length (now (rclass .entry))) (length (now (rwidth .entry))) ⌝ }
 {
     fewer(rclass.len(), rwidth.len())

@@ -2,10 +2,11 @@
 use mathlib.Core.List.{List, [], _∷_, _++_}
 use mathlib.Core.Path.{_≡_, refl, _∙_, ap, ap₂, sym}
 use Prim.Native.Nat.{ℕ, suc, _+_, _-_, _*_, _^_, _≤_, _<_}
-use native.Mathlib.Nat.{add-zero, sub-zero}
+use native.Mathlib.Nat.{sub-zero}
 use native.Mathlib.Omega.{arith}
-use lib.ListN.{length, set}
+use lib.ListN.{length}
 use lib.Seq.{sets, length-sets}
+use Rattle.basics.specs.Laws.{sets-append}
 use Rattle.refusal.specs.declared.Refusal.the-variants.{Form}
 use Rattle.rows.specs.declared.Part.{Part}
 use Rattle.rows.specs.declared.Part.the-variants.{Read as PartRead}
@@ -18,14 +19,6 @@ use Rattle.elements.specs.Element.{element, rowOf}
 use Rattle.elements.specs.Elements.{Listed, onLine, lines, elements}
 use Rattle.elements.specs.Ready.{RunsReady, PutReady, LinesReady, ElementsReady}
 use Rattle.elements.specs.Runs.{element-runs}
-
--- Runs are stored one line after the other.
-sets-append : (was xs ys : List ℕ) (a : ℕ) → sets was a (xs ++ ys) ≡ sets (sets was a xs) (a + length xs) ys
-sets-append was [] ys a = ap (λ (k : ℕ). sets was k ys) (sym (add-zero a))
-sets-append was (x ∷ xs) ys a = sets-append (set was a x) xs ys (suc a) ∙ ap (λ (k : ℕ). sets (sets (set was a x) (suc a) xs) k ys) (step a (length xs))
-  where
-    step : (a n : ℕ) → suc a + n ≡ a + suc n
-    step a n = omega arith
 
 -- Of n lines i are read.
 

@@ -8,8 +8,7 @@ use Prim.Native.Nat.{ℕ, zero, suc, _+_, _-_, _≤_, _<_}
 use native.Mathlib.Omega.{arith}
 use native.Mathlib.Decide.{decLt}
 use native.Mathlib.Nat.{le-antisymm}
-use borrow.Author.Tests.{leb-true, le-leb, eqb-true, eqb-false, eq-eqb}
-use lib.Dec.{eqb}
+use borrow.Author.Tests.{leb-true, le-leb, eqb-true, eqb-false}
 use lib.ListN.{length}
 use Rattle.basics.specs.Lists.{count, keep, lastOr}
 use Rattle.line.specs.Theorems.{exact, settled, unique}
@@ -174,14 +173,6 @@ module _ (job : Job) (passed : Passed job) where
       go : ((furthest job s ≡ 0) × ((e : ℕ) → Break job s e → CanSet job s e → ⊥)) ⊎ Ends job s (furthest job s) → (e : ℕ) → Break job s e → CanSet job s e → ⊥
       go (inl q) = q .1
       go (inr l) = λ e b c. omega (arith, l .at .ahead, eqb-true (furthest job s) 0 h)
-
-  pub break-none : (s : ℕ) → ((e : ℕ) → Break job s e → CanSet job s e → ⊥) → noBreak job s ≡ true
-  unfolding noBreak
-  break-none s f = go (tried s)
-    where
-      go : ((furthest job s ≡ 0) × ((e : ℕ) → Break job s e → CanSet job s e → ⊥)) ⊎ Ends job s (furthest job s) → eqb (furthest job s) 0 ≡ true
-      go (inl q) = eq-eqb (furthest job s) 0 (q .0)
-      go (inr l) = absurd (f (furthest job s) (l .at) (l .set))
 
   pub line-ends : (s : ℕ) → noBreak job s ≡ false → Ends job s (furthest job s)
   unfolding noBreak

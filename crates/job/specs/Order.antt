@@ -60,10 +60,6 @@ irreflexive a b (inr h) (inr k) = go (h .1) (k .1)
 abbrev Upto : Refusal → Refusal → Type 0
 Upto a b = (a ≡ b) ⊎ Before a b
 
-upto-before : (a b c : Refusal) → Upto a b → Before b c → Before a c
-upto-before a b c (inl e) k = subst (λ x. Before x c) (sym e) k
-upto-before a b c (inr h) k = trans a b c h k
-
 before-upto : (a b c : Refusal) → Before a b → Upto b c → Before a c
 before-upto a b c h (inl e) = subst (Before a) e h
 before-upto a b c h (inr k) = trans a b c h k

@@ -186,24 +186,6 @@ module _ (job : Job) (s d e : ℕ) (p : Piece) (more : pieces job s e ≡ pieces
   unfolding rubyIn
   ruby-more = ap₂ (along (rubyAt job)) more (origins-more job s d e p more) ∙ along-more (rubyAt job) (pieces job s d) (origins job s d) p _ (length-origins job s d)
 
--- a line with a single piece
-module _ (job : Job) (s e : ℕ) (p : Piece) (one : pieces job s e ≡ p ∷ []) where
-  pub state-one : stateOf job s e ≡ next start (seen job p)
-  unfolding run lineOf
-  state-one = rw one
-
-  pub origins-one : origins job s e ≡ origin start (seen job p) ∷ []
-  unfolding origins lineOf settleFrom
-  origins-one = rw one
-
-  pub base-one : baseIn job s e ≡ baseAt job p (origin start (seen job p))
-  unfolding baseIn
-  base-one = ap₂ (along (baseAt job)) one origins-one ∙ append-nil (baseAt job p (origin start (seen job p)))
-
-  pub ruby-one : rubyIn job s e ≡ rubyAt job p (origin start (seen job p))
-  unfolding rubyIn
-  ruby-one = ap₂ (along (rubyAt job)) one origins-one ∙ append-nil (rubyAt job p (origin start (seen job p)))
-
 -- a line that has not begun
 module _ (job : Job) (s e : ℕ) (none : pieces job s e ≡ []) where
   pub state-none : stateOf job s e ≡ start

@@ -23,7 +23,6 @@ use Rattle.word.specs.Part as parts
 use Rattle.door.specs.declared.Piece.{Piece}
 use Rattle.door.specs.Job.{Job, baseCount, rubyCount, elementCount, entries, takesRuns, element, elementsFrom, elements, given}
 use Rattle.door.specs.Entries.{length-entries, sum-most, sum-first, some-within}
-use Rattle.door.specs.Elements.{Reads}
 use Rattle.door.specs.Passed.{GoodElement, Passed}
 use Rattle.job.specs.Line.{part, inLine, pieces, wordOf}
 use Rattle.job.specs.Laws.{all-each, all-split, both, entries-cut, entries-add}
@@ -217,28 +216,3 @@ module _ (job : Job) (passed : Passed job) where
 
   pub held : (x : Piece) → IsElement job x → Held job x
   held x at = all-split (Held job) (at .front) (x ∷ at .rest) (subst (All (Held job)) (at .split) all-held) .1 .0
-
-  -- what a piece reads of the lists, with what level one asks of it
-  reads-of : (p : Piece) → GoodPiece job p → p .run + takesRuns (p .form) (p .bases) ≤ length (job .run) → Reads job p
-  reads-of p g h =
-      let b = base-most job in
-      let r = ruby-most job in
-      record {
-        class = omega (arith, g .inside);
-        width = omega (arith, g .inside);
-        before = omega (arith, g .inside);
-        after = omega (arith, g .inside);
-        rubyClass = omega (arith, g .reads);
-        rubyWidth = omega (arith, g .reads);
-        run = h;
-        sized = g .sized;
-      }
-
-  pub whole-reads : (x : Piece) → IsElement job x → Reads job x
-  whole-reads x at = reads-of x (whole-piece job passed x (at .good)) (held x at .held)
-
-  pub part-reads : (x : Piece) → IsElement job x → isJ (x .form) ≡ true → (i n : ℕ) → 0 < n → i + n ≤ x .bases → Reads job (part job x i n)
-  unfolding part
-  part-reads x at j i n some fits =
-      reads-of (part job x i n) (part-piece job passed x (at .good) j i n some fits)
-      (omega (arith, takes-most (parts.formOfPart n) n, runs-within job x (at .good) j))

@@ -6,6 +6,7 @@ use native.Mathlib.Nat.{add-zero}
 use native.Mathlib.Omega.{arith}
 use lib.ListN.{length, length-map}
 use lib.Seq.{sets, length-sets}
+use Rattle.basics.specs.Laws.{sets-append}
 use Rattle.line.specs.declared.State.{State}
 use Rattle.line.specs.Setting.{start}
 use Rattle.line.specs.Setting as setting
@@ -20,7 +21,6 @@ use Rattle.account.specs.declared.Before.{Before}
 use Rattle.account.specs.Claims.{other}
 use Rattle.account.specs.Step.{nothing, standing}
 use Rattle.write.specs.declared.Cursor.{Cursor}
-use Rattle.write.specs.Lists.{sets-append}
 use Rattle.write.specs.Walks.{elementOf, Amid, Stands}
 use Rattle.write.specs.Walks as walks
 use Rattle.job_account.specs.declared.Told.{Told}

@@ -6,6 +6,7 @@ use native.Mathlib.Numerals.{add-one}
 use native.Mathlib.Omega.{arith}
 use lib.ListN.{length, drop, getD, set, length-set, drop-of-length-le}
 use lib.Seq.{sets, length-sets}
+use Rattle.basics.specs.Laws.{sets-append}
 use Rattle.door.specs.Job.{Job, baseCount}
 use Rattle.door.specs.Passed.{Passed}
 use Rattle.job.specs.Line.{lineOf, extentOf, ends, byLine}
@@ -13,7 +14,6 @@ use Rattle.job.specs.Promise.{Chain}
 use Rattle.fill.specs.Lines.{Full}
 use Rattle.write.specs.declared.Cursor.{Cursor}
 use Rattle.write.specs.Ends as all
-use Rattle.write.specs.Lists.{sets-append}
 use Rattle.write.specs.Walks.{Stands, walkStart, stands-first}
 use Rattle.job_account.specs.declared.Next.{Next}
 use Rattle.job_account.specs.Rows.{rowsIn, length-rows}

@@ -1,15 +1,13 @@
 -- "Any two results meeting one contract are shown equal": a contract of this crate says what was written from the start on, and that determines both the answer and the
 -- lent list.
-use mathlib.Core.Path.{_≡_, sym, _∙_}
+use mathlib.Core.Path.{_≡_}
 use mathlib.Core.List.{List}
 use Prim.Native.Nat.{ℕ}
 use Rattle.text.specs.Print.{Wrote}
+use Rattle.text.specs.Written.{wrote-unique}
 use Rattle.refusal.specs.declared.Refusal.{Refusal}
 use Rattle.door.specs.Job.{Job}
 use Rattle.result.specs.Text.{resultText, refusalText}
-
-pub wrote-unique : {t text : List ℕ} {from p q : ℕ} {u v : List ℕ} → Wrote t from text p u → Wrote t from text q v → (p ≡ q) × (u ≡ v)
-wrote-unique x y = (x .next ∙ sym (y .next), x .holds ∙ sym (y .holds))
 
 -- `write_result`
 pub result-unique : (job : Job) (base ruby out : List ℕ) (p q : ℕ) (u v : List ℕ) → Wrote out 0 (resultText job base ruby) p u → Wrote out 0 (resultText job base ruby) q v → (p ≡ q) × (u ≡ v)

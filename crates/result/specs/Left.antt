@@ -6,8 +6,9 @@ use native.Mathlib.Nat.{add-zero}
 use native.Mathlib.Omega.{arith}
 use lib.ListN.{length, length-append}
 use lib.Seq.{sets}
+use Rattle.basics.specs.Laws.{sets-append}
 use Rattle.text.specs.Print.{Wrote}
-use Rattle.text.specs.Written.{sets-append, same-long}
+use Rattle.text.specs.Written.{same-long}
 
 pub record Left (t : List ℕ) (from : ℕ) (all u : List ℕ) (at : ℕ) (todo : List ℕ) : Type 0 where
   pub room : from + length all ≤ length t
@@ -29,7 +30,7 @@ module _ {t : List ℕ} {from : ℕ} {all u : List ℕ} {at : ℕ} (a b : List �
         room = left .room;
         long = same-long w ∙ left .long;
         next = omega (arith, w .next, left .next, length-append a b);
-        holds = ap₂ (λ l k. sets l k b) (w .holds) (w .next) ∙ sym (sets-append a b u at) ∙ left .holds;
+        holds = ap₂ (λ l k. sets l k b) (w .holds) (w .next) ∙ sym (sets-append u a b at) ∙ left .holds;
       }
 
 -- nothing is left

@@ -89,7 +89,3 @@ module _ (job : Job) (base ruby : List ℕ) where
 pub refusal-short : (r : Refusal) → length (refusalText r) ≤ 30
 unfolding refusalText
 refusal-short r = omega (arith, length-two (bytes "refused") (numberOf r) (placeOf r), decimal-le (numberOf r), decimal-le (placeOf r))
-
--- so the room for any result is room for any refusal
-pub refusal-fits : (r : Refusal) {room : ℕ} → longest ≤ room → length (refusalText r) ≤ room
-refusal-fits r h = omega (arith, refusal-short r)

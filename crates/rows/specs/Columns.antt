@@ -6,7 +6,7 @@ use Prim.Native.Nat.{ℕ, zero, suc, _+_, _*_, _≤_, _<_}
 use native.Mathlib.Decide.{decLt}
 use native.Mathlib.Nat.{suc-mul, zero-add, mul-le-mul-right, le-of-suc-le-suc}
 use native.Mathlib.Omega.{arith}
-use lib.ListN.{length, getD, set, take, drop, length-set, length-map}
+use lib.ListN.{length, getD, set, take, drop, length-set}
 use lib.Seq.{drop-cons, getD-set-same, getD-set-other}
 use Rattle.basics.specs.Lists.{All}
 use Rattle.rows.specs.Table.{strided, laid, column, length-strided, length-laid}
@@ -86,7 +86,3 @@ pub column-part : (k step j n : ℕ) (rows : List (List ℕ)) (t : List ℕ) →
 column-part k step j n rows t h e l w s a m f g =
     ap₂ (λ m a. take m (drop a (laid t 0 step rows))) (g ∙ sym e) (f ∙ sym (zero-add (j * step)))
     ∙ column-from k step j h rows t 0 w (omega arith) s
-
--- as many as there are lines
-pub column-length : (j : ℕ) (rows : List (List ℕ)) → length (column j rows) ≡ length rows
-column-length j rows = length-map rows (λ (r : List ℕ). getD r j 0)

@@ -1,14 +1,14 @@
 -- One step of each definition of Print, and writes that follow each other.
 use Prim.Native.Nat.{ℕ, zero, suc, _+_, _-_, _/_, _%_, _^_, _<_, _≤_}
 use mathlib.Core.Path.{_≡_, refl, _∙_, sym, ap}
-use mathlib.Core.List.{List, [], _∷_, _++_}
+use mathlib.Core.List.{List, _++_}
 use native.Mathlib.Omega.{arith}
-use native.Mathlib.Nat.{add-zero}
 use borrow.Author.Tests.{le-leb, lt-leb}
 use mathlib.Core.Bool.{Bool, true, false, cond}
 use lib.Dec.{leb}
 use lib.ListN.{length, set, length-append}
 use lib.Seq.{sets, length-sets}
+use Rattle.basics.specs.Laws.{sets-append}
 use Rattle.text.specs.Print.{widthFrom, width, spell, decimal, Wrote}
 
 module _ (left k n p : ℕ) (hl : 0 < left) (hp : p ≡ 10 ^ k) where
@@ -54,23 +54,21 @@ spell-end k n t at h =
     let e : k ≡ 0 = omega arith in
     rw e
 
-pub sets-append : (a b t : List ℕ) (i : ℕ) → sets t i (a ++ b) ≡ sets (sets t i a) (i + length a) b
-sets-append [] b t i = rw add-zero
-sets-append (x ∷ a) b t i =
-    let e : i + suc (length a) ≡ suc i + length a = omega arith in
-    sets-append a b (set t i x) (suc i) ∙ rw e
-
 -- a write and the next, from where it ended
 pub then : {t u v : List ℕ} {from r q : ℕ} {a b : List ℕ} → Wrote t from a r u → Wrote u r b q v → Wrote t from (a ++ b) q v
 then {t} {u} {v} {from} {r} {q} {a} {b} x y =
     let l = length-append a b in
     record {
       next = omega (arith, x .next, y .next, l);
-      holds = y .holds ∙ (rw (x .holds, x .next) (sym (sets-append a b t from)));
+      holds = y .holds ∙ (rw (x .holds, x .next) (sym (sets-append t a b from)));
     }
 
 pub same-long : {t u : List ℕ} {from r : ℕ} {a : List ℕ} → Wrote t from a r u → length u ≡ length t
 same-long {t} {u} {from} {r} {a} x = ap length (x .holds) ∙ length-sets t from a
+
+-- "Any two results meeting one contract are shown equal": what is said to be written determines both the place past it and the lent list
+pub wrote-unique : {t text : List ℕ} {from p q : ℕ} {u v : List ℕ} → Wrote t from text p u → Wrote t from text q v → (p ≡ q) × (u ≡ v)
+wrote-unique x y = (x .next ∙ sym (y .next), x .holds ∙ sym (y .holds))
 
 widthFrom-le : (fuel k n : ℕ) → widthFrom fuel k n ≤ k + fuel
 unfolding widthFrom

@@ -1,6 +1,6 @@
 // Text and numbers: a sheet's bytes to numbers and fixed words, and numbers back to bytes (document 01, "The job sheet"). What stands here knows nothing
 // of sections: where a number or a word ends, and which byte ends it, is the caller's to say. The reader holds the sheet's bytes and its own place in them. It
-// relies on nothing.
+// relies on `basics` alone, for a law.
 pub mod print;
 
 ghost use mathlib.Core.Path.{_≡_};

@@ -7,6 +7,7 @@ use native.Mathlib.Omega.{arith}
 use lib.ListN.{length, length-append, length-map}
 use lib.Seq.{sets, length-sets}
 use Rattle.basics.specs.Lists.{sum}
+use Rattle.basics.specs.Laws.{sets-append}
 use Rattle.line.specs.declared.State.{State}
 use Rattle.line.specs.Setting.{start, origin}
 use Rattle.door.specs.declared.Piece.{Piece}
@@ -19,7 +20,6 @@ use Rattle.job.specs.Words.{GoodPiece}
 use Rattle.job.specs.Placed.{baseAlone, rubyAlone, base-counted, ruby-counted}
 use Rattle.fill.specs.Piece.{Into, pieceUpto, more, good}
 use Rattle.write.specs.declared.Cursor.{Cursor}
-use Rattle.write.specs.Lists.{sets-append}
 use Rattle.write.specs.Piece as piece
 use Rattle.write.specs.Piece.{PieceReady, baseWith, rubyWith}
 use Rattle.write.specs.Walks.{elementOf, Amid, Stands}

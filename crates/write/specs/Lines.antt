@@ -6,6 +6,7 @@ use native.Mathlib.Numerals.{add-one}
 use native.Mathlib.Omega.{arith}
 use lib.ListN.{length, take, drop, getD, set, length-set, drop-of-length-le}
 use lib.Seq.{sets, length-sets}
+use Rattle.basics.specs.Laws.{sets-append}
 use Rattle.door.specs.Job.{Job, baseCount, rubyCount}
 use Rattle.door.specs.Passed.{Passed}
 use Rattle.job.specs.Line.{ends, baseIn, rubyIn, byLine}
@@ -16,7 +17,7 @@ use Rattle.job.specs.Placed.{base-long, ruby-long}
 use Rattle.fill.specs.Lines.{Full}
 use Rattle.write.specs.declared.Cursor.{Cursor}
 use Rattle.write.specs.Ends as all
-use Rattle.write.specs.Lists.{sets-append, sets-over}
+use Rattle.write.specs.Lists.{sets-over}
 use Rattle.write.specs.Walks.{Stands, walkStart, stands-first}
 use Rattle.write.specs.Line.{LineReady, LineWritten, rubiesUpto}
 
