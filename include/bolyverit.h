@@ -18,8 +18,10 @@
  *
  * What is proved, for every call that keeps the above. Of bv_set_job: the answer and the three result lists are those of the
  * definition `outcome` (crates/job/specs/Outcome.antt), refusals included. Of bv_set_sheet: the bytes written are `answerText` of
- * the sheet's bytes (crates/setter/specs/Answer.antt). Of both: the call ends, reads and writes nothing outside its lists, and no
- * sum in it wraps.
+ * the sheet's bytes (crates/setter/specs/Answer.antt). Of bv_account_job: the answer and the three lists are those of `telling`
+ * (crates/job_account/specs/Outcome.antt), whose reasons are tight (crates/job_account/specs/Theorems.antt). Of bv_account_sheet:
+ * the bytes written are `accountOfSheet` of the sheet's bytes (crates/account_sheet/specs/Answer.antt). Of all: the call ends,
+ * reads and writes nothing outside its lists, and no sum in it wraps.
  */
 #ifndef BOLYVERIT_H
 #define BOLYVERIT_H
@@ -100,8 +102,53 @@ bv_answer bv_set_job(
     uint32_t *ruby, size_t ruby_length,
     uint32_t *lines, size_t lines_length);
 
+/* The reasons of an account, in the rules' order: the first that holds the element where it stands. */
+#define BV_BY_START 1 /* its block stands at the line's start (rule 4) */
+#define BV_BY_BLOCK 2 /* its block touches the block before (rule 1) */
+#define BV_BY_UNDER 3 /* the ruby of the element before reaches its block, but for the depth (rule 2) */
+#define BV_BY_OVER 4  /* its ruby reaches the block before, but for the depth (rule 2) */
+#define BV_BY_RUBY 5  /* its ruby touches an earlier ruby (rule 3) */
+#define BV_BY_EDGE 6  /* its ruby stands at the line's start (rule 4) */
+
+/* A row of an account: its numbers, by their place in the row. All lengths are in half units. */
+#define BV_ROW 6
+#define BV_ROW_ELEMENT 0 /* the element's index in the job */
+#define BV_ROW_START 1   /* where its block starts */
+#define BV_ROW_GAP 2     /* from the end of the block before it, or from the line's start */
+#define BV_ROW_REASON 3  /* BV_BY_START to BV_BY_EDGE */
+#define BV_ROW_OTHER 4   /* the other element's index in the job; 0 where there is none */
+#define BV_ROW_DEPTH 5   /* how deep ruby lies on the block, of BV_BY_UNDER and BV_BY_OVER; else 0 */
+
 /*
- * Room for the answer to any sheet: it is proved never to be longer than 90,129 bytes.
+ * The account of a job: why each gap of its lines is as wide as it is. The job is given, checked and refused as in bv_set_job.
+ *
+ *   rows    result: BV_ROW numbers for each element of each line, in order; the parts of a cut J are told each in its own line
+ *   told    result: for each line the count of rows up to its end
+ *   extents result: for each line its extent
+ *
+ * rows needs BV_ROW entries for each base character, told and extents one; else the job is refused with number 12. A refusal
+ * alters no list. On success, entries past those used stay as they were.
+ */
+bv_answer bv_account_job(
+    uint32_t em,
+    uint32_t measure,
+    const uint32_t *class_, size_t class_length,
+    const uint32_t *width, size_t width_length,
+    const uint32_t *before, size_t before_length,
+    const uint32_t *after, size_t after_length,
+    const uint32_t *flag, size_t flag_length,
+    const uint32_t *rclass, size_t rclass_length,
+    const uint32_t *rwidth, size_t rwidth_length,
+    const uint32_t *kind, size_t kind_length,
+    const uint32_t *ebase, size_t ebase_length,
+    const uint32_t *eruby, size_t eruby_length,
+    const uint32_t *runs, size_t runs_length,
+    uint32_t *rows, size_t rows_length,
+    uint32_t *told, size_t told_length,
+    uint32_t *extents, size_t extents_length);
+
+/*
+ * Room for the answer to any sheet: a result is proved never to be longer than 90,129 bytes, an account than 127,039.
  */
 #define BV_MOST_TEXT 131072
 
@@ -111,6 +158,12 @@ bv_answer bv_set_job(
  * Returns the length of the answer in bytes.
  */
 size_t bv_set_sheet(const uint8_t *sheet, size_t length, uint8_t *out);
+
+/*
+ * The account of a job sheet, as the account program writes it (docs/MANUAL.md): `clear` with the page's counts and a line for each
+ * element, or `refused N P`. As above otherwise.
+ */
+size_t bv_account_sheet(const uint8_t *sheet, size_t length, uint8_t *out);
 
 #ifdef __cplusplus
 }

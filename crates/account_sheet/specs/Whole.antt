@@ -68,7 +68,7 @@ module _ {s set base ruby elem runs : List ℕ} {a : Reading} {n : Counts} {set'
   unfolding accountOfSheet accountBy listsBy
   answered-sound {rows} {told} {wide} {out} {rows'} {told'} {wide'} {out'} {r} lr lt lw all =
       let t : Told (sheetJob (reading s)) rows told wide out r rows' told' wide' out' =
-          subst (λ job. Told job rows told wide out r rows' told' wide' out') (same-job into e two longBase longRuby longElem longRuns) all in
+      subst (λ job. Told job rows told wide out r rows' told' wide' out') (same-job into e two longBase longRuby longElem longRuns) all in
       answered into
       (subst (λ xs. Wrote out 0 xs r out') (ap (jobAccount (sheetJob (reading s))) (most (length rows) (length told) (length wide) lr lt lw) ∙ sym (ap (accountBy (reading s)) is)) (t .text))
       (t .short)

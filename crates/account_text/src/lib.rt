@@ -42,22 +42,10 @@ fn put_reason(out: &mut [u8], from: usize, reason: u32, other: u32, depth: u32) 
         return put_said(out, from, b" rule 1 block touches block of ", other);
     }
     if reason == 3 {
-        return put_deep(
-            out,
-            from,
-            b" rule 2 block touches ruby of ",
-            other,
-            depth,
-        );
+        return put_deep(out, from, b" rule 2 block touches ruby of ", other, depth);
     }
     if reason == 4 {
-        return put_deep(
-            out,
-            from,
-            b" rule 2 ruby touches block of ",
-            other,
-            depth,
-        );
+        return put_deep(out, from, b" rule 2 ruby touches block of ", other, depth);
     }
     if reason == 5 {
         return put_said(out, from, b" rule 3 ruby touches ruby of ", other);
@@ -93,14 +81,7 @@ fn put_rows(out: &mut [u8], from: usize, q: usize, e: usize, rows: &[u32]) -> us
 }
 
 // A line's extent, and its rows.
-fn put_line(
-    out: &mut [u8],
-    from: usize,
-    extent: u32,
-    q: usize,
-    e: usize,
-    rows: &[u32],
-) -> usize
+fn put_line(out: &mut [u8], from: usize, extent: u32, q: usize, e: usize, rows: &[u32]) -> usize
     requires { ⌜ SegmentReady (now out) from q e (now rows) (headText extent ++ rowsText (segment (now rows) q e)) ⌝ }
     ensures { λ r. ⌜ Wrote (now (out .entry)) from (headText extent ++ rowsText (segment (now (rows .entry)) q e)) r (now (out .exit)) ⌝ }
 {

@@ -1,7 +1,7 @@
 -- Where the search within a J may begin. Each base character of a J is one em wide (number 8), so up to its c-th character the last block ends 2 em
 -- for each of them behind the block before, or later. A break that passes the measure by that alone needs no try.
 use mathlib.Core.Path.{_≡_, refl, sym, ap, _∙_, subst}
-use mathlib.Core.Bool.{Bool, true, false, cond, not, _&&_, true≢false}
+use mathlib.Core.Bool.{Bool, true, false, cond, not, _&&_, true≢false, false≢true}
 use mathlib.Core.List.{List, [], _∷_}
 use Prim.Native.Nat.{ℕ, zero, suc, _+_, _-_, _*_, _/_, _≤_, _<_, min, max}
 use native.Mathlib.Nat.{mul-assoc, mul-comm, mul-zero, mul-suc, div-lt-iff-lt-mul}
@@ -10,7 +10,7 @@ use borrow.Author.Tests.{lt-leb, eqb-true, ltb-true, ltb-false, not-false}
 use lib.Dec.{eqb, ltb}
 use lib.ListN.{length, getD}
 use Rattle.basics.specs.Lists.{sum, any, other, All}
-use Rattle.basics.specs.Laws.{or-none, and-none, any-none, all-take, all-drop}
+use Rattle.basics.specs.Laws.{or-none, any-none, all-take, all-drop}
 use Rattle.class.specs.Class.{kanaLike}
 use Rattle.word.specs.Given.{isJ}
 use Rattle.word.specs.Promise as alone
@@ -28,6 +28,10 @@ use Rattle.fill.specs.declared.Reached.{Reached}
 use Rattle.fill.specs.declared.Reached.the-variants as reached
 use Rattle.fill.specs.Piece.{Into, pieceUpto, more, good}
 use Rattle.fill.specs.Search.{Here, the-element, into-jukugo, low-end, low-s}
+
+and-none : (a b : Bool) → (a && b) ≡ false → a ≡ true → b ≡ false
+and-none true b e h = e
+and-none false b e h = absurd (false≢true h)
 
 -- the last break that needs a try: up to there the block alone ends within the measure
 abbrev pub lastTry : ℕ → ℕ → ℕ → ℕ → ℕ → ℕ

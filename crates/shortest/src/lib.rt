@@ -79,7 +79,8 @@ fn state_after(
 fn lesser(st: line::State, least: u32) -> u32
     ensures { λ r. ⌜ r ≡ min (setting.furthest st) least ⌝ }
 {
-    basics::smaller(basics::larger(st.end, st.reach), least)
+    let extent = basics::larger(st.end, st.reach);
+    if extent <= least { extent } else { least }
 }
 
 // A line may end "after the last base character of an element whose flag is 1 .. and at the job's end".
