@@ -6,7 +6,7 @@ ghost use mathlib.Core.Path.{_≡_};
 ghost use Prim.Native.Nat.{_-_, _≤_};
 ghost use Rattle.line.specs.Rules.{blockOf, rubyOf};
 ghost use Rattle.account.specs.Reasons.{touches, under, over, edge, beside};
-ghost use Rattle.account.specs.Claims.{number, other, depth};
+ghost use Rattle.account.specs.Claims.{number, depth};
 ghost use Rattle.account.specs.Step.{touched, rubyAfter, reasonAfter, accountAfter, endBefore, further, passed};
 use line::Element;
 
@@ -237,7 +237,7 @@ pub fn pass(i: u32, b: Before, e: Element, x: u32) -> Before
     }
 }
 
-// The reason as numbers: its place in the rules' order from 1, the other element and the depth, 0 where there is none.
+// The reason as numbers: its place in the rules' order from 1, and the depth, 0 where there is none.
 pub fn number_of(r: Reason) -> u32
     ensures { λ n. ⌜ n ≡ number r ⌝ }
 {
@@ -249,20 +249,6 @@ pub fn number_of(r: Reason) -> u32
         Reason::Ruby(_) => 5,
         Reason::Edge => 6,
         Reason::Free => 7,
-    }
-}
-
-pub fn other_of(r: Reason) -> u32
-    ensures { λ n. ⌜ n ≡ other r ⌝ }
-{
-    match r {
-        Reason::Start => 0,
-        Reason::Block(j) => j,
-        Reason::Under(j, _) => j,
-        Reason::Over(j, _) => j,
-        Reason::Ruby(j) => j,
-        Reason::Edge => 0,
-        Reason::Free => 0,
     }
 }
 

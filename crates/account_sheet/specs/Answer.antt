@@ -24,12 +24,12 @@ use Rattle.job_account.specs.Outcome.{room, telling}
 use Rattle.account_text.specs.Text.{accountText, needsText}
 use Rattle.account_text.specs.Short.{longest}
 
--- "For a line that is declined (refusal 11), say how far"
+-- a refusal; where a line is declined (11), also how far it falls short
 unfoldable pub declinedText : Job → Refusal → List ℕ
 unfolding refusalText needsText needed
 declinedText job r = refusalText r ++ cond (eqb (numberOf r) 11) (needsText (needed job (placeOf r)) (job .measure)) []
 
--- "first the verdict of the page"
+-- the account of a page that is clear, or its refusal
 unfoldable pub tellingText : Job → Option Refusal → List ℕ
 unfolding accountText declinedText
 tellingText job none = accountText job

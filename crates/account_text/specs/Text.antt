@@ -1,5 +1,5 @@
--- The text of an account, in bytes: "first the verdict of the page .., then for each line `line EXTENT`, and for each element its index, its block's start, the gap, the
--- rule and the other element, one a line". All lengths are in half units, as positions are.
+-- The text of an account, in bytes: the verdict of the page, then for each line its extent, and for each element its index, its block's start, the gap before it, the
+-- rule and the other element, one a line. All lengths are in half units, as positions are.
 use mathlib.Core.Bool.{Bool, cond}
 use mathlib.Core.List.{List, [], _∷_, _++_}
 use Prim.Native.Nat.{ℕ, suc, _+_, _-_, _*_}
@@ -58,7 +58,7 @@ unfoldable pub headText : ℕ → List ℕ
 unfolding said
 headText extent = said (bytes "line ") extent ++ (10 ∷ [])
 
--- "`clear` with the number of lines, elements and readings"
+-- `clear`, with the number of lines, of elements and of readings
 unfoldable pub verdictText : ℕ → ℕ → ℕ → List ℕ
 unfolding said
 verdictText lines elements readings = said (bytes "clear lines ") lines ++ (said (bytes " elements ") elements ++ (said (bytes " readings ") readings ++ (10 ∷ [])))
@@ -76,7 +76,7 @@ unfoldable pub accountText : Job → List ℕ
 unfolding verdictText readingsOf lineText ends
 accountText job = verdictText (length (ends job)) (elementCount job) (readingsOf (job .kind) (elementCount job)) ++ byLine (lineText job) 0 (ends job)
 
--- "the extent that the shortest permitted line from there would need and the measure", both in half units
+-- the extent that the shortest permitted line would need, and the measure, both in half units
 unfoldable pub needsText : ℕ → ℕ → List ℕ
 unfolding said
 needsText needed measure = said (bytes "needs ") needed ++ (said (bytes " measure ") (2 * measure) ++ (10 ∷ []))

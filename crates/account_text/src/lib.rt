@@ -1,5 +1,5 @@
 // The text of an account: the verdict of the page, and for each line its extent and for each of its elements why it stands where it does, one a line. It is printed from the
-// lists of `job_account::account_job`, and says nothing that is not in them. It relies on `text` for words and numbers, and on `job_account` for what the lists hold.
+// lists of `job_account::account_job`; the counts of the verdict come with them. It relies on `text` for words and numbers, and on `job_account` for what the lists hold.
 ghost use mathlib.Core.Path.{_≡_};
 ghost use Prim.Native.Nat.{_+_, _*_, _^_, _≤_, _<_};
 ghost use lib.ListN.{length};

@@ -1,6 +1,6 @@
 -- An answer as a caller in C gets it, and what `bv_set_job` and `bv_account_job` leave.
 use mathlib.Core.List.{List}
-use mathlib.Core.Path.{_≡_, ap, sym, _∙_}
+use mathlib.Core.Path.{_≡_, refl, ap, sym, _∙_}
 use Prim.Native.Nat.{ℕ, _≤_}
 use native.Mathlib.Omega.{arith}
 use Rattle.refusal.specs.Refusal.{numberOf, placeOf}
@@ -13,12 +13,22 @@ use Rattle.job.specs.Filled.{chain-few}
 use Rattle.job.specs.Demands.{lines-filled}
 use Rattle.result.specs.Accepted.{accepted, many, door}
 use Rattle.job_account.specs.Outcome.{Telling, telling}
+use Rattle.account_sheet.specs.Tell as tell
 use Rattle.exports.specs.declared.Answer as exported
 
 -- number 0 and the number of lines, or a refusal's "number and a place"
 abbrev pub told : Answer → exported.Answer
 told (Set n) = record { number = 0; place = n }
 told (Refused r) = record { number = numberOf r; place = placeOf r }
+
+-- no more lines than base characters
+abbrev pub Few : Answer → Type 0
+Few (Set n) = n ≤ 1024
+Few (Refused r) = Unit {0}
+
+few : (a : Answer) → ((n : ℕ) → a ≡ Set n → n ≤ 1024) → Few a
+few (Set n) h = h n refl
+few (Refused r) h = tt
 
 -- the answer is told, and the lists are the outcome's
 pub record Left (job : Job) (base ruby lines : List ℕ) (r : exported.Answer) (newBase newRuby newLines : List ℕ) : Type 0 where
@@ -37,11 +47,12 @@ module _ {job : Job} {base ruby lines : List ℕ} {o : Outcome} (e : o ≡ outco
         ends = ap (λ (x : Outcome). x .lines) e;
       }
 
--- there are at most as many lines as base characters
-pub few-lines : (job : Job) (base ruby lines : List ℕ) (o : Outcome) → o ≡ outcome job base ruby lines → {n : ℕ} → o .answer ≡ Set n → n ≤ 1024
-few-lines job base ruby lines o e is =
-    let set = ap (λ (x : Outcome). x .answer) (sym e) ∙ is in
-    omega (arith, many job base ruby lines set, chain-few job 0 (baseCount job) (ends job) (lines-filled job base ruby lines (accepted job base ruby lines set)), door job base ruby lines set .fewBase)
+pub few-lines : (job : Job) (base ruby lines : List ℕ) (o : Outcome) → o ≡ outcome job base ruby lines → Few (o .answer)
+few-lines job base ruby lines o e = few (o .answer) (λ n is. most n (ap (λ (x : Outcome). x .answer) (sym e) ∙ is))
+  where
+    most : (n : ℕ) → outcome job base ruby lines .answer ≡ Set n → n ≤ 1024
+    most n set =
+        omega (arith, many job base ruby lines set, chain-few job 0 (baseCount job) (ends job) (lines-filled job base ruby lines (accepted job base ruby lines set)), door job base ruby lines set .fewBase)
 
 -- The same of the account: the answer is told, and the lists are the account's.
 pub record Accounted (job : Job) (rows counts wide : List ℕ) (r : exported.Answer) (newRows newCounts newWide : List ℕ) : Type 0 where
@@ -59,3 +70,6 @@ module _ {job : Job} {rows counts wide : List ℕ} {o : Telling} (e : o ≡ tell
         newCountsAre = ap (λ (x : Telling). x .told) e;
         newWideAre = ap (λ (x : Telling). x .extents) e;
       }
+
+pub few-told : (job : Job) (rows counts wide : List ℕ) (o : Telling) → o ≡ telling job rows counts wide → Few (o .answer)
+few-told job rows counts wide o e = few (o .answer) (λ n is. tell.few-lines job rows counts wide e is)

@@ -1,16 +1,34 @@
 // The library for callers in C and C++ (include/bolyverit.h): the setting and the account, each over lists and of a sheet, as functions over pointers and lengths. Nothing is decided here: an
 // answer becomes a struct of two numbers, and the tables of a sheet are lent to `setter` and `account_sheet`. It relies on these two, on `engine`, `job_account` and `refusal`.
+ghost use mathlib.Core.Path.{_≡_};
 ghost use Rattle.text.specs.Print.{Wrote};
 ghost use Rattle.door.specs.Job.{jobOf};
 ghost use Rattle.setter.specs.Answer.{answerText};
 ghost use Rattle.account_sheet.specs.Answer.{accountOfSheet};
-ghost use Rattle.exports.specs.Told.{Left, Accounted};
+ghost use Rattle.exports.specs.Told.{told, Few, Left, Accounted};
 
 // Number 0 and the number of lines, or a refusal's number and its place.
 #[repr(C)]
 pub struct Answer {
     pub number: u32,
     pub place: u32,
+}
+
+// An answer as a caller in C gets it.
+fn answer_of(a: job::Answer) -> Answer
+    requires { ⌜ Few a ⌝ }
+    ensures { λ r. ⌜ r ≡ told a ⌝ }
+{
+    match a {
+        job::Answer::Set(n) => Answer {
+            number: 0,
+            place: n as u32,
+        },
+        job::Answer::Refused(why) => Answer {
+            number: refusal::number(why),
+            place: refusal::place(why),
+        },
+    }
 }
 
 // Sets a job in lists.
@@ -35,7 +53,7 @@ pub extern "C" fn bv_set_job(
 ) -> Answer
     ensures { λ r. ⌜ Left (jobOf em measure (now (class .entry)) (now (width .entry)) (now (before .entry)) (now (after .entry)) (now (flag .entry)) (now (rclass .entry)) (now (rwidth .entry)) (now (kind .entry)) (now (ebase .entry)) (now (eruby .entry)) (now (runs .entry))) (now (base .entry)) (now (ruby .entry)) (now (lines .entry)) r (now (base .exit)) (now (ruby .exit)) (now (lines .exit)) ⌝ }
 {
-    match engine::set_job(
+    let answer = engine::set_job(
         em,
         measure,
         class,
@@ -52,16 +70,8 @@ pub extern "C" fn bv_set_job(
         base,
         ruby,
         lines,
-    ) {
-        job::Answer::Set(n) => Answer {
-            number: 0,
-            place: n as u32,
-        },
-        job::Answer::Refused(why) => Answer {
-            number: refusal::number(why),
-            place: refusal::place(why),
-        },
-    }
+    );
+    answer_of(answer)
 }
 
 // Sets a sheet; how many bytes at the front of `out` its answer has.
@@ -113,7 +123,7 @@ pub extern "C" fn bv_account_job(
 ) -> Answer
     ensures { λ r. ⌜ Accounted (jobOf em measure (now (class .entry)) (now (width .entry)) (now (before .entry)) (now (after .entry)) (now (flag .entry)) (now (rclass .entry)) (now (rwidth .entry)) (now (kind .entry)) (now (ebase .entry)) (now (eruby .entry)) (now (runs .entry))) (now (rows .entry)) (now (told .entry)) (now (extents .entry)) r (now (rows .exit)) (now (told .exit)) (now (extents .exit)) ⌝ }
 {
-    match job_account::account_job(
+    let answer = job_account::account_job(
         em,
         measure,
         class,
@@ -130,16 +140,8 @@ pub extern "C" fn bv_account_job(
         rows,
         told,
         extents,
-    ) {
-        job::Answer::Set(n) => Answer {
-            number: 0,
-            place: n as u32,
-        },
-        job::Answer::Refused(why) => Answer {
-            number: refusal::number(why),
-            place: refusal::place(why),
-        },
-    }
+    );
+    answer_of(answer)
 }
 
 // The account of a sheet; how many bytes at the front of `out` its text has.

@@ -1,23 +1,20 @@
 -- What is proved of a line's account holds of all lines of an accepted job.
-use mathlib.Core.Path.{_≡_, refl, sym, ap, _∙_}
+use mathlib.Core.Path.{_≡_, refl}
 use mathlib.Core.List.{List}
 use mathlib.Core.Option.{Option, none, some}
-use Prim.Native.Nat.{ℕ, _≤_, _<_}
+use Prim.Native.Nat.{ℕ, _<_}
 use native.Mathlib.Omega.{arith}
-use lib.ListN.{length, take, drop}
-use lib.Seq.{take-at}
+use lib.ListN.{length}
 use Rattle.refusal.specs.declared.Refusal.{Refusal}
 use Rattle.door.specs.Job.{Job}
 use Rattle.door.specs.Passed.{Passed, passed}
 use Rattle.job.specs.declared.Answer.the-variants.{Set}
-use Rattle.job.specs.Line.{lineOf, origins, ends}
-use Rattle.job.specs.Outcome.{Outcome, after, outcome}
-use Rattle.job.specs.Declined.{fills}
-use Rattle.job.specs.Demands.{Accepted, given-refusal, filled-exactly, lines-filled, lines-told}
+use Rattle.job.specs.Line.{lineOf, origins}
+use Rattle.job.specs.Outcome.{after, outcome}
+use Rattle.job.specs.Demands.{Accepted, given-refusal, filled-exactly}
 use Rattle.account.specs.Claims.{Tight}
 use Rattle.account.specs.Theorems.{Accounted}
 use Rattle.job_account.specs.Theorems.{reasonIn, accounted, tight}
-use Rattle.job_account.specs.Lines.{LinesReady}
 
 module _ (job : Job) (base ruby lines : List ℕ) {n : ℕ} (set : outcome job base ruby lines .answer ≡ Set n) where
   accepted : Accepted job base ruby lines
@@ -27,9 +24,6 @@ module _ (job : Job) (base ruby lines : List ℕ) {n : ℕ} (set : outcome job b
       go : (f : Option Refusal) → after job base ruby lines f .answer ≡ Set n → f ≡ none
       go none e = refl
       go (some q) e = absurd (let z : _≡_ {A = ℕ} 0 1 = cc in omega arith)
-
-  many : n ≡ length (ends job)
-  many = let e = sym set ∙ lines-told job base ruby lines accepted .0 in cc
 
   door : Passed job
   door = passed job (length base) (length ruby) (length lines) (filled-exactly job base ruby lines .0 accepted .0)

@@ -1,4 +1,4 @@
--- The account of a job in lists: the answer, and the lists after it. "Same checks, same refusals" as the setting.
+-- The account of a job in lists: the answer, and the lists after it. The checks and the refusals are those of the setting.
 use mathlib.Core.Path.{_≡_, sym, ap, _∙_}
 use mathlib.Core.List.{List, [], _∷_}
 use mathlib.Core.Option.{Option, none, some}
