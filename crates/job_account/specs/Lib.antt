@@ -1,4 +1,3 @@
-pub mod Flush
 pub mod Theorems
 pub mod First
 pub mod Tell
