@@ -25,8 +25,8 @@ pub record Set (job : Job) (base ruby line : List ℕ) (s e k : ℕ) : Type 0 wh
   pub there : k < length (pieces job s e)
 
 module _
-  (job : Job) (base ruby line : List ℕ) (s e k : ℕ) (set : Set job base ruby line s e k)
-  (job′ : Job) (base′ ruby′ line′ : List ℕ) (s′ e′ k′ : ℕ) (set′ : Set job′ base′ ruby′ line′ s′ e′ k′) where
+    (job : Job) (base ruby line : List ℕ) (s e k : ℕ) (set : Set job base ruby line s e k)
+    (job′ : Job) (base′ ruby′ line′ : List ℕ) (s′ e′ k′ : ℕ) (set′ : Set job′ base′ ruby′ line′ s′ e′ k′) where
   abbrev p : Piece
   p = pieceOf job s e k
 
