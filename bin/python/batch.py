@@ -1,7 +1,6 @@
 """The command for many sheets: bin/batch --help."""
 
 import os
-import signal
 import stat
 import sys
 
@@ -272,19 +271,16 @@ def main(closed, _, arguments):
     if asked.help:
         command.write(USAGE.encode())
         return 0
-    # Ended from outside, what is half written is removed.
-    for number in (signal.SIGTERM, signal.SIGHUP):
-        signal.signal(number, lambda number, _: sys.exit(128 + number))
-    if asked.out is not None:
-        try:
-            os.makedirs(asked.out, exist_ok=True)
-        except OSError as error:
-            raise Trouble('%s cannot be made a folder: %s' % (printable(asked.out), reason(error)))
     tally = Tally()
     found = list(sheets_of(asked, tally))
     tally.total = len(found)
     if not found:
         raise Trouble('there is no sheet to set')
+    if asked.out is not None:
+        try:
+            os.makedirs(asked.out, exist_ok=True)
+        except OSError as error:
+            raise Trouble('%s cannot be made a folder: %s' % (printable(asked.out), reason(error)))
     programs = {'.result': 'settings', '.account': 'accounts'} if asked.account else {'.result': 'settings'}
     for program in programs.values():
         proving.make_ready('batch', program)

@@ -67,7 +67,7 @@ def read_sheet(file, closed, name):
         proving.say('%s: a sheet is awaited on standard input, ended by Ctrl-D (bin/%s --help says how it is used)' % (name, name))
     try:
         with open(0 if file == '-' else file, 'rb', closefd=file != '-') as sheet:
-            return sheet.read(LONGEST)
+            return sheet.read(LONGEST) or b''
     except (OSError, ValueError) as error:
         what = 'standard input' if file == '-' else printable(file) or "''"
         raise Trouble('cannot read %s: %s' % (what, reason(error) if isinstance(error, OSError) else error))

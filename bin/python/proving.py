@@ -7,6 +7,7 @@ holds the program is proved and built first. The archive for callers in C is loo
 
 import hashlib
 import os
+import signal
 import subprocess
 import sys
 
@@ -213,14 +214,16 @@ def run_check(name, program, rt):
         % (name, verb, program, os.path.relpath(log, ROOT)))
     with open(log, 'wb') as kept:
         # The sheet waits on standard input: rt must not read it, nor write into the answer.
-        check = subprocess.Popen([rt, verb, program], cwd=ROOT, stdin=subprocess.DEVNULL, stdout=subprocess.PIPE, stderr=subprocess.STDOUT)
+        check = subprocess.Popen([rt, verb, program], cwd=ROOT, stdin=subprocess.DEVNULL, stdout=subprocess.PIPE, stderr=subprocess.STDOUT,
+                                 start_new_session=True)
         try:
             matter = follow(name, check.stdout, kept, count)
             status = check.wait()
-        finally:
-            if check.poll() is None:
-                check.terminate()
-                check.wait()
+        except BaseException:
+            # Whoever stops this stops the provers too: they are a group of their own.
+            os.killpg(check.pid, signal.SIGTERM)
+            check.wait()
+            raise
     if status != 0:
         for line in matter[:SHOWN]:
             say('  ' + line[:WIDE])
@@ -256,6 +259,10 @@ def guard(main):
     for descriptor, gone in enumerate(closed):
         if gone:
             os.open(os.devnull, os.O_RDWR)
+    # Ended from outside, a command still removes what is half done.
+    for number in (signal.SIGTERM, signal.SIGHUP):
+        if signal.getsignal(number) == signal.SIG_DFL:
+            signal.signal(number, lambda number, _: sys.exit(128 + number))
     try:
         return main(closed, name, sys.argv[2:])
     except Trouble as trouble:
