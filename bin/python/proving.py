@@ -246,7 +246,7 @@ def follow(name, lines, log, count):
         if one:
             at += 1
             say('%s: proving %d of %d: %s, %s' % (name, at, count, one[1], one[2] or 'proved before'))
-        elif fault.match(line):
+        elif fault.match(line) and 'its dependency' not in line:
             matter.append(printable(line.replace(ROOT + os.sep, '')))
     return matter
 
