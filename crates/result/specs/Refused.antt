@@ -1,5 +1,5 @@
 -- What is written says which answer it is: a text `refused N P` is that of a refusal with the number N, and no result is such a text.
-use mathlib.Core.List.{List, [], _∷_, _++_}
+use mathlib.Core.List.{List, [], _∷_, _++_, append-assoc}
 use mathlib.Core.Path.{_≡_, _∙_, ap, sym}
 use Prim.Native.Nat.{ℕ, _≤_}
 use native.Mathlib.Omega.{arith}
@@ -56,6 +56,14 @@ refused-is r n p h e =
     let f = ap (λ l. drop 8 l) e in
     let x = same-number (numberOf r) n (decimal (placeOf r) ++ (10 ∷ [])) (decimal p ++ (10 ∷ [])) (omega (arith, number-most r)) h f in
     (x .0, same-front (decimal (placeOf r)) (decimal p) (x .1))
+
+-- and a text that begins with a refusal's is not another's
+pub refused-begins : (r : Refusal) (more : List ℕ) (n p : ℕ) → n ≤ most → refusalText r ++ more ≡ lineTwo (bytes "refused") n p → numberOf r ≡ n
+unfolding refusalText lineTwo
+refused-begins r more n p h e =
+    let rest = decimal (placeOf r) ++ (10 ∷ []) in
+    let f = sym (append-assoc (decimal (numberOf r)) (32 ∷ rest) more) ∙ ap (λ l. drop 8 l) e in
+    same-number (numberOf r) n (rest ++ more) (decimal p ++ (10 ∷ [])) (omega (arith, number-most r)) h f .0
 
 -- a result begins with `lines`
 pub no-refusal : (job : Job) (base ruby : List ℕ) (n p : ℕ) → resultText job base ruby ≡ lineTwo (bytes "refused") n p → ⊥

@@ -4,5 +4,6 @@ pub mod Tell
 pub mod Whole
 pub mod Determined
 pub mod Sheet
+pub mod Given
 pub mod Form
 pub mod Cases

@@ -15,7 +15,9 @@ use Rattle.refusal.specs.declared.Refusal.the-variants.{Count, Short, Form}
 use Rattle.rows.specs.Table.{column}
 use Rattle.sheet.specs.declared.Counts.{Counts}
 use Rattle.sheet.specs.declared.Reading.the-variants.{Sound}
-use Rattle.sheet.specs.Sheet.{reading}
+use Rattle.sheet.specs.Sheet.{Sheet, reading}
+use Rattle.sheet.specs.Form.{Written, InForm, sheetText, sheetOf}
+use Rattle.sheet.specs.Exact.{sound-exactly}
 use Rattle.sheet.specs.Sound.{sound}
 use Rattle.door.specs.Job.{Job, baseCount, rubyCount, elementCount}
 use Rattle.job.specs.declared.Answer.the-variants.{Set, Refused}
@@ -25,6 +27,11 @@ use Rattle.job.specs.Demands.{refused-exactly}
 use Rattle.result.specs.Text.{resultText, refusalText}
 use Rattle.setter.specs.Answer.{jobText, sheetJob, answerBy, answerText}
 use Rattle.setter.specs.Tell.{refused-text, set-text}
+
+-- what is written of the sheet of some numbers is the text of their job
+pub sheet-answered : (r : Written) → InForm r → answerText (sheetText r) ≡ jobText (sheetJob (sheetOf r)) 1024 2048 1024
+unfolding answerText answerBy sheetOf
+sheet-answered r form = ap (λ (t : Sheet). answerBy t (t .end)) (sound-exactly (sheetText r) r .1 (form, refl))
 
 -- a column is as long as its section
 long : (j : ℕ) (rows : List (List ℕ)) → length (column j rows) ≡ length rows

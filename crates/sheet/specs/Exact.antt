@@ -48,7 +48,7 @@ module _ (s : List ℕ) where
           let i = same-numbers q r (sym same ∙ e) in
           (subst InForm i form, text ∙ ap sheetText i)
 
-  sound-not : (c : Counts) {q : _} → reading s .end ≡ Sound c → reading s .end ≡ Refused q → ⊥
+  pub sound-not : (c : Counts) {q : _} → reading s .end ≡ Sound c → reading s .end ≡ Refused q → ⊥
   sound-not c e f = let z : _≡_ {A = ℕ} 0 1 = cc in omega arith
 
   -- the reading is sound exactly of bytes that are a sheet

@@ -27,11 +27,13 @@ use Rattle.elements.specs.Elements.{Listed, elements}
 use Rattle.elements.specs.Print.{Entry, elemText, KeptElements, allRuns, listedOf}
 use Rattle.elements.specs.Printed as elem
 use Rattle.elements.specs.Breaks as elem-form
+use Rattle.sheet.specs.declared.Counts.{Counts}
 use Rattle.sheet.specs.declared.Reading.{Reading}
 use Rattle.sheet.specs.declared.Reading.the-variants.{Sound, Refused as SheetRefused}
 use Rattle.sheet.specs.Sheet.{setWord, baseWord, rubyWord, elemWord, opening, setOf, baseOf, rubyOf, elemOf, endOf, Sheet, reading}
-use Rattle.sheet.specs.Form.{Written, setText, sheetText, InForm}
-use Rattle.sheet.specs.Reads.{SetIs, set-broken, set-stands, set-is, set-end, base-end, ruby-end, section-handed, from-base, from-ruby, from-elem, sheet-from}
+use Rattle.sheet.specs.Form.{Written, setText, sheetText, InForm, KeepsForm, Over}
+use Rattle.sheet.specs.Reads.{SheetIs, sheet-is, SetIs, set-broken, set-stands, set-is, set-end, base-end, ruby-end, section-handed, from-base, from-ruby, from-elem, sheet-from}
+use Rattle.sheet.specs.Exact.{sound-not, sound-keeps, two-exactly}
 
 -- The bytes break the form on line l ("line from 1; 0 if over 65,535 bytes"). The sections before that line keep the form, and no line that the form allows stands there; or a sheet is
 -- whole and something comes after it. A count over its maximum is no matter of form: `SectionBreaks` asks that no count at all stands under the section's word, or that the count keeps its
@@ -247,3 +249,27 @@ place-most (in-base em measure p h he hm x y) = omega (arith, section-place y)
 place-most (in-ruby em measure base p h he hm kept x y) = omega (arith, kept .few, section-place y)
 place-most (in-elem em measure base ruby p h he hm kept kept-ruby x y) = omega (arith, kept .few, kept-ruby .few, elem-form.section-place y)
 place-most (after r rest h form e some is) = omega (arith, is, form .base .few, form .ruby .few, form .elem .few)
+
+-- All bytes are one of three: a sheet, or a count over its maximum is the first fault in them, or they break the form on some line.
+pub data OneOfThree (s : List ℕ) : Type 0 where
+  keeps : KeepsForm s → OneOfThree s
+  over : (which : ℕ) → Over s which → OneOfThree s
+  breaks : (l : ℕ) → Breaks s l → OneOfThree s
+
+pub one-of-three : (s : List ℕ) → OneOfThree s
+one-of-three s = go (sheet-is s)
+  where
+    go : SheetIs s (reading s) → OneOfThree s
+    go (SheetIs.broken l e) = breaks l (place-exactly s l .0 e)
+    go (SheetIs.over which o e) = OneOfThree.over which o
+    go (SheetIs.stands r form text same) = keeps (record { numbers = r; form = form; text = text })
+
+-- and no two of them
+pub keeps-alone : (s : List ℕ) → KeepsForm s → ((which : ℕ) → Over s which → ⊥) × ((l : ℕ) → Breaks s l → ⊥)
+keeps-alone s k = (λ w o. sound-not s (sound .0) (sound .1) (two-exactly s w .1 o), λ l b. sound-not s (sound .0) (sound .1) (place-exactly s l .1 b))
+  where
+    sound : (c : Counts) × (reading s .end ≡ Sound c)
+    sound = sound-keeps s .1 k
+
+pub breaks-alone : (s : List ℕ) (l which : ℕ) → Breaks s l → Over s which → ⊥
+breaks-alone s l which b o = not-count (reading s .end) l which (place-exactly s l .1 b) (two-exactly s which .1 o)
