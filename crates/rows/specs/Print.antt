@@ -15,15 +15,17 @@ lineText [] = []
 lineText (v ∷ []) = decimal v ++ bytes "\n"
 lineText (v ∷ (w ∷ ws)) = decimal v ++ (bytes " " ++ lineText (w ∷ ws))
 
--- "Sections .., each after its count"
+-- a section's first line: its word, its count and LF
 unfoldable pub headText : List ℕ → ℕ → List ℕ
 unfolding decimal
 headText w n = w ++ (decimal n ++ bytes "\n")
 
+-- a line for each row
 unfoldable pub rowsText : List (List ℕ) → List ℕ
 unfolding lineText
 rowsText rows = each lineText rows
 
+-- "Sections .., each after its count"
 unfoldable pub sectionText : List ℕ → List (List ℕ) → List ℕ
 unfolding headText rowsText
 sectionText w rows = headText w (length rows) ++ rowsText rows
@@ -38,7 +40,7 @@ pub record Kept (k top : ℕ) (rows : List (List ℕ)) : Type 0 where
   pub wide : All (λ (r : List ℕ). length r ≡ k) rows
   pub small : All Small rows
 
--- a count stands under the word: within the maximum or over it
+-- a section's word and a count stand at a place: within the maximum or over it
 pub record Counted (w : List ℕ) (s : List ℕ) (at n next : ℕ) : Type 0 where
   pub small : n ≤ most
   pub text : Stands s at (headText w n) next
