@@ -2,7 +2,6 @@
 -- how wide a gap the reason's own numbers make.
 use mathlib.Core.Path.{_≡_}
 use mathlib.Core.List.{List}
-use mathlib.Core.Logic.{_⊎_}
 use Prim.Native.Nat.{ℕ, suc, _+_, _-_, _≤_, _<_}
 use lib.ListN.{length}
 use Rattle.line.specs.declared.Element.{Element}
@@ -90,7 +89,3 @@ width es xs i (Over j d) = el es i .front - el es i .from - d
 width es xs i (Ruby j) = rubyAt es xs j .end + el es i .front - (el es i .from + back es xs i)
 width es xs i Edge = el es i .front - (el es i .from + back es xs i)
 width es xs i Free = 0
-
--- An element's own coordinates count from the start of its longer string: its block or its ruby starts there.
-abbrev pub Flush : List Element → Type 0
-Flush es = (i : ℕ) → i < length es → (el es i .front ≡ 0) ⊎ (HasRuby es i × (el es i .from ≡ 0))

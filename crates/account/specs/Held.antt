@@ -10,13 +10,13 @@ use lib.ListN.{length}
 use lib.Dec.{T}
 use Rattle.line.specs.declared.Element.{Element}
 use Rattle.line.specs.declared.State.{State}
-use Rattle.line.specs.Rules.{el, org, blockAt, HasRuby, Sounds}
+use Rattle.line.specs.Rules.{el, org, blockAt, Flush, Sounds}
 use Rattle.line.specs.Setting.{rubyFrom, rubyUpto, start, Near, origin, settle, after}
 use Rattle.line.specs.Least.{settle-origin, settle-follows}
 use Rattle.line.specs.Theorems.{keeps}
 use Rattle.account.specs.declared.Reason.{Reason}
 use Rattle.account.specs.declared.Reason.the-variants.{Start, Block, Under, Over, Ruby, Edge}
-use Rattle.account.specs.Claims.{number, Holds, Flush}
+use Rattle.account.specs.Claims.{number, Holds}
 use Rattle.account.specs.Sides.{ordered}
 
 -- a lower bound that is met: none but the line's start, or one of the four that the state asks
@@ -86,14 +86,14 @@ attained es xs (suc n) = go (half _ _ _ refl) (attained es xs n)
 abbrev pub Held : List Element → List ℕ → ℕ → Type 0
 Held es xs i = (r : Reason) × Holds es xs i r × (number r < 7)
 
-module _ (es : List Element) (s : Sounds es) (fl : Flush es) where
+module _ (es : List Element) (s : Sounds es) where
   abbrev xs : List ℕ
   xs = settle es
 
   at-start : (i : ℕ) → i < length es → org xs i ≡ 0 → Held es xs i
-  at-start i h z = go (fl i h)
+  at-start i h z = go (s i h .flush)
     where
-      go : (el es i .front ≡ 0) ⊎ (HasRuby es i × (el es i .from ≡ 0)) → Held es xs i
+      go : Flush (el es i) → Held es xs i
       go (inl f) = (Start, omega arith, omega arith)
       go (inr (t, f)) = (Edge, (t, omega arith), omega arith)
 

@@ -13,7 +13,7 @@ use Rattle.account.specs.declared.Reason.{Reason}
 use Rattle.account.specs.declared.Reason.the-variants.{Free}
 use Rattle.account.specs.Reasons.{reason, gap, accountOf}
 use Rattle.account.specs.Step.{accountAfter, standing}
-use Rattle.account.specs.Claims.{number, First, Tight, Rule, width, Flush}
+use Rattle.account.specs.Claims.{number, First, Tight, Rule, width}
 use Rattle.account.specs.Law as law
 use Rattle.account.specs.Order as order
 use Rattle.account.specs.Held.{held}
@@ -43,9 +43,9 @@ pub record Accounted (es : List Element) (xs : List ℕ) (i : ℕ) : Type 0 wher
   pub named : reason es xs i ≡ Free → ⊥
   pub wide : gap es xs i ≡ width es xs i (reason es xs i)
 
-pub accounted : (es : List Element) → Sounds es → Flush es → (i : ℕ) → i < length es → Accounted es (settle es) i
-accounted es s fl i h =
-    let some = held es s fl i h in
+pub accounted : (es : List Element) → Sounds es → (i : ℕ) → i < length es → Accounted es (settle es) i
+accounted es s i h =
+    let some = held es s i h in
     let l : number (reason es (settle es) i) < 7 = omega (arith, first es (settle es) i .first (some .0) (some .1), some .2) in
     record {
       named = λ e. free (reason es (settle es) i) e l;

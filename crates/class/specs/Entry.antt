@@ -1,42 +1,59 @@
--- What the code's entry for a class says: a sum of the kind (1 kana-like, 2 Western, 3 the word space; 0: not accepted), 4 for a blank before, 8 for one after, 16 where the
--- whole width is blank, and 32 for each quarter em of depth.
-use mathlib.Core.Bool.{Bool, true, false, cond, not}
-use Prim.Native.Nat.{ℕ, _+_, _*_, _/_, _%_}
-use lib.Dec.{eqb}
-use Rattle.class.specs.declared.Kind.{Kind}
-use Rattle.class.specs.declared.Kind.the-variants.{KanaLike, Western, Space, Outside}
+-- The code's entry for a class, "accepted, kind, blank sides and depth", and what it says of each side. `Laws` joins it to the definitions of `Class`.
+use mathlib.Core.Bool.{Bool, true, false}
+use Prim.Native.Nat.{ℕ}
+use Rattle.class.specs.declared.Sides.{Sides}
+use Rattle.class.specs.declared.Sides.the-variants.{Before, After, Both, Neither, Whole}
+use Rattle.class.specs.declared.Entry.{Entry}
 use Rattle.class.specs.declared.Row.{Row}
 use Rattle.class.specs.Class.{rowOf}
 
-abbrev kindNumber : Kind → ℕ
-kindNumber KanaLike = 1
-kindNumber Western = 2
-kindNumber Space = 3
-kindNumber Outside = 0
+-- the sides in one word: may there be a blank before, may there be one after, is the whole width blank
+abbrev sidesBy : Bool → Bool → Bool → Sides
+sidesBy true false false = Before
+sidesBy false true false = After
+sidesBy true true false = Both
+sidesBy false false false = Neither
+sidesBy b a true = Whole
 
-abbrev one : Bool → ℕ
-one true = 1
-one false = 0
-
-abbrev pub entryBy : Row → ℕ
-entryBy r = kindNumber (r .kind) + (4 * one (r .before) + (8 * one (r .after) + (16 * one (r .whole) + 32 * r .quarters)))
+abbrev pub entryBy : Row → Entry
+entryBy r = record { accepted = r .accepted; kind = r .kind; sides = sidesBy (r .before) (r .after) (r .whole); quarters = r .quarters }
 
 -- the entry of a class
-unfoldable pub entryOf : ℕ → ℕ
+unfoldable pub entryOf : ℕ → Entry
 unfolding rowOf
 entryOf c = entryBy (rowOf c)
 
--- and what an entry says
-abbrev pub kindBy : ℕ → Kind
-kindBy t = cond (eqb (t % 4) 1) KanaLike (cond (eqb (t % 4) 2) Western (cond (eqb (t % 4) 3) Space Outside))
+-- and what an entry says: may there be a blank before
+abbrev pub liesBefore : Sides → Bool
+liesBefore Before = true
+liesBefore After = false
+liesBefore Both = true
+liesBefore Neither = false
+liesBefore Whole = false
 
-abbrev pub rowBy : ℕ → Row
-rowBy t =
+-- may there be one after
+abbrev pub liesAfter : Sides → Bool
+liesAfter Before = false
+liesAfter After = true
+liesAfter Both = true
+liesAfter Neither = false
+liesAfter Whole = false
+
+-- is the whole width blank
+abbrev pub isWhole : Sides → Bool
+isWhole Before = false
+isWhole After = false
+isWhole Both = false
+isWhole Neither = false
+isWhole Whole = true
+
+abbrev pub rowBy : Entry → Row
+rowBy e =
     record {
-      accepted = not (eqb (t % 4) 0);
-      kind = kindBy t;
-      before = eqb (t / 4 % 2) 1;
-      after = eqb (t / 8 % 2) 1;
-      whole = eqb (t / 16 % 2) 1;
-      quarters = t / 32;
+      accepted = e .accepted;
+      kind = e .kind;
+      before = liesBefore (e .sides);
+      after = liesAfter (e .sides);
+      whole = isWhole (e .sides);
+      quarters = e .quarters;
     }

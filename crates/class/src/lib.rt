@@ -1,12 +1,12 @@
 // The class table of document 01: for each class from 0 to 30 whether it is accepted, its kind, the sides on which it may carry a
 // blank, and how deep ruby may lie on that blank. Every check and every rule of clearance consults this table and nothing
 // else; that it says what document 01 says is proved once (specs/Class.antt, proofs/entry_of). All functions here are
-// total: any u32 is asked as it is. It relies on `basics` alone.
+// total: any u32 is asked as it is. It relies on no other crate.
 ghost use mathlib.Core.Path.{_≡_};
 ghost use Prim.Native.Nat.{_≤_};
 ghost use Rattle.class.specs.Class.{rowOf, kindOf, depthBefore, depthAfter};
 ghost use Rattle.class.specs.Depth.{blankBy, depthBy};
-ghost use Rattle.class.specs.Entry.{kindBy, rowBy};
+ghost use Rattle.class.specs.Entry.{entryOf, rowBy, liesBefore, liesAfter, isWhole};
 
 pub enum Kind {
     KanaLike,
@@ -17,7 +17,25 @@ pub enum Kind {
     Outside,
 }
 
-// What the table says of a class. `quarters` is the most that ruby may lie on its blank, in quarter ems.
+// The sides on which a class may carry a blank; Whole where the whole width is blank.
+enum Sides {
+    Before,
+    After,
+    Both,
+    Neither,
+    Whole,
+}
+
+// An entry of the table, in document 01's words: accepted, kind, blank sides and depth. `quarters` is the most that ruby may lie on
+// the blank, in quarter ems. A byte to a field, since a constant table is laid out anew wherever it is read.
+struct Entry {
+    accepted: bool,
+    kind: Kind,
+    sides: Sides,
+    quarters: u8,
+}
+
+// What those above are told of a class: the entry with its sides asked one by one.
 pub struct Row {
     pub accepted: bool,
     pub kind: Kind,
@@ -27,43 +45,87 @@ pub struct Row {
     pub quarters: u32,
 }
 
-// An entry is the sum of what holds of its class: the kind, without which it is not accepted; the sides on which it may carry a blank, or that the whole of
-// it is one; and how deep ruby may lie on that blank. One byte each, since a constant table is laid out anew wherever it is read.
-const OUTSIDE: u8 = 0;
+// Depths in quarter ems.
+const NONE: u8 = 0;
 
-const KANA: u8 = 1;
+const QUARTER: u8 = 1;
 
-const WESTERN: u8 = 2;
+const HALF: u8 = 2;
 
-const SPACE: u8 = 3;
+// The entries that there are. Every class that may carry a blank is kana-like.
+const OUTSIDE: Entry = Entry {
+    accepted: false,
+    kind: Kind::Outside,
+    sides: Sides::Neither,
+    quarters: NONE,
+};
 
-const BEFORE: u8 = 4;
+const KANA: Entry = Entry {
+    accepted: true,
+    kind: Kind::KanaLike,
+    sides: Sides::Neither,
+    quarters: NONE,
+};
 
-const AFTER: u8 = 8;
+const BLANK_BEFORE: Entry = Entry {
+    accepted: true,
+    kind: Kind::KanaLike,
+    sides: Sides::Before,
+    quarters: HALF,
+};
 
-const WHOLE: u8 = 16;
+const BLANK_AFTER: Entry = Entry {
+    accepted: true,
+    kind: Kind::KanaLike,
+    sides: Sides::After,
+    quarters: HALF,
+};
 
-const QUARTER: u8 = 32;
+const BLANK_BOTH: Entry = Entry {
+    accepted: true,
+    kind: Kind::KanaLike,
+    sides: Sides::Both,
+    quarters: QUARTER,
+};
 
-const HALF: u8 = 64;
+const BLANK_WHOLE: Entry = Entry {
+    accepted: true,
+    kind: Kind::KanaLike,
+    sides: Sides::Whole,
+    quarters: HALF,
+};
+
+const WESTERN: Entry = Entry {
+    accepted: true,
+    kind: Kind::Western,
+    sides: Sides::Neither,
+    quarters: NONE,
+};
+
+const SPACE: Entry = Entry {
+    accepted: true,
+    kind: Kind::Space,
+    sides: Sides::Neither,
+    quarters: NONE,
+};
 
 // The names are those of JLReq.
-const TABLE: [u8; 31] = [
+const TABLE: [Entry; 31] = [
     OUTSIDE, // 0
-    KANA + BEFORE + HALF, // 1 opening brackets
-    KANA + AFTER + HALF, // 2 closing brackets
+    BLANK_BEFORE, // 1 opening brackets
+    BLANK_AFTER, // 2 closing brackets
     KANA, // 3 hyphens
     KANA, // 4 dividing punctuation marks
-    KANA + BEFORE + AFTER + QUARTER, // 5 middle dots
-    KANA + AFTER + HALF, // 6 full stops
-    KANA + AFTER + HALF, // 7 commas
+    BLANK_BOTH, // 5 middle dots
+    BLANK_AFTER, // 6 full stops
+    BLANK_AFTER, // 7 commas
     KANA, // 8 inseparable characters
     KANA, // 9 iteration marks
     KANA, // 10 prolonged sound mark
     KANA, // 11 small kana
     KANA, // 12 prefixed abbreviations
     KANA, // 13 postfixed abbreviations
-    KANA + WHOLE + HALF, // 14 full-width ideographic space
+    BLANK_WHOLE, // 14 full-width ideographic space
     KANA, // 15 hiragana
     KANA, // 16 katakana
     KANA, // 17 math symbols
@@ -82,21 +144,51 @@ const TABLE: [u8; 31] = [
     OUTSIDE, // 30 characters in tate-chu-yoko
 ];
 
-// The kind that an entry names.
-fn kind_by(entry: u8) -> Kind
-    ensures { λ r. ⌜ r ≡ kindBy entry ⌝ }
+// The entry of any class; past the table as for a class that is not accepted.
+fn entry_of(class: u32) -> Entry
+    ensures { λ r. ⌜ r ≡ entryOf class ⌝ }
 {
-    let k = entry % 4;
-    if k == 1 {
-        return Kind::KanaLike;
+    if 30 < class {
+        return OUTSIDE;
     }
-    if k == 2 {
-        return Kind::Western;
+    let i = class as usize;
+    TABLE[i]
+}
+
+fn lies_before(s: Sides) -> bool
+    ensures { λ r. ⌜ r ≡ liesBefore s ⌝ }
+{
+    match s {
+        Sides::Before => true,
+        Sides::After => false,
+        Sides::Both => true,
+        Sides::Neither => false,
+        Sides::Whole => false,
     }
-    if k == 3 {
-        return Kind::Space;
+}
+
+fn lies_after(s: Sides) -> bool
+    ensures { λ r. ⌜ r ≡ liesAfter s ⌝ }
+{
+    match s {
+        Sides::Before => false,
+        Sides::After => true,
+        Sides::Both => true,
+        Sides::Neither => false,
+        Sides::Whole => false,
     }
-    Kind::Outside
+}
+
+fn is_whole(s: Sides) -> bool
+    ensures { λ r. ⌜ r ≡ isWhole s ⌝ }
+{
+    match s {
+        Sides::Before => false,
+        Sides::After => false,
+        Sides::Both => false,
+        Sides::Neither => false,
+        Sides::Whole => true,
+    }
 }
 
 fn wide(b: u8) -> u32
@@ -106,28 +198,19 @@ fn wide(b: u8) -> u32
 }
 
 // What an entry says.
-fn row_by(entry: u8) -> Row
-    ensures { λ r. ⌜ r ≡ rowBy entry ⌝ }
+fn row_by(e: Entry) -> Row
+    ensures { λ r. ⌜ r ≡ rowBy e ⌝ }
 {
+    let kind = e.kind;
+    let sides = e.sides;
     Row {
-        accepted: entry % 4 != 0,
-        kind: kind_by(entry),
-        before: entry / 4 % 2 == 1,
-        after: entry / 8 % 2 == 1,
-        whole: entry / 16 % 2 == 1,
-        quarters: wide(entry / 32),
+        accepted: e.accepted,
+        kind,
+        before: lies_before(sides),
+        after: lies_after(sides),
+        whole: is_whole(sides),
+        quarters: wide(e.quarters),
     }
-}
-
-// The entry of any class; past the table as for a class that is not accepted.
-fn entry_of(class: u32) -> u8
-    ensures { λ r. ⌜ rowBy r ≡ rowOf class ⌝ }
-{
-    if 30 < class {
-        return OUTSIDE;
-    }
-    let i = class as usize;
-    TABLE[i]
 }
 
 // What the table says of any class.
@@ -140,7 +223,8 @@ pub fn row_of(class: u32) -> Row
 pub fn kind_of(class: u32) -> Kind
     ensures { λ r. ⌜ r ≡ kindOf class ⌝ }
 {
-    kind_by(entry_of(class))
+    let e = entry_of(class);
+    e.kind
 }
 
 // The blank on a side of a P character, in units.

@@ -32,6 +32,7 @@ listShort job base ruby lines = ltb base (baseCount job) || (ltb lines (baseCoun
 abbrev pub baseWrong : Job → ℕ → Bool
 baseWrong job i = not (accepted (getD (job .class) i 0)) || (outside 1 4096 (getD (job .width) i 0) || ltb 1 (getD (job .flag) i 0))
 
+-- 3, of a ruby character, which has no flag: "class, width .. not accepted"
 abbrev pub rubyWrong : Job → ℕ → Bool
 rubyWrong job i = not (accepted (getD (job .rubyClass) i 0)) || outside 1 4096 (getD (job .rubyWidth) i 0)
 

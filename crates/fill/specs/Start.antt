@@ -1,19 +1,18 @@
 -- Where the search within a J may begin. Each base character of a J is one em wide (number 8), so up to its c-th character the last block ends 2 em
 -- for each of them behind the block before, or later. A break that passes the measure by that alone needs no try.
 use mathlib.Core.Path.{_≡_, refl, sym, ap, _∙_, subst}
-use mathlib.Core.Bool.{Bool, true, false, cond, not, _&&_, true≢false, false≢true}
+use mathlib.Core.Bool.{Bool, true, false, cond, not, _&&_, true≢false}
 use mathlib.Core.List.{List, [], _∷_}
 use Prim.Native.Nat.{ℕ, zero, suc, _+_, _-_, _*_, _/_, _≤_, _<_, min, max}
-use native.Mathlib.Nat.{mul-assoc, mul-comm, mul-zero, mul-suc, div-lt-iff-lt-mul}
+use native.Mathlib.Nat.{mul-assoc, mul-comm, div-lt-iff-lt-mul}
 use native.Mathlib.Omega.{arith}
-use borrow.Author.Tests.{lt-leb, eqb-true, ltb-true, ltb-false, not-false}
-use lib.Dec.{eqb, ltb}
+use borrow.Author.Tests.{lt-leb, ltb-true, ltb-false}
+use lib.Dec.{ltb}
 use lib.ListN.{length, getD}
-use Rattle.basics.specs.Lists.{sum, any, other, All}
-use Rattle.basics.specs.Laws.{or-none, any-none, all-take, all-drop}
-use Rattle.class.specs.Class.{kanaLike}
+use Rattle.basics.specs.Lists.{sum, All}
+use Rattle.basics.specs.Laws.{all-take, all-drop}
 use Rattle.word.specs.Given.{isJ}
-use Rattle.word.specs.Promise as alone
+use Rattle.word.specs.Ems.{OneEm, one-em, ems-sum, jukugo-ems}
 use Rattle.line.specs.declared.State.{State}
 use Rattle.line.specs.Setting.{furthest}
 use Rattle.line.specs.Least.{origin-near}
@@ -28,10 +27,6 @@ use Rattle.fill.specs.declared.Reached.{Reached}
 use Rattle.fill.specs.declared.Reached.the-variants as reached
 use Rattle.fill.specs.Piece.{Into, pieceUpto, more, good}
 use Rattle.fill.specs.Search.{Here, the-element, into-jukugo, low-end, low-s}
-
-and-none : (a b : Bool) → (a && b) ≡ false → a ≡ true → b ≡ false
-and-none true b e h = e
-and-none false b e h = absurd (false≢true h)
 
 -- the last break that needs a try: up to there the block alone ends within the measure
 abbrev pub lastTry : ℕ → ℕ → ℕ → ℕ → ℕ → ℕ
@@ -54,14 +49,10 @@ abbrev pub ReachesTo : Job → ℕ → ℕ → Reached → Type 0
 ReachesTo job s c (reached.At fit st) = (fit ≡ canSet job s c) × (fit ≡ true → st ≡ stateOf job s c)
 ReachesTo job s c (reached.Refused r) = ⊥
 
--- numbers of which each is v
-ems-sum : (v : ℕ) (xs : List ℕ) → All (λ x. other v x ≡ false) xs → sum xs ≡ v * length xs
-ems-sum v [] a = sym (mul-zero v)
-ems-sum v (x ∷ xs) a = rw (mul-suc v (length xs)) (omega (arith, eqb-true v x (not-false (eqb v x) (a .0)), ems-sum v xs (a .1)))
-
-ems-first : (v : ℕ) (ws : List ℕ) (b n : ℕ) → 0 < n → All (λ x. other v x ≡ false) (entries ws b n) → v ≡ getD ws b 0
-ems-first v ws b zero h a = absurd (omega arith)
-ems-first v ws b (suc n) h a = eqb-true v (getD ws b 0) (not-false (eqb v (getD ws b 0)) (a .0))
+-- the first of so many
+ems-first : (em : ℕ) (ws : List ℕ) (b n : ℕ) → 0 < n → All (OneEm em) (entries ws b n) → em ≡ getD ws b 0
+ems-first em ws b zero h a = absurd (omega arith)
+ems-first em ws b (suc n) h a = one-em em (getD ws b 0) (a .0)
 
 -- a quotient that is passed
 passes : (a k q n : ℕ) → 0 < k → a / (2 * k) ≡ q → q < n → a < 2 * (k * n)
@@ -79,13 +70,10 @@ module _ (job : Job) (s k : ℕ) (x : Piece) (st : State) (here : Here job s k x
   i = max s (x .base) - x .base
 
   abbrev Em : ℕ → Type 0
-  Em w = other (job .em) w ≡ false
+  Em w = OneEm (job .em) w
 
-  -- number 8 is not given
   ems : All Em (entries (job .width) (x .base) (x .bases))
-  ems =
-      let eight = alone.passed (x .form) 0 (given job x) (the-element job s k x st here .good .set 0) .eight in
-      any-none (other (job .em)) (entries (job .width) (x .base) (x .bases)) (or-none (any (λ c. not (kanaLike c)) (given job x .class)) (any (other (job .em)) (given job x .width)) (and-none (isJ (x .form)) _ eight j) .1)
+  ems = jukugo-ems (x .form) 0 (given job x) (the-element job s k x st here .good .set 0) j
 
   pub em-some : 0 < job .em
   em-some =

@@ -1,4 +1,5 @@
--- What the demands say of a job, in their own terms: no search, no loop, and no setting that is worked out. `Demands` has the theorems.
+-- What the demands say of a job, in their own terms: no search and no loop. `Placed` speaks of the line's origins as the engine finds them (`origins`); `lines-stand`
+-- says that they stand as demand 3 has it, and there is only one such setting. `Demands` has the theorems.
 use mathlib.Core.Path.{_≡_}
 use mathlib.Core.Bool.{true}
 use mathlib.Core.List.{List, [], _∷_}

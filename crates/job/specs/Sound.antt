@@ -1,7 +1,7 @@
 -- Every line of a job that passes the door is a line of elements that are set within themselves: what level one promises of a word is what level two asks
 -- of an element. So the theorems of `line` hold of it.
-use mathlib.Core.Path.{_≡_, refl}
-use mathlib.Core.Bool.{Bool, true, false}
+use mathlib.Core.Path.{_≡_, refl, sym, _∙_}
+use mathlib.Core.Bool.{Bool, true, false, true≢false}
 use mathlib.Core.List.{List, [], _∷_, map}
 use mathlib.Core.Logic.{_⊎_, inl, inr}
 use Prim.Native.Nat.{ℕ, zero, suc, _*_, _≤_, _<_, zero-le}
@@ -12,8 +12,10 @@ use Rattle.basics.specs.Lists.{sum, All}
 use Rattle.class.specs.Laws.{before-within, after-within}
 use Rattle.word.specs.declared.Form.{Form}
 use Rattle.word.specs.declared.Form.the-variants.{P, M, G, J}
+use Rattle.word.specs.Given.{Given, hasRuby}
+use Rattle.word.specs.Word as words
 use Rattle.word.specs.Promise as word
-use Rattle.line.specs.Rules.{Inside, Around, Sound, Sounds}
+use Rattle.line.specs.Rules.{Inside, Around, Flush, Sound, Sounds}
 use Rattle.door.specs.declared.Piece.{Piece}
 use Rattle.door.specs.Job.{Job, given}
 use Rattle.door.specs.Entries.{sum-first}
@@ -26,6 +28,18 @@ on-le P depth n h = h
 on-le M depth n h = zero-le
 on-le G depth n h = zero-le
 on-le J depth n h = zero-le
+
+-- a P is all block
+plain-front : (form : Form) (g : Given) → hasRuby form ≡ false → words.wordOf form g .front ≡ 0
+unfolding words.wordOf words.plain
+plain-front P g h = refl
+plain-front M g h = absurd (true≢false h)
+plain-front G g h = absurd (true≢false h)
+plain-front J g h = absurd (true≢false h)
+
+is : (t : Bool) → t ≡ true → T t
+is true e = tt
+is false e = absurd (true≢false (sym e))
 
 is-true : (t : Bool) → T t → t ≡ true
 is-true true h = refl
@@ -43,11 +57,17 @@ module _ (job : Job) (passed : Passed job) where
       let wide : 2 * w ≤ wordOf job p .len = omega (arith, k .block) in
       record {
         some = k .some;
+        flush = flush (k .edge) (hasRuby (p .form)) refl (k .reads);
         before = on-le (p .form) _ _ (omega (arith, before-within c w (getD (job .before) (p .base) 0) (job .em) (omega (arith, b .blanks))));
         after = on-le (p .form) _ _ (omega (arith, after-within c w (getD (job .after) (p .base) 0) (job .em) (omega (arith, b .blanks))));
         shape = λ t. shape (k .shape (is-true (wordOf job p .ruby) t));
       }
     where
+      flush : (wordOf job p .front ≡ 0) ⊎ (wordOf job p .from ≡ 0) → (b : Bool) → hasRuby (p .form) ≡ b → wordOf job p .ruby ≡ hasRuby (p .form) → Flush (seen job p)
+      flush (inl f) b e r = inl f
+      flush (inr f) true e r = inr (is (wordOf job p .ruby) (r ∙ e), f)
+      flush (inr f) false e r = inl (plain-front (p .form) (given job p) e)
+
       shape : word.Inside (wordOf job p) ⊎ word.Around (wordOf job p) → Inside (seen job p) ⊎ Around (seen job p)
       shape (inl h) = inl (record { enters = h .enters; runs = h .runs; leaves = h .leaves })
       shape (inr h) = inr (record { leads = h .leads; trails = h .trails })

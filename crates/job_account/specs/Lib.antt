@@ -1,4 +1,3 @@
-pub mod Flush
 pub mod Theorems
 pub mod First
 pub mod Tell
@@ -8,3 +7,4 @@ pub mod Lines
 pub mod Cases
 pub mod Accepted
 pub mod Outcome
+pub mod Determined

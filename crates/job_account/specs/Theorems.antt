@@ -16,7 +16,6 @@ use Rattle.account.specs.Reasons.{reason, accountOf}
 use Rattle.account.specs.Claims.{First, Tight, Rule}
 use Rattle.account.specs.Theorems.{Accounted}
 use Rattle.account.specs.Theorems as account
-use Rattle.job_account.specs.Flush.{flush}
 
 -- the account of piece i of the line from s up to e
 abbrev pub accountIn : Job → ℕ → ℕ → ℕ → Account
@@ -33,7 +32,7 @@ module _ (job : Job) (passed : Passed job) (s e : ℕ) where
   -- Every piece has a reason, whose own numbers make the gap as wide as it is.
   pub accounted : (i : ℕ) → i < length (lineOf job s e) → Accounted (lineOf job s e) (origins job s e) i
   unfolding origins
-  accounted i h = account.accounted (lineOf job s e) (sounds job passed s e) (flush job passed s e) i h
+  accounted i h = account.accounted (lineOf job s e) (sounds job passed s e) i h
 
   -- The named rule is broken once the piece's block or ruby is one half unit nearer the line's start,
   pub tight : (i : ℕ) → i < length (lineOf job s e) → Tight (lineOf job s e) (origins job s e) i (reasonIn job s e i)

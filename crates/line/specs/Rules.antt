@@ -67,7 +67,8 @@ pub record Apart (es : List Element) (xs : List ℕ) : Type 0 where
   pub rubies : (i j : ℕ) → i < length es → j < length es → (i ≡ j → ⊥) → HasRuby es i → HasRuby es j → Off (rubyAt es xs i) (rubyAt es xs j)
 
 -- 4. "Nothing starts before the line's start or ends after the measure." The measure is in units. Its first half holds of every setting:
--- origins are natural numbers, and block and ruby start at or after their element's.
+-- origins are natural numbers, and block and ruby start at or after their element's. Nor are settings lost by it: a string of each element
+-- starts at its origin (`Flush`, below), so a setting that keeps rule 4 has its origins at or after the line's start (`natural` of Theorems).
 pub record Fit (measure : ℕ) (es : List Element) (xs : List ℕ) : Type 0 where
   pub blocks : (i : ℕ) → i < length es → Within (2 * measure) (blockAt es xs i)
   pub rubies : (i : ℕ) → i < length es → HasRuby es i → Within (2 * measure) (rubyAt es xs i)
@@ -95,8 +96,8 @@ extent (e ∷ es) (x ∷ xs) = max (furthestEnd e x) (extent es xs)
 abbrev pub largest : ℕ
 largest = 4294967295
 
--- An element "already set within itself": some length, depths within it, and ruby that lies within the block or around it. Nothing says
--- that ruby passes the block by as much in front as behind.
+-- An element "already set within itself": some length, a string that starts at its origin, depths within its length, and ruby that lies
+-- within the block or around it. Nothing says that ruby passes the block by as much in front as behind.
 pub record Inside (e : Element) : Type 0 where
   pub enters : e .front ≤ e .from
   pub runs : e .from ≤ e .upto
@@ -106,8 +107,13 @@ pub record Around (e : Element) : Type 0 where
   pub leads : e .from ≤ e .front
   pub trails : e .front + e .len ≤ e .upto
 
+-- "Positions count from the start of the longer string": the block or the ruby starts at the element's origin.
+abbrev pub Flush : Element → Type 0
+Flush e = (e .front ≡ 0) ⊎ (T (e .ruby) × (e .from ≡ 0))
+
 pub record Sound (e : Element) : Type 0 where
   pub some : 0 < e .len
+  pub flush : Flush e
   pub before : e .before ≤ e .len
   pub after : e .after ≤ e .len
   pub shape : T (e .ruby) → Inside e ⊎ Around e

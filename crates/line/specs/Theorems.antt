@@ -3,14 +3,15 @@
 -- a line is declined as too long exactly when nothing that keeps the rules fits the measure.)
 use mathlib.Core.Path.{_≡_, sym, _∙_}
 use mathlib.Core.List.{List, _++_}
-use mathlib.Core.Logic.{_↔_}
-use Prim.Native.Nat.{ℕ, _*_, _≤_, _<_}
+use mathlib.Core.Logic.{_↔_, inl, inr}
+use Prim.Native.Nat.{ℕ, _+_, _*_, _≤_, _<_}
 use native.Mathlib.Omega.{arith}
 use native.Mathlib.Nat.{le-antisymm}
+use lib.Dec.{T}
 use lib.ListN.{length}
 use lib.Seq.{ext-getD}
 use Rattle.line.specs.declared.Element.{Element}
-use Rattle.line.specs.Rules.{org, Apart, Clear, Least, extent, Sounds}
+use Rattle.line.specs.Rules.{org, Apart, Clear, Least, extent, Flush, Sound, Sounds}
 use Rattle.line.specs.Setting.{start, settleFrom, settle, run, furthest, Follows}
 use Rattle.line.specs.Pairs as pairs
 use Rattle.line.specs.Least.{settle-follows, settle-least, settle-append}
@@ -61,3 +62,19 @@ prefix a b = settle-append start a b
 -- The extent is the furthest end of the last state.
 pub extent-state : (es : List Element) → extent es (settle es) ≡ furthest (run start es)
 extent-state es = omega (arith, extent-run start es)
+
+-- Natural numbers for origins lose nothing: an element whose block and ruby start at or after the line's start, wherever they stand together, has its origin
+-- there too. Without ruby its block is all there is.
+pub natural : (e : Element) → Sound e → T (e .ruby) → (b r : ℕ) → b + e .from ≡ r + e .front → (x : ℕ) × (b ≡ x + e .front) × (r ≡ x + e .from)
+natural e s t b r h = go (s .flush)
+  where
+    go : Flush e → (x : ℕ) × (b ≡ x + e .front) × (r ≡ x + e .from)
+    go (inl f) = (b, omega arith, omega arith)
+    go (inr (_, f)) = (r, omega arith, omega arith)
+
+pub natural-block : (e : Element) → Sound e → (T (e .ruby) → ⊥) → (b : ℕ) → (x : ℕ) × (b ≡ x + e .front)
+natural-block e s n b = go (s .flush)
+  where
+    go : Flush e → (x : ℕ) × (b ≡ x + e .front)
+    go (inl f) = (b, omega arith)
+    go (inr (t, f)) = absurd (n t)

@@ -4,7 +4,7 @@ ghost use mathlib.Core.Path.{_≡_};
 ghost use Prim.Native.Nat.{min};
 ghost use lib.ListN.{drop};
 ghost use mathlib.Core.List.{_++_};
-ghost use Rattle.line.specs.Rules.{Inside, Around};
+ghost use Rattle.line.specs.Rules.{Inside, Around, Flush};
 ghost use Rattle.line.specs.Setting.{start, run, settle};
 ghost use Rattle.line.specs.Promise.{lists, shortest, elementAt, line, SetWithin, AllWithin, Promise};
 ghost use Rattle.line.specs.Passes.{Tells, Has, Ready, tried};
@@ -45,6 +45,23 @@ fn around(e: Element) -> bool
     true
 }
 
+// Whether its block or its ruby starts at its origin.
+fn flush(e: Element) -> bool
+    ensures { λ r. ⌜ Tells r (Flush e) ⌝ }
+{
+    if e.front == 0 {
+        return true;
+    }
+    let ruby = e.ruby;
+    if !ruby {
+        return false;
+    }
+    if 0 < e.from {
+        return false;
+    }
+    true
+}
+
 // Whether e is set within itself, and the flag that says whether it has ruby is 0 or 1.
 fn set_within(flag: u32, e: Element) -> bool
     ensures { λ r. ⌜ Tells r (SetWithin flag e) ⌝ }
@@ -59,6 +76,9 @@ fn set_within(flag: u32, e: Element) -> bool
         return false;
     }
     if e.len < e.after {
+        return false;
+    }
+    if !flush(e) {
         return false;
     }
     let ruby = e.ruby;

@@ -1,30 +1,23 @@
 -- An accepted job can be printed: what the entry point leaves is all that `write_result` asks for, given room for the longest text.
-use mathlib.Core.Path.{_≡_, refl, sym, ap, _∙_}
+use mathlib.Core.Path.{_≡_, sym, ap, _∙_}
 use mathlib.Core.List.{List}
-use mathlib.Core.Option.{Option, none, some}
 use Prim.Native.Nat.{ℕ, _≤_}
 use native.Mathlib.Omega.{arith}
 use lib.ListN.{length, take, drop, length-append}
 use lib.Seq.{take-at}
-use Rattle.refusal.specs.declared.Refusal.{Refusal}
 use Rattle.door.specs.Job.{Job}
 use Rattle.door.specs.Passed.{Passed, passed}
 use Rattle.job.specs.declared.Answer.the-variants.{Set}
 use Rattle.job.specs.Line.{ends, baseIn, rubyIn, byLine}
-use Rattle.job.specs.Outcome.{Outcome, after, outcome}
+use Rattle.job.specs.Outcome.{Outcome, outcome}
 use Rattle.job.specs.Declined.{fills}
-use Rattle.job.specs.Demands.{Accepted, given-refusal, filled-exactly, lines-filled, lines-told, base-told, ruby-told}
+use Rattle.job.specs.Demands.{Accepted, set-accepted, filled-exactly, lines-filled, lines-told, base-told, ruby-told}
 use Rattle.result.specs.Result.{ResultReady}
 use Rattle.result.specs.Short.{longest, result-short}
 
 module _ (job : Job) (base ruby lines : List ℕ) {n : ℕ} (set : outcome job base ruby lines .answer ≡ Set n) where
   pub accepted : Accepted job base ruby lines
-  unfolding outcome after
-  accepted = go (given-refusal job base ruby lines) set
-    where
-      go : (f : Option Refusal) → after job base ruby lines f .answer ≡ Set n → f ≡ none
-      go none e = refl
-      go (some q) e = absurd (let z : _≡_ {A = ℕ} 0 1 = cc in omega arith)
+  accepted = set-accepted job base ruby lines n set
 
   pub many : n ≡ length (ends job)
   many = let e = sym set ∙ lines-told job base ruby lines accepted .0 in cc

@@ -1,4 +1,5 @@
--- What level one promises of a word to those above: lengths, protrusions and limits. Lines and jobs use these laws and no definition of this crate.
+-- What level one promises of a word to those above: lengths, protrusions and limits. Lines, the filling and the writing use these laws; the job's meaning names
+-- the definitions that they are about (`answer`, `wordOf`, `places`).
 use mathlib.Core.Path.{_≡_, refl, sym, subst}
 use mathlib.Core.Bool.{Bool, true, false, cond, not, false≢true, true≢false}
 use mathlib.Core.List.{List, map}

@@ -1,6 +1,7 @@
 -- Each test is one field of the record, and one that fails denies the whole. Of an element with ruby the two shapes are tried in turn.
 use mathlib.Core.Path.{sym, subst}
 use mathlib.Core.Logic.{inl, inr, ⊎-elim}
+use borrow.Author.Tests.{not-true, not-false}
 use lib.Dec.{T}
 use Rattle.line.specs.Passes.{told, denied}
 use borrow.Author.Needs.{needs}
@@ -20,37 +21,64 @@ returns-3 c = denied (λ w. omega (arith, w .sound .before))
 returns-4 : tie.Need-returns-4
 returns-4 c = denied (λ w. omega (arith, w .sound .after))
 
+flush-requires : tie.Need-flush-requires
+flush-requires c κs = search needs
+
+returns-5 : tie.Need-returns-5
+returns-5 c = denied (λ w. c .before .flush .ensures .no (not-true _ (c .if5 .taken)) (w .sound .flush))
+
 inside-requires : tie.Need-inside-requires
 inside-requires c κs = search needs
 
 around-requires : tie.Need-around-requires
 around-requires c κs = search needs
 
-returns-5 : tie.Need-returns-5
-returns-5 c =
+returns-6 : tie.Need-returns-6
+returns-6 c =
+    let flush = c .before .before .before in
     told
     (record {
       flagged = omega arith;
-      sound = record { some = omega arith; before = omega arith; after = omega arith; shape = λ t. inl (c .before .inside .ensures .yes (c .if6 .taken)) };
-    })
-
-returns-6 : tie.Need-returns-6
-returns-6 c =
-    let inside = c .before .before in
-    record {
-      yes = λ q. record {
-        flagged = omega arith;
-        sound = record { some = omega arith; before = omega arith; after = omega arith; shape = λ t. inr (c .around .ensures .yes q) };
+      sound = record {
+        some = omega arith;
+        flush = flush .before .flush .ensures .yes (not-false _ (flush .if5 .left));
+        before = omega arith;
+        after = omega arith;
+        shape = λ t. inl (c .before .inside .ensures .yes (c .if7 .taken));
       };
-      no = λ q w. ⊎-elim (inside .inside .ensures .no (c .before .if6 .left)) (c .around .ensures .no q) (w .sound .shape (subst T (sym (inside .before .if5 .taken)) tt));
-    }
+    })
 
 returns-7 : tie.Need-returns-7
 returns-7 c =
+    let inside = c .before .before in
+    let flush = inside .before .before in
+    record {
+      yes = λ q. record {
+        flagged = omega arith;
+        sound = record {
+          some = omega arith;
+          flush = flush .before .flush .ensures .yes (not-false _ (flush .if5 .left));
+          before = omega arith;
+          after = omega arith;
+          shape = λ t. inr (c .around .ensures .yes q);
+        };
+      };
+      no = λ q w. ⊎-elim (inside .inside .ensures .no (c .before .if7 .left)) (c .around .ensures .no q) (w .sound .shape (subst T (sym (inside .before .if6 .taken)) tt));
+    }
+
+returns-8 : tie.Need-returns-8
+returns-8 c =
+    let flush = c .before in
     told
     (record {
       flagged = omega arith;
-      sound = record { some = omega arith; before = omega arith; after = omega arith; shape = λ t. absurd (subst T (c .if5 .left) t) };
+      sound = record {
+        some = omega arith;
+        flush = flush .before .flush .ensures .yes (not-false _ (flush .if5 .left));
+        before = omega arith;
+        after = omega arith;
+        shape = λ t. absurd (subst T (c .if6 .left) t);
+      };
     })
 
 pub set-within-spec : {M : Type 1} → statement M
@@ -61,8 +89,10 @@ set-within-spec =
     returns-2
     returns-3
     returns-4
+    flush-requires
+    returns-5
     inside-requires
     around-requires
-    returns-5
     returns-6
-    returns-7)
+    returns-7
+    returns-8)

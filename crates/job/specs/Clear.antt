@@ -1,0 +1,57 @@
+-- "Show that every reading stands clear of its neighbours": what that means of a line of a job, by the positions of its characters in the result lists, their
+-- widths, and nothing else. `Characters` has the theorem: it holds of every line that is set.
+use mathlib.Core.Path.{_≡_}
+use mathlib.Core.List.{List}
+use mathlib.Core.Logic.{_⊎_}
+use Prim.Native.Nat.{ℕ, suc, _+_, _*_, _≤_, _<_}
+use lib.ListN.{length, getD}
+use Rattle.class.specs.Class.{depthBefore, depthAfter}
+use Rattle.word.specs.declared.Form.the-variants.{P}
+use Rattle.door.specs.declared.Piece.{Piece}
+use Rattle.door.specs.Job.{Job}
+use Rattle.job.specs.Line.{pieces}
+use Rattle.job.specs.Promise.{pieceOf}
+
+-- Character i is one of piece k of the line from s up to e. A piece is an element of the job, or what of a J stands in the line (`pieces`); `first` is its first
+-- character and `many` how many it has.
+pub record Of (first many : Piece → ℕ) (job : Job) (s e k i : ℕ) : Type 0 where
+  pub there : k < length (pieces job s e)
+  pub low : first (pieceOf job s e k) ≤ i
+  pub high : i < first (pieceOf job s e k) + many (pieceOf job s e k)
+
+abbrev pub BaseOf : Job → ℕ → ℕ → ℕ → ℕ → Type 0
+BaseOf = Of (λ p. p .base) (λ p. p .bases)
+
+abbrev pub RubyOf : Job → ℕ → ℕ → ℕ → ℕ → Type 0
+RubyOf = Of (λ p. p .ruby) (λ p. p .rubies)
+
+-- where character i starts, and where it ends, by a list of positions and one of widths: positions are in half units, widths in units
+abbrev pub start : List ℕ → ℕ → ℕ
+start positions i = getD positions i 0
+
+abbrev pub end : List ℕ → List ℕ → ℕ → ℕ
+end positions widths i = getD positions i 0 + 2 * getD widths i 0
+
+-- "The depth is at most the blank as given, and at most half an em; for class 5 a quarter em": on base character j, from its start and from its end
+abbrev pub onStart : Job → ℕ → ℕ
+onStart job j = depthBefore (getD (job .class) j 0) (getD (job .width) j 0) (getD (job .before) j 0) (job .em)
+
+abbrev pub onEnd : Job → ℕ → ℕ
+onEnd job j = depthAfter (getD (job .class) j 0) (getD (job .width) j 0) (getD (job .after) j 0) (job .em)
+
+-- The line from s up to e, by the positions of all base and all ruby characters of the job.
+pub record StandsClear (job : Job) (base ruby : List ℕ) (s e : ℕ) : Type 0 where
+  -- The base characters of the line stand in the order of the text, and none reaches a later one: be they of one string or of two elements.
+  pub bases : (i j : ℕ) → s ≤ i → i < j → j < e → end base (job .width) i ≤ start base j
+  -- Nor does a ruby character of the line reach a later one. "No two rubies overlap. Touching is allowed."
+  pub rubies : (k m i j : ℕ) → RubyOf job s e k i → RubyOf job s e m j → i < j → end ruby (job .rubyWidth) i ≤ start ruby j
+  -- "Ruby keeps off every other element's block": a ruby character ends before every base character of a later element starts, except that it may reach past
+  -- the start of "the P element just after it", as deep as is permitted;
+  pub ahead : (k m i j : ℕ) → RubyOf job s e k i → BaseOf job s e m j → k < m →
+      (end ruby (job .rubyWidth) i ≤ start base j) ⊎ ((m ≡ suc k) × (pieceOf job s e m .form ≡ P) × (end ruby (job .rubyWidth) i ≤ start base j + onStart job j))
+  -- and starts after every base character of an earlier element ends, except that it may lie on the end of "the P element just before it".
+  pub behind : (k m i j : ℕ) → RubyOf job s e k i → BaseOf job s e m j → m < k →
+      (end base (job .width) j ≤ start ruby i) ⊎ ((k ≡ suc m) × (pieceOf job s e m .form ≡ P) × (end base (job .width) j ≤ start ruby i + onEnd job j))
+  -- "Nothing starts before the line's start", which is 0, "or ends after the measure."
+  pub basesFit : (i : ℕ) → s ≤ i → i < e → end base (job .width) i ≤ 2 * job .measure
+  pub rubiesFit : (k i : ℕ) → RubyOf job s e k i → end ruby (job .rubyWidth) i ≤ 2 * job .measure
