@@ -334,10 +334,13 @@ def reason_words(reason):
 
 
 def main(arguments):
+    """The exit status."""
     if arguments != []:
         sys.exit('usage: account.py < sheet')
-    sys.stdout.buffer.write(text(sys.stdin.buffer.read()))
+    written = text(sys.stdin.buffer.read())
+    sys.stdout.buffer.write(written)
+    return second.status_of(written)
 
 
 if __name__ == '__main__':
-    main(sys.argv[1:])
+    sys.exit(main(sys.argv[1:]))

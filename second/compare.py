@@ -4,7 +4,8 @@
 
 CMD reads framed sheets on standard input (`sheet LENGTH`, then the bytes) and
 writes for each of them `answer LENGTH` and the answer's bytes.  With --single
-CMD is run once for each sheet: the sheet's bytes in, the answer's bytes out.
+CMD is run once for each sheet: the sheet's bytes in, the answer's bytes out,
+status 0, or 1 where the answer is a refusal.
 Every sheet in kept/ is compared first, then the first N sheets of the seed.
 A sheet that shows a difference is printed with both answers and put into
 kept/, up to twenty of them in one run; the rest are counted.
@@ -68,14 +69,18 @@ def batches(sheets):
         yield batch
 
 
-def run_once(command, content):
-    """(what one run of the engine wrote, what was odd about the run)"""
+def run_once(command, content, single=False):
+    """(what one run of the engine wrote, what was odd about the run)
+
+    A run on a single sheet ends with status 1 where that is refused.
+    """
     try:
         done = subprocess.run(command, input=content, stdout=subprocess.PIPE,
                               timeout=LONGEST)
     except subprocess.TimeoutExpired as late:
         return late.output or b'', 'not ended after %d s' % LONGEST
-    odd = '' if done.returncode == 0 else 'status %d' % done.returncode
+    due = second.status_of(done.stdout) if single else 0
+    odd = '' if done.returncode == due else 'status %d' % done.returncode
     return done.stdout, odd
 
 
@@ -123,7 +128,7 @@ def single_answers(command, batch):
     """The same with one run of the engine for each sheet."""
     answers = []
     for sheet in batch:
-        answer, odd = run_once(command, sheet)
+        answer, odd = run_once(command, sheet, single=True)
         if odd:
             print('a run of the engine: %s' % odd)
         answers.append(None if odd else answer)

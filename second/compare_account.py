@@ -1,9 +1,11 @@
 """Compares an account program with the second program's own account.
 
     python3 compare_account.py [--sheets N] [--seed S] [--program PATH]
+                               [--framed]
 
 The program reads a sheet on standard input and writes its account; it is run
-once for each sheet.  PATH is an executable (bin/account where none is given)
+once for each sheet, and ends with status 0, or 1 where the sheet is refused.
+With --framed it takes many sheets in one run, as compare.py has it.  PATH is an executable (bin/account where none is given)
 or a command such as 'python3 second/account.py'.  Every sheet in kept/ goes
 through it first, then the first N sheets of the seed.  What it writes is read
 by the form of README.md, "The account", and every word of it is checked:
@@ -351,13 +353,27 @@ def show_difference(path, wrong):
         print('    and %d more' % (len(wrong) - WRONG))
 
 
-def compare_all(command, folder, seed, count):
+def one_by_one(command, sheets):
+    """Each sheet with what the program wrote and what was odd about it."""
+    for sheet in sheets:
+        yield (sheet, *compare.run_once(command, sheet, single=True))
+
+
+def in_frames(command, sheets):
+    """The same with many sheets in one run."""
+    for batch in compare.batches(sheets):
+        for sheet, written in zip(batch,
+                                  compare.engine_answers(command, batch)):
+            yield (sheet, b'', 'no answer') if written is None else (
+                sheet, written, '')
+
+
+def compare_all(command, folder, seed, count, runs=one_by_one):
     """(what was seen, differences)"""
     seen, differences = Seen(), 0
-    for sheet in all_sheets(folder, seed, count):
+    for sheet, written, odd in runs(command, all_sheets(folder, seed, count)):
         found = account.verdict(sheet)
         seen.add(found)
-        written, odd = compare.run_once(command, sheet)
         wrong = wrong_with_run(sheet, found, written, odd)
         if wrong:
             differences += 1
@@ -376,14 +392,16 @@ def main():
     parser.add_argument('--sheets', type=int, default=1000)
     parser.add_argument('--seed', type=int, default=3)
     parser.add_argument('--program', default=PROGRAM)
+    parser.add_argument('--framed', action='store_true')
     parser.add_argument('--kept', default=os.path.join(HERE, 'kept'),
                         help='the folder of sheets that showed a difference')
     chosen = parser.parse_args()
     command = command_of(chosen.program)
     if not command or shutil.which(command[0]) is None:
         sys.exit('%s cannot be run' % chosen.program)
-    seen, differences = compare_all(command, chosen.kept, chosen.seed,
-                                    chosen.sheets)
+    seen, differences = compare_all(
+        command, chosen.kept, chosen.seed, chosen.sheets,
+        in_frames if chosen.framed else one_by_one)
     print(seen.words())
     print('compared %d sheets, %d elements, %d differences'
           % (seen.sheets, seen.elements, differences))

@@ -1031,9 +1031,17 @@ def write_frame(stream, name, content):
     stream.write(content)
 
 
+def status_of(text):
+    """The status after one sheet: 1 where it is refused."""
+    return 1 if text.startswith(b'refused ') else 0
+
+
 def main(arguments):
+    """The exit status."""
     if arguments == []:
-        sys.stdout.buffer.write(answer(sys.stdin.buffer.read()))
+        text = answer(sys.stdin.buffer.read())
+        sys.stdout.buffer.write(text)
+        return status_of(text)
     elif arguments == ['--framed']:
         sheet = read_frame(sys.stdin.buffer, b'sheet')
         while sheet is not None:
@@ -1041,7 +1049,8 @@ def main(arguments):
             sheet = read_frame(sys.stdin.buffer, b'sheet')
     else:
         sys.exit('usage: second.py [--framed]')
+    return 0
 
 
 if __name__ == '__main__':
-    main(sys.argv[1:])
+    sys.exit(main(sys.argv[1:]))

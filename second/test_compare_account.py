@@ -24,7 +24,7 @@ import generate     # noqa: E402
 import second       # noqa: E402
 from account import Clear, Drawn, Reason, Refusal, text, verdict  # noqa: E402
 from compare_account import parse, wrong_things  # noqa: E402
-from test_second import EXAMPLE, g, j, m, p, sheet  # noqa: E402
+from test_second import EXAMPLE, g, j, m, p, quiet, sheet  # noqa: E402
 
 EXAMPLES = os.path.join(os.path.dirname(HERE), 'examples')
 
@@ -565,6 +565,7 @@ import account
 content = account.text(sys.stdin.buffer.read())
 %s
 sys.stdout.buffer.write(content)
+sys.exit(content.startswith(b'refused '))
 '''
 
 
@@ -605,6 +606,7 @@ class Programs(unittest.TestCase):
                        'content = content.replace(b"of 1\\n", b"of 0\\n")',
                        'content = content[:-1]',
                        'sys.stdout.buffer.write(b" ")',
+                       'sys.stdout.buffer.write(content)\nsys.exit(0)',
                        'sys.exit(0)'):
             status, rows, kept = self.compared(change)
             self.assertEqual(status, 1, change)
@@ -620,6 +622,21 @@ class Programs(unittest.TestCase):
         self.assertEqual(status, 1)
         self.assertEqual(rows[1], '    the run: status 3')
         self.assertRegex(rows[-1], r', 4 differences$')
+
+    def test_many_in_one_run(self):
+        framed = ('import sys; sys.path.insert(0, %r)\n'
+                  'import account, second\n'
+                  'while True:\n'
+                  ' sheet = second.read_frame(sys.stdin.buffer, b"sheet")\n'
+                  ' if sheet is None: break\n'
+                  ' second.write_frame(sys.stdout.buffer, b"answer",'
+                  ' account.text(sheet)%%s)' % HERE)
+        with tempfile.TemporaryDirectory() as folder, quiet():
+            for change, differences in (('', 0), ('[1:]', 15)):
+                command = [sys.executable, '-B', '-c', framed % change]
+                _, found = compare_account.compare_all(
+                    command, folder, 5, 15, compare_account.in_frames)
+                self.assertEqual(found, differences)
 
     def test_no_program(self):
         status, rows = self.run_it('--program', 'no/such/program')

@@ -1309,6 +1309,12 @@ class Programs(Case):
                               stdout=subprocess.PIPE, check=True)
         self.assertEqual(done.stdout, EXAMPLE_RESULT)
 
+    def test_one_sheet_that_is_refused(self):
+        done = subprocess.run(own_program(), input=b'',
+                              stdout=subprocess.PIPE)
+        self.assertEqual((done.stdout, done.returncode),
+                         (b'refused 13 1\n', 1))
+
     def test_framed(self):
         frames = (b'sheet %d\n' % len(EXAMPLE) + EXAMPLE + b'sheet 0\n'
                   + b'sheet 2\nx\n')
@@ -1352,6 +1358,17 @@ class Programs(Case):
         with tempfile.TemporaryDirectory() as folder, quiet():
             self.assertEqual(compare.compare(dying, folder, 5, 2,
                                              compare.single_answers), (2, 2))
+        # An engine that answers rightly and always ends with status 0.
+        careless = [sys.executable, '-B', '-c', (
+            'import sys; sys.path.insert(0, %r); import second\n'
+            'second.main([])' % HERE)]
+        refused = sum(answer(text).startswith(b'refused')
+                      for text in generate.sheets(5, 12))
+        self.assertGreater(refused, 0)
+        with tempfile.TemporaryDirectory() as folder, quiet():
+            self.assertEqual(compare.compare(careless, folder, 5, 12,
+                                             compare.single_answers),
+                             (12, refused))
 
     def test_compare_keeps_no_more_than_it_shows(self):
         dumb = [sys.executable, '-c', '']

@@ -2,4 +2,5 @@ pub mod Answer
 pub mod Tell
 pub mod Whole
 pub mod Determined
+pub mod Form
 pub mod Cases

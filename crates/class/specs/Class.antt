@@ -24,6 +24,7 @@ unfoldable pub kanaLike : ℕ → Bool
 unfolding accepted
 kanaLike c = accepted c && not (within 24 27 c)
 
+-- "*Western* means classes 24, 25 and 27. *Kana-like* means every accepted class but 24 to 27." Class 26 is accepted and neither; what is not accepted is outside.
 unfoldable pub kindOf : ℕ → Kind
 unfolding western kanaLike
 kindOf c = cond (western c) Western (cond (kanaLike c) KanaLike (cond (eqb c 26) Space Outside))

@@ -4,3 +4,7 @@ pub mod Ready
 pub mod Runs
 pub mod Reading
 pub mod Whole
+pub mod Print
+pub mod Printed
+pub mod Breaks
+pub mod Determined

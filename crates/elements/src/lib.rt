@@ -5,7 +5,8 @@ ghost use mathlib.Core.Path.{_≡_};
 ghost use lib.Seq.{sets};
 ghost use Rattle.rows.specs.Table.{strided, laid};
 ghost use Rattle.elements.specs.Element.{plain, mono, group, either, short, jukugo, element, rowOf};
-ghost use Rattle.elements.specs.Elements.{lines, elements};
+ghost use Rattle.elements.specs.Elements.{lines};
+ghost use Rattle.elements.specs.Determined.{ElementsRead};
 ghost use Rattle.elements.specs.Ready.{RunsReady, PutReady, LinesReady, ElementsReady};
 
 // An element as its line has it: the kind's letter, its base and ruby counts, and how many runs its line holds.
@@ -195,7 +196,7 @@ fn lines_at(
 // The lines under the section's first line.
 pub fn elements_at(s: &[u8], head: rows::Part, table: &mut [u32], runs: &mut [u32]) -> Elements
     requires { ⌜ ElementsReady head (now table) (now runs) ⌝ }
-    ensures { λ r. ⌜ (r ≡ elements (now (s .entry)) head .end) × (now (table .exit) ≡ laid (now (table .entry)) 0 1024 (elements (now (s .entry)) head .rows)) × (now (runs .exit) ≡ sets (now (runs .entry)) 0 (elements (now (s .entry)) head .runs)) ⌝ }
+    ensures { λ r. ⌜ ElementsRead (now (s .entry)) head (now (table .entry)) (now (runs .entry)) r (now (table .exit)) (now (runs .exit)) ⌝ }
 {
     match head {
         rows::Part::Refused(why) => Elements::Refused(why),

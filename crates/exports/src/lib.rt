@@ -3,7 +3,7 @@
 ghost use mathlib.Core.Path.{_≡_};
 ghost use Rattle.text.specs.Print.{Wrote};
 ghost use Rattle.door.specs.Job.{jobOf};
-ghost use Rattle.setter.specs.Answer.{answerText};
+ghost use Rattle.setter.specs.Answer.{answerText, Fits};
 ghost use Rattle.account_sheet.specs.Answer.{accountOfSheet};
 ghost use Rattle.exports.specs.Told.{told, Few, Left, Accounted};
 
@@ -78,6 +78,7 @@ pub extern "C" fn bv_set_job(
 #[no_mangle]
 pub extern "C" fn bv_set_sheet(sheet: &[u8], out: &mut [u8; 131072]) -> usize
     ensures { λ r. ⌜ Wrote (now (out .entry)) 0 (answerText (now (sheet .entry))) r (now (out .exit)) ⌝ }
+    ensures { λ r. ⌜ Fits r (now (out .exit)) ⌝ }
 {
     let mut set = [0; 2];
     let mut base = [0; 5120];
@@ -148,6 +149,7 @@ pub extern "C" fn bv_account_job(
 #[no_mangle]
 pub extern "C" fn bv_account_sheet(sheet: &[u8], out: &mut [u8; 131072]) -> usize
     ensures { λ r. ⌜ Wrote (now (out .entry)) 0 (accountOfSheet (now (sheet .entry))) r (now (out .exit)) ⌝ }
+    ensures { λ r. ⌜ Fits r (now (out .exit)) ⌝ }
 {
     let mut set = [0; 2];
     let mut base = [0; 5120];

@@ -7,3 +7,4 @@ pub mod Lines
 pub mod Cases
 pub mod Accepted
 pub mod Outcome
+pub mod Determined

@@ -8,3 +8,4 @@ pub mod Result
 pub mod Short
 pub mod Accepted
 pub mod Determined
+pub mod Refused

@@ -3,3 +3,7 @@ pub mod Table
 pub mod Reading
 pub mod Columns
 pub mod Whole
+pub mod Print
+pub mod Printed
+pub mod Breaks
+pub mod Determined

@@ -4,8 +4,9 @@
 ghost use mathlib.Core.Path.{_≡_};
 ghost use Prim.Native.Nat.{_+_, _<_, _^_};
 ghost use Rattle.text.specs.Text.{stopOf};
-ghost use Rattle.rows.specs.Table.{strided, laid, FieldsReady, RowsReady, SectionReady};
-ghost use Rattle.rows.specs.Section.{fields, headOf, rowsOf, section, lineOf};
+ghost use Rattle.rows.specs.Table.{FieldsReady, RowsReady, SectionReady};
+ghost use Rattle.rows.specs.Section.{headOf, lineOf};
+ghost use Rattle.rows.specs.Determined.{FieldsRead, RowsRead, SectionRead};
 
 // How far the reading has come: the section's count, the place past what was read and the number of the line there; or why the sheet is refused.
 pub enum Part {
@@ -30,7 +31,7 @@ pub fn fields_at(
     step: usize,
 ) -> text::Place
     requires { ⌜ FieldsReady k to step (now out) ⌝ }
-    ensures { λ r. ⌜ (r ≡ fields k (now (s .entry)) from .end) × (now (out .exit) ≡ strided (now (out .entry)) to step (fields k (now (s .entry)) from .values)) ⌝ }
+    ensures { λ r. ⌜ FieldsRead k (now (s .entry)) from to step (now (out .entry)) r (now (out .exit)) ⌝ }
 {
     let mut at = from;
     let mut p = to;
@@ -50,7 +51,7 @@ pub fn fields_at(
 // The lines under a section's first line, into the columns of its table.
 pub fn rows_at(s: &[u8], head: Part, k: usize, most: usize, out: &mut [u32]) -> Part
     requires { ⌜ RowsReady k most head (now out) ⌝ }
-    ensures { λ r. ⌜ (r ≡ rowsOf k (now (s .entry)) head .end) × (now (out .exit) ≡ laid (now (out .entry)) 0 most (rowsOf k (now (s .entry)) head .rows)) ⌝ }
+    ensures { λ r. ⌜ RowsRead k most (now (s .entry)) head (now (out .entry)) r (now (out .exit)) ⌝ }
 {
     let Part::Read(n, from, first) = head else {
         return head;
@@ -100,7 +101,7 @@ pub fn section_at(
     out: &mut [u32],
 ) -> Part
     requires { ⌜ SectionReady k most last (now out) ⌝ }
-    ensures { λ r. ⌜ (r ≡ section (now (w .entry)) k most which (now (s .entry)) last .end) × (now (out .exit) ≡ laid (now (out .entry)) 0 most (section (now (w .entry)) k most which (now (s .entry)) last .rows)) ⌝ }
+    ensures { λ r. ⌜ SectionRead (now (w .entry)) k most which (now (s .entry)) last (now (out .entry)) r (now (out .exit)) ⌝ }
 {
     rows_at(s, head_at(s, last, w, most, which), k, most as usize, out)
 }

@@ -3,4 +3,7 @@ pub mod Over
 pub mod Tell
 pub mod Whole
 pub mod Determined
+pub mod Sheet
+pub mod Given
+pub mod Form
 pub mod Cases

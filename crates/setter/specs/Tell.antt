@@ -34,11 +34,13 @@ module _ (job : Job) (base ruby lines : List ℕ) where
       go none e = absurd (let z : _≡_ {A = ℕ} 0 1 = cc in omega arith)
       go (some q) e = let h : q ≡ r = cc in ap {B = Option Refusal} some h
 
-  refused-text : {r : Refusal} → outcome job base ruby lines .answer ≡ Refused r → text ≡ refusalText r
+  -- the text of a job is that of the refusal that its outcome has
+  pub refused-text : {r : Refusal} → outcome job base ruby lines .answer ≡ Refused r → text ≡ refusalText r
   unfolding jobText textBy
   refused-text e = rw (refused-given e)
 
-  set-text : {n : ℕ} → outcome job base ruby lines .answer ≡ Set n → text ≡ resultText job (outcome job base ruby lines .base) (outcome job base ruby lines .ruby)
+  -- or of the positions that its outcome leaves in the result lists
+  pub set-text : {n : ℕ} → outcome job base ruby lines .answer ≡ Set n → text ≡ resultText job (outcome job base ruby lines .base) (outcome job base ruby lines .ruby)
   unfolding jobText textBy setText
   set-text e =
       let ok = accepted job base ruby lines e in

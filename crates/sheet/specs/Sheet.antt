@@ -1,6 +1,7 @@
--- A job sheet over its bytes (document 01, "The job sheet"): what is read of each section, and how the reading ends. "The sheet is read top to bottom and the first fault met, 13 or a count over its maximum (2), is given".
+-- A job sheet over its bytes (document 01, "The job sheet"): what is read of each section, and how the reading ends. "The sheet is read top to bottom and the first fault met, 13 or a count over
+-- its maximum (2), is given". Which bytes are a sheet, without a reader, is said in Form.
 use mathlib.Core.Bool.{cond}
-use mathlib.Core.List.{List, [], _∷_}
+use mathlib.Core.List.{List}
 use mathlib.Core.Path.{_≡_}
 use Prim.Native.Nat.{ℕ}
 use lib.Dec.{ltb, eqb}
@@ -8,6 +9,7 @@ use lib.ListN.{length, getD}
 use lib.Seq.{sets}
 use Rattle.refusal.specs.declared.Refusal.the-variants.{Form}
 use Rattle.text.specs.Text.{word}
+use Rattle.text.specs.Print.{bytes}
 use Rattle.rows.specs.declared.Part.{Part}
 use Rattle.rows.specs.declared.Part.the-variants.{Read, Refused}
 use Rattle.rows.specs.Section.{onPlace, Rows, rowsOf, section, headOf, countOf}
@@ -18,18 +20,18 @@ use Rattle.elements.specs.Elements.{Listed, elements}
 use Rattle.sheet.specs.declared.Reading.{Reading}
 use Rattle.sheet.specs.declared.Reading.the-variants.{Sound, Refused as SheetRefused}
 
--- `set 2` and LF, and the words of the other sections, in bytes
+-- `set 2` and LF, and the words of the other sections
 abbrev pub setWord : List ℕ
-setWord = 115 ∷ 101 ∷ 116 ∷ 32 ∷ 50 ∷ 10 ∷ []
+setWord = bytes "set 2\n"
 
 abbrev pub baseWord : List ℕ
-baseWord = 98 ∷ 97 ∷ 115 ∷ 101 ∷ 32 ∷ []
+baseWord = bytes "base "
 
 abbrev pub rubyWord : List ℕ
-rubyWord = 114 ∷ 117 ∷ 98 ∷ 121 ∷ 32 ∷ []
+rubyWord = bytes "ruby "
 
 abbrev pub elemWord : List ℕ
-elemWord = 101 ∷ 108 ∷ 101 ∷ 109 ∷ 32 ∷ []
+elemWord = bytes "elem "
 
 -- "0 if over 65,535 bytes", "over-length comes before both"; `set 2` is a fixed text, and two lines follow it
 unfoldable pub opening : List ℕ → Part

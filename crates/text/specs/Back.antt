@@ -18,12 +18,12 @@ more-digit d stop v at l hs hd hm =
     let e : 48 + d - 48 ≡ d = omega arith in
     rw (ne-eqb (48 + d) stop (λ q. omega arith), le-ltb (48 + d) 48 (omega arith), le-ltb 57 (48 + d) (omega arith), e, le-ltb most (v * 10 + d) hm)
 
-tens : (k : ℕ) → 0 < 10 ^ k
+pub tens : (k : ℕ) → 0 < 10 ^ k
 tens zero = omega arith
 tens (suc k) = rw pow-suc (omega (arith, tens k))
 
 -- the value after one more digit
-value : (k n v : ℕ) → (v * 10 + n / 10 ^ k % 10) * 10 ^ k + n % 10 ^ k ≡ v * 10 ^ suc k + n % 10 ^ suc k
+pub value : (k n v : ℕ) → (v * 10 + n / 10 ^ k % 10) * 10 ^ k + n % 10 ^ k ≡ v * 10 ^ suc k + n % 10 ^ suc k
 value k n v =
     let p = pow-succ' 10 k in
     let a = add-mul (v * 10) (n / 10 ^ k % 10) (10 ^ k) in
@@ -48,10 +48,10 @@ more-back (suc k) n stop v at rest hs h =
     (more-back k n stop (v * 10 + n / 10 ^ k % 10) (at + 1) rest hs g ∙ rw (value k n v, f))
 
 -- w digits hold n, and no fewer do, but that 0 takes one
-record Wide (n w : ℕ) : Type 0 where
-  some : 1 ≤ w
-  above : n < 10 ^ w
-  least : 1 < w → 10 ^ (w - 1) ≤ n
+pub record Wide (n w : ℕ) : Type 0 where
+  pub some : 1 ≤ w
+  pub above : n < 10 ^ w
+  pub least : 1 < w → 10 ^ (w - 1) ≤ n
 
 wide-case : (b : Bool) (fuel k n : ℕ) → leb (10 ^ k) n ≡ b → 1 ≤ k → (1 < k → 10 ^ (k - 1) ≤ n) → (10 ^ k ≤ n → Wide n (widthFrom fuel (k + 1) n)) → Wide n (cond b (widthFrom fuel (k + 1) n) k)
 wide-case true fuel k n e hk hl on = on (leb-true _ _ e)
@@ -65,15 +65,19 @@ wide-from (suc fuel) k n hk hl ha =
     let g : k + 1 - 1 ≡ k = omega arith in
     wide-case (leb (10 ^ k) n) fuel k n refl hk hl (λ q. wide-from fuel (k + 1) n (omega arith) (λ _. rw g q) (rw f at ha))
 
-wide : (n : ℕ) → n ≤ most → Wide n (width n)
+pub wide-ten : (n : ℕ) → n < 10 ^ 10 → Wide n (width n)
 unfolding width
-wide n h = wide-from 9 1 n (omega arith) (λ q. absurd (omega arith)) (omega arith)
+wide-ten n h = wide-from 9 1 n (omega arith) (λ q. absurd (omega arith)) h
+
+pub wide : (n : ℕ) → n ≤ most → Wide n (width n)
+wide n h = wide-ten n (omega arith)
 
 first-digit : (n j : ℕ) → n < 10 ^ suc j → n / 10 ^ j % 10 ≡ n / 10 ^ j
 first-digit n j h = mod-eq-of-lt (div-lt-iff-lt-mul (tens j) .1 (rw pow-succ' at h))
 
 -- the first digit and the rest, read as a number
-lead : (d n j stop at : ℕ) (rest : List ℕ) → stop < 48 → 0 < d → d < 10 → d * 10 ^ j + n % 10 ^ j ≤ most → number ((48 + d) ∷ (spell j n ++ (stop ∷ rest))) stop at ≡ Is (d * 10 ^ j + n % 10 ^ j) (at + 1 + j + 1)
+lead : (d n j stop at : ℕ) (rest : List ℕ) → stop < 48 → 0 < d → d < 10 → d * 10 ^ j + n % 10 ^ j ≤ most →
+    number ((48 + d) ∷ (spell j n ++ (stop ∷ rest))) stop at ≡ Is (d * 10 ^ j + n % 10 ^ j) (at + 1 + j + 1)
 unfolding number
 lead d n j stop at rest hs h0 hd h =
     let e : 48 + d - 48 ≡ d = omega arith in

@@ -6,6 +6,7 @@ pub mod print;
 ghost use mathlib.Core.Path.{_≡_};
 ghost use Prim.Native.Nat.{_≤_};
 ghost use lib.ListN.{length, drop};
+ghost use Rattle.text.specs.Determined.{Opened};
 ghost use Rattle.text.specs.Text.{number as numberIn, more as moreIn, alone as aloneIn, word as wordIn};
 
 // A number and the place past the byte that ends it.
@@ -121,7 +122,7 @@ pub struct Reader<'a> {
 
 impl<'a> Reader<'a> {
     pub fn open(sheet: &'a [u8], at: usize) -> Reader<'a>
-        ensures { λ r. ⌜ (r .sheet ≡ sheet .entry) × (r .at ≡ at) ⌝ }
+        ensures { λ r. ⌜ Opened (sheet .entry) at r ⌝ }
     {
         Reader { sheet, at }
     }

@@ -4,8 +4,8 @@ use mathlib.Core.Path.{_≡_}
 use lib.ListN.{length}
 use borrow.Author.Needs.{needs}
 use native.Mathlib.Omega.{arith}
-use Rattle.settings.proofs.read_line.Statement.{statement}
-use Rattle.settings.proofs.read_line.Tie as tie
+use Rattle.frames.proofs.read_line.Statement.{statement}
+use Rattle.frames.proofs.read_line.Tie as tie
 
 abbrev Inv-loop : tie.InvT-loop
 Inv-loop line₀ one₀ i₀ line one i = (i ≤ 32) × (length one ≡ 1) × (length line ≡ 32)

@@ -4,8 +4,8 @@ use mathlib.Core.Path.{_≡_}
 use lib.ListN.{length}
 use borrow.Author.Needs.{needs}
 use native.Mathlib.Omega.{arith}
-use Rattle.settings.proofs.skip.Statement.{statement}
-use Rattle.settings.proofs.skip.Tie as tie
+use Rattle.frames.proofs.skip.Statement.{statement}
+use Rattle.frames.proofs.skip.Tie as tie
 
 abbrev Inv-loop : tie.InvT-loop
 Inv-loop n one₀ left₀ one left = length one ≡ 1

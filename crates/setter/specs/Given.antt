@@ -1,0 +1,134 @@
+-- A text that answers a sheet, the setting's or the account's: when it is `refused N P`. Either the reading gave that refusal, or the refusal list gives the number to the sheet's job. So it is
+-- known of the sheet's bytes when it is 13 or 2, and that it is never 12 or 14.
+use mathlib.Core.Bool.{true}
+use mathlib.Core.List.{List, _++_}
+use mathlib.Core.Logic.{_↔_}
+use mathlib.Core.Path.{_≡_, refl, _∙_, ap, sym, subst}
+use Prim.Native.Nat.{ℕ, _≤_}
+use native.Mathlib.Omega.{arith}
+use lib.ListN.{replicate, length-replicate}
+use Rattle.text.specs.Text.{most}
+use Rattle.text.specs.Print.{bytes, decimal}
+use Rattle.text.specs.Unique.{decimal-one}
+use Rattle.refusal.specs.declared.Refusal.{Refusal}
+use Rattle.refusal.specs.declared.Refusal.the-variants.{Range, Count, Short, Character, Blanks, Element, Supply, BlankInside, JukugoBase, Mixed, WesternOver, Far, NoBreak, Form}
+use Rattle.refusal.specs.Refusal.{numberOf, placeOf, same-refusal}
+use Rattle.sheet.specs.declared.Counts.{Counts}
+use Rattle.sheet.specs.declared.Reading.the-variants.{Sound, Refused}
+use Rattle.sheet.specs.Sheet.{reading}
+use Rattle.sheet.specs.Faults.{ours, thirteen-or-two}
+use Rattle.sheet.specs.Form.{Over, in-base, in-ruby, in-elem}
+use Rattle.sheet.specs.Exact.{two-exactly}
+use Rattle.sheet.specs.Place.{Breaks, place-exactly, place-most}
+use Rattle.door.specs.Job.{Job}
+use Rattle.job.specs.Table.{Row, First}
+use Rattle.job.specs.Demands as demands
+use Rattle.result.specs.Text.{lineTwo, refusalText}
+use Rattle.setter.specs.Answer.{sheetJob}
+use Rattle.setter.specs.Sheet.{no-count, no-short}
+
+-- why a sheet gets the number n and a place that is written as p is
+pub data Given (s : List ℕ) (n p : ℕ) : Type 0 where
+  by-sheet : (r : Refusal) → numberOf r ≡ n → decimal (placeOf r) ≡ decimal p → reading s .end ≡ Refused r → Given s n p
+  by-job : (c : Counts) (r : Refusal) → numberOf r ≡ n → reading s .end ≡ Sound c → First (sheetJob (reading s)) 1024 2048 1024 r → Given s n p
+
+-- the number gives the case
+is-form : (r : Refusal) → numberOf r ≡ 13 → r ≡ Form (placeOf r)
+is-form r e = same-refusal r (Form (placeOf r)) e refl
+
+is-count : (r : Refusal) → numberOf r ≡ 2 → r ≡ Count (placeOf r)
+is-count r e = same-refusal r (Count (placeOf r)) e refl
+
+is-far : (r : Refusal) → numberOf r ≡ 14 → r ≡ Far (placeOf r)
+is-far r e = same-refusal r (Far (placeOf r)) e refl
+
+is-short : (r : Refusal) → numberOf r ≡ 12 → r ≡ Short
+is-short (Range p) e = absurd (omega arith)
+is-short (Count p) e = absurd (omega arith)
+is-short Short e = refl
+is-short (Character p) e = absurd (omega arith)
+is-short (Blanks p) e = absurd (omega arith)
+is-short (Element p) e = absurd (omega arith)
+is-short (Supply p) e = absurd (omega arith)
+is-short (BlankInside p) e = absurd (omega arith)
+is-short (JukugoBase p) e = absurd (omega arith)
+is-short (Mixed p) e = absurd (omega arith)
+is-short (WesternOver p) e = absurd (omega arith)
+is-short (Far p) e = absurd (omega arith)
+is-short (NoBreak p) e = absurd (omega arith)
+is-short (Form p) e = absurd (omega arith)
+
+-- a refusal's text, with its number as it is written
+line-two : (p : ℕ) → bytes "refused 2 " ++ (decimal p ++ bytes "\n") ≡ lineTwo (bytes "refused") 2 p
+unfolding lineTwo
+line-two p = refl
+
+line-twelve : (p : ℕ) → bytes "refused 12 " ++ (decimal p ++ bytes "\n") ≡ lineTwo (bytes "refused") 12 p
+unfolding lineTwo
+line-twelve p = refl
+
+line-thirteen : (p : ℕ) → bytes "refused 13 " ++ (decimal p ++ bytes "\n") ≡ lineTwo (bytes "refused") 13 p
+unfolding lineTwo
+line-thirteen p = refl
+
+line-fourteen : (p : ℕ) → bytes "refused 14 " ++ (decimal p ++ bytes "\n") ≡ lineTwo (bytes "refused") 14 p
+unfolding lineTwo
+line-fourteen p = refl
+
+text-of : (r : Refusal) → refusalText r ≡ lineTwo (bytes "refused") (numberOf r) (placeOf r)
+unfolding refusalText
+text-of r = refl
+
+over-most : {s : List ℕ} {which : ℕ} → Over s which → which ≤ 2
+over-most (in-base em measure n rest short he hm h small e) = omega arith
+over-most (in-ruby em measure base n rest short he hm kept h small e) = omega arith
+over-most (in-elem em measure base ruby n rest short he hm kept kept-ruby h small e) = omega arith
+
+module _ (s : List ℕ) where
+  abbrev job : Job
+  job = sheetJob (reading s)
+
+  -- the reading gives no number but 13 and 2
+  not-read : (r q : Refusal) → r ≡ q → reading s .end ≡ Refused r → ours q ≡ true
+  not-read r q f e = subst (λ x. ours x ≡ true) f (thirteen-or-two s r e)
+
+  breaks-given : (l : ℕ) → Given s 13 l → Breaks s l
+  breaks-given l (by-sheet r n p e) =
+      let b = place-exactly s (placeOf r) .0 (e ∙ ap Refused (is-form r n)) in
+      subst (Breaks s) (sym (decimal-one l (placeOf r) (omega (arith, place-most b)) (sym p))) b
+  breaks-given l (by-job c r n is first) = absurd (subst (First job 1024 2048 1024) (is-form r n) first .holds)
+
+  over-given : (which : ℕ) → Given s 2 which → Over s which
+  over-given which (by-sheet r n p e) =
+      let b = two-exactly s (placeOf r) .0 (e ∙ ap Refused (is-count r n)) in
+      subst (Over s) (sym (decimal-one which (placeOf r) (omega (arith, over-most b)) (sym p))) b
+  over-given which (by-job c r n is first) = absurd (no-count s c is 1024 2048 1024 (placeOf r) (subst (First job 1024 2048 1024) (is-count r n) first .holds))
+
+  twelve-given : (p : ℕ) → Given s 12 p → ⊥
+  twelve-given p (by-sheet r n q e) = let g = not-read r Short (is-short r n) e in let z : _≡_ {A = ℕ} 0 1 = cc in omega arith
+  twelve-given p (by-job c r n is first) =
+      no-short s c is 1024 2048 1024 (omega arith) (omega arith) (omega arith) (subst (First job 1024 2048 1024) (is-short r n) first .holds)
+
+  fourteen-given : (p : ℕ) → Given s 14 p → ⊥
+  fourteen-given p (by-sheet r n q e) = let g = not-read r (Far (placeOf r)) (is-far r n) e in let z : _≡_ {A = ℕ} 0 1 = cc in omega arith
+  fourteen-given p (by-job c r n is first) =
+      demands.never-fourteen job (replicate 1024 0) (replicate 2048 0) (replicate 1024 0) (placeOf r)
+      (demands.refused-exactly job (replicate 1024 0) (replicate 2048 0) (replicate 1024 0) (Far (placeOf r)) .1
+      (rw (length-replicate {A = ℕ} 1024 0, length-replicate {A = ℕ} 2048 0) (subst (First job 1024 2048 1024) (is-far r n) first)))
+
+  -- an answer that is the reading's refusal where there is one, and `refused N P` for no other cause
+  module _ (answer : List ℕ) (read : (r : Refusal) → reading s .end ≡ Refused r → answer ≡ refusalText r)
+      (given : (n p : ℕ) → n ≤ most → answer ≡ lineTwo (bytes "refused") n p → Given s n p) where
+    pub thirteen-by : (l : ℕ) → (answer ≡ bytes "refused 13 " ++ (decimal l ++ bytes "\n")) ↔ Breaks s l
+    thirteen-by l =
+        (λ e. breaks-given l (given 13 l (omega arith) (e ∙ line-thirteen l)), λ b. read (Form l) (place-exactly s l .1 b) ∙ (text-of (Form l) ∙ sym (line-thirteen l)))
+
+    pub two-by : (which : ℕ) → (answer ≡ bytes "refused 2 " ++ (decimal which ++ bytes "\n")) ↔ Over s which
+    two-by which =
+        (λ e. over-given which (given 2 which (omega arith) (e ∙ line-two which)), λ o. read (Count which) (two-exactly s which .1 o) ∙ (text-of (Count which) ∙ sym (line-two which)))
+
+    pub twelve-by : (p : ℕ) → answer ≡ bytes "refused 12 " ++ (decimal p ++ bytes "\n") → ⊥
+    twelve-by p e = twelve-given p (given 12 p (omega arith) (e ∙ line-twelve p))
+
+    pub fourteen-by : (p : ℕ) → answer ≡ bytes "refused 14 " ++ (decimal p ++ bytes "\n") → ⊥
+    fourteen-by p e = fourteen-given p (given 14 p (omega arith) (e ∙ line-fourteen p))
