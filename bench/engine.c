@@ -352,12 +352,15 @@ static u32 part(struct word *w, const struct job *j, u32 b, u32 n, u32 r, u32 u)
 
 /* ---- Level two: the four rules of clearance ---- */
 
-/* How deep ruby may lie on the P character b, of whose classes `side` may have a blank of this many units there. */
+/*
+ * How deep ruby may lie on the P character b, of whose classes `side` may have a blank of this many units there. A space that is
+ * the job's first character takes none (document 02, R-1).
+ */
 static u32 depth_of(const struct job *j, u32 b, u32 side, u32 blank)
 {
     u32 c = j->class_[b], most = is_in(QUARTER, c) ? j->em / 2 : j->em;
     if (is_in(WHOLE, c))
-        return smaller(2 * j->width[b], most);
+        return b == 0 ? 0 : smaller(2 * j->width[b], most);
     return is_in(side, c) ? smaller(2 * blank, most) : 0;
 }
 

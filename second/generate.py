@@ -277,12 +277,16 @@ def add_chain(rng, draft, length):
             draft.add([blank_row(rng, draft.em)], [], ['P'])
 
 
+def add_space(rng, draft):
+    width = pick(rng, (3, draft.em), (2, clip(draft.em // 2, 1, WIDEST)),
+                 (2, 1 + rng.randrange(draft.em)), (1, 1))
+    draft.add([[14, width]], [], ['P'])
+
+
 def add_indented(rng, draft, length):
     """An indent before every word or two."""
     while len(draft.base) < length:
-        width = pick(rng, (3, draft.em), (2, clip(draft.em // 2, 1, WIDEST)),
-                     (2, 1 + rng.randrange(draft.em)), (1, 1))
-        draft.add([[14, width]], [], ['P'])
+        add_space(rng, draft)
         for _ in range(rng.choice((1, 1, 2))):
             add_ruby_word(rng, draft)
 
@@ -371,16 +375,20 @@ def tight(rng):
     return draft.text()
 
 
+def add_long_mono(rng, draft):
+    """A mono word with a reading that is longer than its base."""
+    total = draft.em + surplus(rng, draft.em)
+    widths = split(rng, total, ruby_count_for(rng, draft.em, total))
+    draft.add([[19, draft.em]], [[15, width] for width in widths],
+              ['M', len(widths)])
+
+
 def add_crowd(rng, draft, length):
     """Mono words, each longer in its reading, nothing or little between."""
-    em = draft.em
     while len(draft.base) < length:
-        total = em + surplus(rng, em)
-        widths = split(rng, total, ruby_count_for(rng, em, total))
-        draft.add([[19, em]], [[15, width] for width in widths],
-                  ['M', len(widths)])
+        add_long_mono(rng, draft)
         if rng.randrange(2) == 0:
-            draft.add([blank_row(rng, em)], [], ['P'])
+            draft.add([blank_row(rng, draft.em)], [], ['P'])
 
 
 def dense(rng):
@@ -391,6 +399,88 @@ def dense(rng):
     widths = stretches(draft)
     draft.measure = clip(sum(widths) // rng.choice((1, 1, 2, 3)),
                          max(widths), WIDEST_MEASURE)
+    return draft.text()
+
+
+def add_long_group(rng, draft):
+    """A group, or a jukugo that is set as one, with ruby past its base."""
+    em, count = draft.em, 1 + rng.randrange(3)
+    runs = []
+    for _ in range(count):
+        total = em + surplus(rng, em)
+        runs.append(split(rng, total, min(ruby_count_for(rng, em, total), 20)))
+    ruby = [[15, width] for run in runs for width in run]
+    draft.add([[19, em] for _ in range(count)], ruby, rng.choice((
+        ['G', count, len(ruby)], ['J', count] + [len(run) for run in runs])))
+
+
+def add_long_word(rng, draft):
+    rng.choice((add_long_mono, add_long_group))(rng, draft)
+
+
+def add_word_over_space(rng, draft):
+    """M, G or J with a class 14 character for its base."""
+    em = draft.em
+    total = rng.choice((max(1, em // 2), em, em + surplus(rng, em)))
+    ruby = [[15, width] for width in split(
+        rng, total, ruby_count_for(rng, em, total))]
+    draft.add([[14, em]], ruby, rng.choice((
+        ['M', len(ruby)], ['G', 1, len(ruby)], ['J', 1, len(ruby)])))
+
+
+def opening(rng):
+    """Jobs that begin with a class 14 character.
+
+    One or two of them and a long reading; one as the base of a word; one and
+    nothing else; and another character with a blank in its place.  The
+    measure is near what all of it takes in one line.
+    """
+    draft = Draft(some_em(rng))
+    way = pick(rng, (8, 'one'), (6, 'two'), (6, 'base'), (3, 'other'),
+               (3, 'alone'))
+    if way == 'base':
+        add_word_over_space(rng, draft)
+        if rng.randrange(2) == 0:
+            add_space(rng, draft)
+    elif way == 'other':
+        draft.add([blank_row(rng, draft.em)], [], ['P'])
+    else:
+        for _ in range(2 if way == 'two' else 1):
+            add_space(rng, draft)
+    if way != 'alone':
+        add_long_word(rng, draft)
+        add_mixed(rng, draft, len(draft.base) + rng.choice((0, 0, 1, 4)))
+    put_flags(rng, draft)
+    whole, em = sum(stretches(draft)), draft.em
+    draft.measure = clip(rng.choice((
+        whole, whole, whole - 1, whole - em // 2, whole - em // 2 - 1,
+        whole - rng.randrange(em), whole + rng.randrange(em))),
+        1, WIDEST_MEASURE)
+    return draft.text()
+
+
+def later(rng):
+    """Lines that begin with a space; the job's first does, or does not.
+
+    Only the end of such a line is a permitted break (and the inside of a J),
+    and each is about as long as the measure.
+    """
+    draft = Draft(some_em(rng))
+    ends = []
+    for number in range(2 + rng.randrange(3)):
+        if number > 0 or rng.randrange(2) == 0:
+            for _ in range(rng.choice((1, 1, 1, 2))):
+                add_space(rng, draft)
+        add_long_word(rng, draft)
+        if rng.randrange(3) == 0:
+            draft.add([[15, draft.em]], [], ['P'])
+        ends.append(len(draft.base) - 1)
+    for index, row in enumerate(draft.base):
+        row[4] = 1 if index in ends else 0
+    least = max(stretches(draft))
+    draft.measure = clip(rng.choice((
+        least, least, least - 1, least - draft.em // 2,
+        least - rng.randrange(draft.em))), 1, WIDEST_MEASURE)
     return draft.text()
 
 
@@ -710,13 +800,14 @@ def change_element(rng, text):
     lines = text.split(b'\n')[:-1]
     first = [i for i, line in enumerate(lines) if line[:4] == b'elem'][0]
     at = min(first + 1 + rng.randrange(len(lines) - first), len(lines) - 1)
-    lines[at] = rng.choice((
-        b'J', b'J ', b'J 0', b'J 0 ', b'J 33' + b' 1' * 33, b'J 1',
-        b'J 2 1', b'J 2 1 1 1', b'J 32' + b' 1' * 31, b'J 32' + b' 1' * 32,
-        b'J 32' + b' 2' * 32, b'J 1 0', b'J 1 65', b'J 4294967295 1',
+    edge = rng.choice((b'J 0', b'J 33' + b' 1' * 33))   # just out of 1 to 32
+    lines[at] = pick(rng, (1, edge), (2, rng.choice((
+        b'J', b'J ', b'J 0 ', b'J 1', b'J 2 1', b'J 2 1 1 1',
+        b'J 32' + b' 1' * 31, b'J 32' + b' 1' * 32, b'J 32' + b' 2' * 32,
+        b'J 1 0', b'J 1 65', b'J 4294967295 1',
         b'M', b'M 0', b'M 1 1', b'M 64', b'M 65', b'G', b'G 1', b'G 1 1 1',
         b'G 0 1', b'G 1 0', b'G 33 1', b'G 32 64', b'P 0', b'P ', b'p', b'm 1',
-        b'H 1 1', b'', lines[at] + b' 1', lines[at] + b' '))
+        b'H 1 1', b'', lines[at] + b' 1', lines[at] + b' '))))
     return b''.join(line + b'\n' for line in lines)
 
 
@@ -890,11 +981,11 @@ def empty(rng):
 # ---------------------------------------------------------------------------
 
 def one_sheet(rng):
-    return pick(rng, (600, sound), (60, tight), (230, one_fault),
-                (100, two_faults), (50, meeting_faults), (170, damaged),
-                (8, spare), (5, great), (2, great_plain), (2, great_words),
-                (3, great_wide), (4, exact_length), (3, too_long),
-                (2, long_line), (4, empty))(rng)
+    return pick(rng, (600, sound), (60, opening), (20, later), (60, tight),
+                (230, one_fault), (100, two_faults), (50, meeting_faults),
+                (170, damaged), (8, spare), (5, great), (2, great_plain),
+                (2, great_words), (3, great_wide), (4, exact_length),
+                (3, too_long), (2, long_line), (6, empty))(rng)
 
 
 def sheets(seed, count):

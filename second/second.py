@@ -2,7 +2,9 @@
 
 It reads a job sheet on standard input and writes what the setting program
 writes.  It states the rules of document 01 one by one and looks for nothing
-clever; it exists to be compared, byte for byte, with the proved engine.
+clever; it exists to be compared, byte for byte, with the proved engine.  A
+change of document 02 is in the place of the rule that it changes, under its
+number (R-1).
 
     python3 second.py < sheet              one sheet, one answer
     python3 second.py --framed < sheets    many sheets (see README.md)
@@ -497,13 +499,20 @@ def greatest_depth(job, cls):
     return job.em // 2 if cls == 5 else job.em
 
 
+def blank_of_space(job, index):
+    # The job: "In class 14 ... the whole width is blank."  But R-1: "a class
+    # 14 character that is the job's first element takes no ruby at all. ...
+    # A class 14 character at the start of a later line is as before."  Only
+    # a P is asked, and the job's first element has base character 0.
+    return 0 if index == 0 else job.base_width[index]
+
+
 def depth_after(job, index):
     # Rule 2: "the blank after the P element ... (classes 2, 5, 6, 7, 14)";
-    # "The depth is at most the blank as given".  The job: "In class 14 ...
-    # the whole width is blank."
+    # "The depth is at most the blank as given".
     cls = job.base_class[index]
     if cls == 14:
-        blank = job.base_width[index]
+        blank = blank_of_space(job, index)
     elif cls in (2, 5, 6, 7):
         blank = job.blank_after[index]
     else:
@@ -515,7 +524,7 @@ def depth_before(job, index):
     # Rule 2: "the blank before the P element ... (classes 1, 5, 14)".
     cls = job.base_class[index]
     if cls == 14:
-        blank = job.base_width[index]
+        blank = blank_of_space(job, index)
     elif cls in (1, 5):
         blank = job.blank_before[index]
     else:

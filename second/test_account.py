@@ -100,6 +100,20 @@ class ByHand(unittest.TestCase):
                          (3, 35, 3, [(2, 1), (2, 2), (3, 0)])]],
                        [m(3), p(14, 1), p(14, 1), m(3)])
 
+    def test_opening_indent(self):
+        # The indent is 0 to 20 and takes no ruby (R-1).  The reading is 60
+        # hu, 20 hu past its block: it begins at 20, and the block at 40.
+        self.accounted([[(0, 0, 0, [(4, None)]), (1, 40, 20, [(2, 0)])]],
+                       [p(14), m(6)])
+
+    def test_space_at_the_start_of_a_later_line(self):
+        # The same twice, 80 hu at most in a line: the second space takes 10
+        # hu of ruby, as before.  The ruby begins at 10, the block at 30.
+        words = [p(14, flag=0), m(6)]
+        self.accounted([[(0, 0, 0, [(4, None)]), (1, 40, 20, [(2, 0)])],
+                        [(2, 0, 0, [(4, None)]), (3, 30, 10, [(2, 2)])]],
+                       words + words, measure=40)
+
     def test_spread_base(self):
         # K4's block starts 7 hu behind its ruby's start; the P before it has
         # no blank, so the ruby begins at 20 where that ends.

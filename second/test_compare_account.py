@@ -91,6 +91,15 @@ element 2 at 0 gap 0 rule 4 block touches start
 '''
 
 
+INDENT = sheet([p(14), m(6)])
+INDENT_TEXT = b'''\
+clear lines 1 elements 2 readings 1
+line 80
+element 0 at 0 gap 0 rule 4 block touches start
+element 1 at 40 gap 20 rule 2 ruby touches block of 0 at depth 0
+'''
+
+
 class ByHand(unittest.TestCase):
 
     def told(self, expected, job):
@@ -123,14 +132,23 @@ class ByHand(unittest.TestCase):
                   b'at depth 5\n', sheet([m(4), p(5, 10, 5, 0)]))
 
     def test_an_indent(self):
-        # The indent is 20 hu and half an em of it, 10 hu, takes ruby.  The
-        # reading is 60 hu, 20 hu past the block: it begins at 10 and the
-        # block at 30.
-        self.told(b'clear lines 1 elements 2 readings 1\n'
-                  b'line 70\n'
+        # The indent is 20 hu and takes no ruby (R-1).  The reading is 60 hu,
+        # 20 hu past the block: it begins at 20 and the block at 40.
+        self.told(INDENT_TEXT, INDENT)
+
+    def test_a_space_at_the_start_of_a_later_line(self):
+        # Line 1 is as above, all of the 80 hu.  In line 2 half an em of the
+        # space, 10 hu, takes ruby: it begins at 10 and the block at 30.
+        words = [p(14, flag=0), m(6)]
+        self.told(b'clear lines 2 elements 4 readings 2\n'
+                  b'line 80\n'
                   b'element 0 at 0 gap 0 rule 4 block touches start\n'
-                  b'element 1 at 30 gap 10 rule 2 ruby touches block of 0 '
-                  b'at depth 10\n', sheet([p(14), m(6)]))
+                  b'element 1 at 40 gap 20 rule 2 ruby touches block of 0 '
+                  b'at depth 0\n'
+                  b'line 70\n'
+                  b'element 2 at 0 gap 0 rule 4 block touches start\n'
+                  b'element 3 at 30 gap 10 rule 2 ruby touches block of 2 '
+                  b'at depth 10\n', sheet(words + words, measure=40))
 
     def test_first_in_order(self):
         # Both rubies fill their blocks: block on block, ruby on block and
@@ -253,6 +271,7 @@ class WrongTexts(unittest.TestCase):
         self.wrong(K11, b'at depth 4', b'at depth 10', 'depth 10, not 4')
         self.wrong(K11, b'at depth 4', b'at depth 0', 'depth 0, not 4')
         self.wrong(K10, b'at depth 0', b'at depth 5', 'depth 5, not 0')
+        self.wrong(INDENT, b'at depth 0', b'at depth 10', 'depth 10, not 0')
 
     def test_wrong_side(self):
         # The rule and the other element are right, what touches is not.

@@ -16,7 +16,7 @@ sys.path.insert(0, HERE)
 import generate     # noqa: E402  (found through the path set above)
 import second       # noqa: E402
 from account import drawn_lines  # noqa: E402
-from second import G, J, M, is_western  # noqa: E402
+from second import G, J, M, P, is_western  # noqa: E402
 
 
 def text_edges(text, answer):
@@ -99,6 +99,29 @@ def line_edges(job, line):
             yield 'two readings on one blank'
 
 
+def is_space(job, drawn):
+    """A P of class 14."""
+    element = job.elements[drawn.element]
+    return element.kind == P and job.base_class[element.base_first] == 14
+
+
+def opening_edges(job, lines):
+    """Edges of R-1: class 14 at the start of the job and of later lines."""
+    if job.base_class[0] == 14 and job.elements[0].kind != P:
+        yield 'a space as base of %s opens the job' % chr(job.elements[0].kind)
+    if job.element_count == 1 and is_space(job, lines[0][0]):
+        yield 'nothing but a space'
+    for place, line in [('the job', lines[0])] + [
+            ('a later line', line) for line in lines[1:]]:
+        spaces = 0
+        while spaces < len(line) and is_space(job, line[spaces]):
+            spaces += 1
+        if spaces in (1, 2) and spaces < len(line):
+            word = line[spaces]
+            if word.ruby and word.ruby[0] < word.block[0]:
+                yield '%d in front of a long reading, %s' % (spaces, place)
+
+
 def job_edges(job, lines):
     counts = (job.base_count, job.ruby_count, job.element_count)
     for name, count, most in zip(('base', 'ruby', 'elem'), counts,
@@ -112,6 +135,8 @@ def job_edges(job, lines):
             yield 'cut once' if times == 2 else 'cut more than once'
     for line in lines:
         yield from line_edges(job, line)
+    if lines:
+        yield from opening_edges(job, lines)
 
 
 def lines_before(job):
@@ -158,8 +183,12 @@ WANTED = ['refused %d' % number for number in range(1, 14) if number != 12] + [
     'extent = measure+0', 'extent = measure-1', 'long readings side by side',
     'two readings on one blank', 'base 1024', 'ruby 2048', 'elem 1024',
     'cut once', 'cut more than once', '11 after three lines and more',
+    'nothing but a space',
 ] + ['whole depth after class %d' % cls for cls in (2, 5, 6, 7, 14)] + [
-    'whole depth before class %d' % cls for cls in (1, 5, 14)]
+    'whole depth before class %d' % cls for cls in (1, 5, 14)] + [
+    'a space as base of %s opens the job' % kind for kind in 'MGJ'] + [
+    '%d in front of a long reading, %s' % (spaces, place)
+    for spaces in (1, 2) for place in ('the job', 'a later line')]
 
 
 class Edges(unittest.TestCase):

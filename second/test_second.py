@@ -2,10 +2,10 @@
 
     python3 second/test_second.py
 
-Every expected value comes from document 01, or is derived from its rules in
-the comment beside it.  hu means half units.  Where nothing else is said, em
-is 10, base characters are 10 wide and ruby characters 5 wide, as in the
-settings K1 to K12.
+Every expected value comes from document 01 (with R-1 of document 02), or is
+derived from its rules in the comment beside it.  hu means half units.  Where
+nothing else is said, em is 10, base characters are 10 wide and ruby
+characters 5 wide, as in the settings K1 to K12.
 """
 
 import os
@@ -416,10 +416,10 @@ class Clearance(Case):
         # 5 wide: depth 10, the same; 4 wide: depth 8: space at 52.
         self.assertEqual(one_line([m(6), p(14, 5)])[0], [20, 50])
         self.assertEqual(one_line([m(6), p(14, 4)])[0], [20, 52])
-        # Before a word: space 0..40, ruby from 30, base at 50.
-        self.assertEqual(one_line([p(14, 20), m(6)])[0], [0, 50])
-        # Space 0..8, ruby from 0, base at 20.
-        self.assertEqual(one_line([p(14, 4), m(6)])[0], [0, 20])
+        # Before a word: space 20..60, ruby from 50, base at 70.
+        self.assertEqual(one_line([p(), p(14, 20), m(6)])[0], [0, 20, 70])
+        # Space 20..28, ruby from 20, base at 40.
+        self.assertEqual(one_line([p(), p(14, 4), m(6)])[0], [0, 20, 40])
 
     def test_blank_before_of_class_1(self):
         # m(4): ruby to 40, block to 30. Blank 5: depth 10: at 30;
@@ -481,12 +481,6 @@ class Clearance(Case):
         self.assertEqual(one_line([m(4), p(14, 1), p(14, 10)])[0],
                          [10, 38, 40])
 
-    def test_indent_at_the_line_start(self):
-        # Indent 0..20: ruby from 10, base at 20.
-        self.assertEqual(one_line([p(14, 10), m(4)])[0], [0, 20])
-        # m(6): ruby from 10, base at 30.
-        self.assertEqual(one_line([p(14, 10), m(6)])[0], [0, 30])
-
     def test_line_start(self):
         # The ruby stands at the line's start, not the base.
         self.assertEqual(one_line([m(6)]), ([20], [0, 10, 20, 30, 40, 50]))
@@ -522,6 +516,87 @@ class Clearance(Case):
         self.assertEqual(
             lines_of([j([3, 3]), p()], measure=25),
             [(30, [5], [0, 10, 20]), (50, [5, 30], [0, 10, 20])])
+
+
+class OpeningIndent(Case):
+    """R-1: "a class 14 character that is the job's first element takes no
+    ruby at all. ... A class 14 character at the start of a later line is as
+    before."
+    """
+
+    def test_it_takes_no_ruby(self):
+        # Indent 0..20.  m(4): ruby from 20, base at 30; m(6): base at 40.
+        self.assertEqual(one_line([p(14, 10), m(4)]),
+                         ([0, 30], [20, 30, 40, 50]))
+        self.assertEqual(one_line([p(14, 10), m(6)])[0], [0, 40])
+        # Narrow, 0..2: ruby from 2, base at 12.  Wide, 0..80: ruby from 80.
+        self.assertEqual(one_line([p(14, 1), m(4)])[0], [0, 12])
+        self.assertEqual(one_line([p(14, 40), m(3)])[0], [0, 85])
+        # K4, whose base is spread: ruby from 20, bases 7 and 43 behind it.
+        self.assertEqual(one_line([p(14, 10), g(2, 7)])[0], [0, 27, 63])
+        # A J with a run over one em is set as G: B 20, R 30, D 10, g 5: ruby
+        # from 20, bases 5 and 35 behind it.
+        self.assertEqual(one_line([p(14, 10), j([3, 3])])[0], [0, 25, 55])
+
+    def test_a_short_reading_is_as_before(self):
+        # Indent 0..20, base at 20; one ruby character 5 hu behind its start.
+        self.assertEqual(one_line([p(14, 10), m(1)]), ([0, 20], [25]))
+        self.assertEqual(one_line([p(14, 10), m(2)]), ([0, 20], [20, 30]))
+
+    def test_the_second_space_is_as_before(self):
+        # Spaces 0..20 and 20..40: ruby from 30, base at 40.
+        self.assertEqual(one_line([p(14, 10), p(14, 10), m(4)])[0],
+                         [0, 20, 40])
+
+    def test_a_space_behind_another_element_is_as_before(self):
+        # P 0..20, space 20..40: ruby from 30, base at 40.
+        self.assertEqual(one_line([p(), p(14, 10), m(4)])[0], [0, 20, 40])
+        # A word over a space is no P; the P behind it is the second element.
+        self.assertEqual(one_line([m(1, cls=14), p(14, 10), m(4)])[0],
+                         [0, 20, 40])
+
+    def test_other_classes_are_as_before(self):
+        # A comma 0..20 with a blank of 5: ruby from 10, base at 20.
+        self.assertEqual(one_line([p(7, 10, 0, 5), m(4)])[0], [0, 20])
+
+    def test_a_later_line_is_as_before(self):
+        # Measure 25, 50 hu.  Line one: 40, and 60 with the space.  Line two:
+        # space 0..20, ruby 10..50, base at 20.
+        self.assertEqual(
+            lines_of([p(), p(), p(14, 10, flag=0), m(4)], measure=25),
+            [(40, [0, 20], []), (50, [0, 20], [10, 20, 30, 40])])
+        # Measure 30, 60 hu: the same words in both lines.  Line one: indent
+        # 0..20, ruby 20..60, base at 30.
+        words = [p(14, 10, flag=0), m(4)]
+        self.assertEqual(
+            lines_of(words + words, measure=30),
+            [(60, [0, 30], [20, 30, 40, 50]),
+             (50, [0, 20], [10, 20, 30, 40])])
+
+    def test_it_decides_what_fits(self):
+        # As above, line one takes 60 hu.
+        words = [p(14, 10, flag=0), m(4)]
+        self.accepted(words, measure=30)
+        self.refused(11, 0, words, measure=29)
+        # Where the line may end after the indent, it does.
+        self.assertEqual(
+            lines_of([p(14, 10), m(4)], measure=29),
+            [(20, [0], []), (40, [10], [0, 10, 20, 30])])
+
+    def test_as_the_base_of_a_word(self):
+        # No P: block 0..20, the next ruby from 20, as ever.  Nothing is
+        # refused.
+        space = [(14, 10, 0, 0, 1)]
+        for line in ('M 1', 'G 1 1', 'J 1 1'):
+            self.assertEqual(one_line([(space, [(15, 5)], line), m(4)]),
+                             ([0, 30], [5, 20, 30, 40, 50]))
+        # Its own reading may pass it: ruby 0..40, base at 10.
+        self.assertEqual(one_line([m(4, cls=14)])[0], [10])
+
+    def test_nothing_else(self):
+        self.assertEqual(lines_of([p(14, 10)]), [(20, [0], [])])
+        self.accepted([p(14, 10)], measure=10)
+        self.refused(11, 0, [p(14, 10)], measure=9)
 
 
 # ---------------------------------------------------------------------------

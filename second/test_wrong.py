@@ -8,6 +8,7 @@ that are not ours, and slips at an edge.  Some of the first 1,500 sheets of
 seed 1 have to show each of them.
 """
 
+import copy
 import os
 import sys
 import unittest
@@ -18,7 +19,7 @@ sys.path.insert(0, HERE)
 
 import generate     # noqa: E402  (found through the path set above)
 import second       # noqa: E402
-from second import G, J, Refused  # noqa: E402
+from second import G, J, P, Refused  # noqa: E402
 
 right = {name: value for name, value in vars(second).items()
          if callable(value)}
@@ -202,6 +203,75 @@ def _():
         return (0 if job.base_class[index] == 14
                 else right['depth_before'](job, index))
     return {'depth_before': depth_before}
+
+
+def opens_with_space(job):
+    """Whether R-1 holds for the job's first element."""
+    return job.elements[0].kind == P and job.base_class[0] == 14
+
+
+@wrong('ruby on the opening indent')
+def _():
+    return {'blank_of_space': lambda job, index: job.base_width[index]}
+
+
+@wrong('no ruby on a space at the start of any line')
+def _():
+    def words_of_line(job, owner, first, end):
+        words = right['words_of_line'](job, owner, first, end)
+        if job.base_class[first] == 14:
+            words[0] = copy.copy(words[0])
+            words[0].depth_after = 0
+        return words
+    return {'words_of_line': words_of_line}
+
+
+@wrong('no ruby on the second space of an indent either')
+def _():
+    def blank_of_space(job, index):
+        if index == 1 and opens_with_space(job):
+            return 0
+        return right['blank_of_space'](job, index)
+    return {'blank_of_space': blank_of_space}
+
+
+@wrong('no ruby on the first space of the job, wherever it stands')
+def _():
+    def blank_of_space(job, index):
+        if index == job.base_class.index(14):
+            return 0
+        return right['blank_of_space'](job, index)
+    return {'blank_of_space': blank_of_space}
+
+
+@wrong('no ruby on the first element, whatever its class')
+def _():
+    def depth_after(job, index):
+        return 0 if index == 0 else right['depth_after'](job, index)
+    return {'depth_after': depth_after}
+
+
+@wrong('ruby on the opening indent where the line would be too long')
+def _():
+    def try_line(job, owner, first, end):
+        line = right['try_line'](job, owner, first, end)
+        if line is None and first == 0 and opens_with_space(job):
+            job.words.clear()
+            with mock.patch.object(second, 'blank_of_space',
+                                   lambda job, index: job.base_width[index]):
+                line = right['try_line'](job, owner, first, end)
+            job.words.clear()
+        return line
+    return {'try_line': try_line}
+
+
+@wrong('a word over a space refused at the start of the job')
+def _():
+    def check_blanks_inside(job, element, place):
+        right['check_blanks_inside'](job, element, place)
+        if place == 0 and element.kind != P and job.base_class[0] == 14:
+            raise Refused(7, place)
+    return {'check_blanks_inside': check_blanks_inside}
 
 
 @wrong('a line that just fits declined')

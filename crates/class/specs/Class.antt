@@ -5,6 +5,7 @@ use lib.Dec.{leb, eqb}
 use Rattle.class.specs.declared.Kind.{Kind}
 use Rattle.class.specs.declared.Kind.the-variants.{KanaLike, Western, Space, Outside}
 use Rattle.class.specs.declared.Row.{Row}
+use Rattle.class.specs.declared.Depths.{Depths}
 
 -- a to b
 abbrev pub within : ℕ → ℕ → ℕ → Bool
@@ -65,3 +66,13 @@ depthBefore c width blank em = min (2 * blankOn (blankBefore c) c width blank) (
 unfoldable pub depthAfter : ℕ → ℕ → ℕ → ℕ → ℕ
 unfolding blankAfter blankWhole
 depthAfter c width blank em = min (2 * blankOn (blankAfter c) c width blank) (deepest c em)
+
+-- "a class 14 character that is the job's first element takes no ruby at all" (document 02, R-1); `first` says that it is base character 0 of the job
+abbrev pub opening : Bool → ℕ → Bool
+opening first c = first && blankWhole c
+
+-- how deep ruby may lie on a P character, past its start and before its end, in half units
+unfoldable pub depthsOn : Bool → (c width before after em : ℕ) → Depths
+unfolding blankWhole depthBefore depthAfter
+depthsOn first c width before after em =
+    record { before = cond (opening first c) 0 (depthBefore c width before em); after = cond (opening first c) 0 (depthAfter c width after em) }

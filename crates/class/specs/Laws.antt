@@ -1,7 +1,7 @@
 -- What those above may use of the classes: a class has the kind that its entry names, a depth lies within the character, and an
 -- entry's depth is document 01's.
 use mathlib.Core.Path.{_≡_, refl, _∙_, ap, sym}
-use mathlib.Core.Bool.{Bool, true, false, cond, _||_}
+use mathlib.Core.Bool.{Bool, true, false, cond, _&&_, _||_}
 use mathlib.Core.List.{List, [], _∷_}
 use Prim.Native.Nat.{ℕ, zero, suc, _+_, _*_, _/_, _<_, _≤_, min, suc-le-suc}
 use native.Mathlib.Nat.{add-zero, zero-add, add-suc, suc-add, lt-of-not-le, le-of-suc-le-suc, not-suc-le-zero, one-mul}
@@ -13,7 +13,7 @@ use lib.ListN.{getD}
 use Rattle.class.specs.declared.Kind.{Kind}
 use Rattle.class.specs.declared.Kind.the-variants.{KanaLike, Western, Space, Outside}
 use Rattle.class.specs.declared.Row.{Row}
-use Rattle.class.specs.Class.{accepted, western, kanaLike, kindOf, blankBefore, blankAfter, blankWhole, quarters, rowOf, deepest, depthBefore, depthAfter}
+use Rattle.class.specs.Class.{accepted, western, kanaLike, kindOf, blankBefore, blankAfter, blankWhole, quarters, rowOf, deepest, depthBefore, depthAfter, opening, depthsOn}
 use Rattle.class.specs.Depth.{depthBy}
 use Rattle.class.specs.Entry.{rowBy, entryBy, entryOf}
 
@@ -156,16 +156,34 @@ after-share c width blank em =
     go false false true = refl
     go false false false = refl
 
+-- the depths by the table's row: none on the job's opening space, and an entry's on every other P
+pub none-on : (first : Bool) (c width before after em : ℕ) → (first && rowOf c .whole) ≡ true → record { before = 0; after = 0 } ≡ depthsOn first c width before after em
+unfolding depthsOn rowOf
+none-on first c width before after em e = rw e
+
+pub some-on : (first : Bool) (c width before after em : ℕ) → (first && rowOf c .whole) ≡ false →
+    record {
+      before = depthBy (rowOf c .whole) (rowOf c .before) (rowOf c .quarters) width before em;
+      after = depthBy (rowOf c .whole) (rowOf c .after) (rowOf c .quarters) width after em;
+    }
+    ≡ depthsOn first c width before after em
+unfolding depthsOn rowOf
+some-on first c width before after em e = rw (e, before-share c width before em, after-share c width after em)
+
 -- a depth lies within the character: what lines ask of a neighbour
 on-width : (whole side : Bool) (width blank most : ℕ) → blank ≤ width → min (2 * cond whole width (cond side blank 0)) most ≤ 2 * width
 on-width true side width blank most h = omega arith
 on-width false true width blank most h = omega arith
 on-width false false width blank most h = omega arith
 
-pub before-within : (c width blank em : ℕ) → blank ≤ width → depthBefore c width blank em ≤ 2 * width
-unfolding depthBefore
-before-within c width blank em h = on-width (blankWhole c) (blankBefore c) width blank (deepest c em) h
+unless : (t : Bool) (depth n : ℕ) → depth ≤ n → cond t 0 depth ≤ n
+unless true depth n h = omega arith
+unless false depth n h = h
 
-pub after-within : (c width blank em : ℕ) → blank ≤ width → depthAfter c width blank em ≤ 2 * width
-unfolding depthAfter
-after-within c width blank em h = on-width (blankWhole c) (blankAfter c) width blank (deepest c em) h
+pub before-within : (first : Bool) (c width before after em : ℕ) → before ≤ width → depthsOn first c width before after em .before ≤ 2 * width
+unfolding depthsOn depthBefore
+before-within first c width before after em h = unless (opening first c) _ _ (on-width (blankWhole c) (blankBefore c) width before (deepest c em) h)
+
+pub after-within : (first : Bool) (c width before after em : ℕ) → after ≤ width → depthsOn first c width before after em .after ≤ 2 * width
+unfolding depthsOn depthAfter
+after-within first c width before after em h = unless (opening first c) _ _ (on-width (blankWhole c) (blankAfter c) width after (deepest c em) h)

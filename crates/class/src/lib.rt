@@ -3,8 +3,9 @@
 // else; that it says what document 01 says is proved once (specs/Class.antt, proofs/entry_of). All functions here are
 // total: any u32 is asked as it is. It relies on no other crate.
 ghost use mathlib.Core.Path.{_≡_};
+ghost use mathlib.Core.Bool.{_&&_};
 ghost use Prim.Native.Nat.{_≤_};
-ghost use Rattle.class.specs.Class.{rowOf, kindOf, depthBefore, depthAfter};
+ghost use Rattle.class.specs.Class.{rowOf, kindOf, depthsOn};
 ghost use Rattle.class.specs.Depth.{blankBy, depthBy};
 ghost use Rattle.class.specs.Entry.{entryOf, rowBy, liesBefore, liesAfter, isWhole};
 
@@ -251,18 +252,32 @@ fn depth_by(whole: bool, side: bool, quarters: u32, width: u32, blank: u32, em: 
     }
 }
 
-// How deep the ruby before a P character may lie on it, past its start, in half units.
-pub fn depth_before(class: u32, width: u32, blank: u32, em: u32) -> u32
-    ensures { λ r. ⌜ r ≡ depthBefore class width blank em ⌝ }
-{
-    let r = row_of(class);
-    depth_by(r.whole, r.before, r.quarters, width, blank, em)
+// How deep the ruby before a P character may lie on it, past its start, and the ruby after it, before its end; in half units.
+pub struct Depths {
+    pub before: u32,
+    pub after: u32,
 }
 
-// How deep the ruby after a P character may lie on it, before its end, in half units.
-pub fn depth_after(class: u32, width: u32, blank: u32, em: u32) -> u32
-    ensures { λ r. ⌜ r ≡ depthAfter class width blank em ⌝ }
+// "a class 14 character that is the job's first element takes no ruby at all" (document 02, R-1).
+fn is_opening(first: bool, whole: bool) -> bool
+    ensures { λ r. ⌜ r ≡ first && whole ⌝ }
+{
+    if first { whole } else { false }
+}
+
+// How deep ruby may lie on a P character; `first`: it is base character 0 of the job.
+pub fn depths_on(first: bool, class: u32, width: u32, before: u32, after: u32, em: u32) -> Depths
+    ensures { λ r. ⌜ r ≡ depthsOn first class width before after em ⌝ }
 {
     let r = row_of(class);
-    depth_by(r.whole, r.after, r.quarters, width, blank, em)
+    if is_opening(first, r.whole) {
+        return Depths {
+            before: 0,
+            after: 0,
+        };
+    }
+    Depths {
+        before: depth_by(r.whole, r.before, r.quarters, width, before, em),
+        after: depth_by(r.whole, r.after, r.quarters, width, after, em),
+    }
 }

@@ -5,10 +5,10 @@ use mathlib.Core.List.{List, [], _∷_, _++_}
 use Prim.Native.Nat.{ℕ, _+_, _-_, _^_, _≤_, _<_, min, max, zero-le}
 use native.Mathlib.Omega.{arith}
 use borrow.Author.Tests.{ne-eqb}
-use lib.Dec.{ltb}
+use lib.Dec.{eqb, ltb}
 use lib.ListN.{length, getD}
 use Rattle.basics.specs.Lists.{sum, All}
-use Rattle.class.specs.Class.{depthBefore, depthAfter}
+use Rattle.class.specs.Class.{depthsOn}
 use Rattle.word.specs.declared.Form.{Form}
 use Rattle.word.specs.declared.Form.the-variants.{P, M, G, J}
 use Rattle.word.specs.declared.Word.{Word}
@@ -26,14 +26,16 @@ use Rattle.job.specs.Words.{GoodPiece, good-pieces}
 -- the element of a piece whose word is w
 abbrev pub elementAs : Piece → Word → ℕ → List ℕ → List ℕ → List ℕ → List ℕ → Element
 elementAs p w em class width before after =
+    let i = p .base in
+    let d = depthsOn (eqb i 0) (getD class i 0) (getD width i 0) (getD before i 0) (getD after i 0) em in
     record {
       front = w .front;
       len = w .len;
       ruby = w .ruby;
       from = w .from;
       upto = w .upto;
-      before = onP (p .form) (depthBefore (getD class (p .base) 0) (getD width (p .base) 0) (getD before (p .base) 0) em);
-      after = onP (p .form) (depthAfter (getD class (p .base) 0) (getD width (p .base) 0) (getD after (p .base) 0) em);
+      before = onP (p .form) (d .before);
+      after = onP (p .form) (d .after);
     }
 
 -- a J that may be cut: its runs lie within their list and take few characters

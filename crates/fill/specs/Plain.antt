@@ -5,9 +5,10 @@ use mathlib.Core.List.{List, [], _∷_}
 use Prim.Native.Nat.{ℕ, zero, suc, _+_, _*_, _≤_, _<_}
 use native.Mathlib.Nat.{add-zero}
 use native.Mathlib.Omega.{arith}
+use lib.Dec.{eqb}
 use lib.ListN.{length, getD}
 use Rattle.basics.specs.Lists.{sum, All}
-use Rattle.class.specs.Class.{depthBefore, depthAfter}
+use Rattle.class.specs.Class.{depthsOn}
 use Rattle.word.specs.declared.Form.{Form}
 use Rattle.word.specs.declared.Form.the-variants.{P, M, G, J}
 use Rattle.word.specs.Given.{hasRuby, isJ}
@@ -23,14 +24,15 @@ use Rattle.fill.specs.Piece.{Into, pieceUpto}
 
 abbrev pub plainElement : ℕ → ℕ → List ℕ → List ℕ → List ℕ → List ℕ → Element
 plainElement i em class width before after =
+    let d = depthsOn (eqb i 0) (getD class i 0) (getD width i 0) (getD before i 0) (getD after i 0) em in
     record {
       front = 0;
       len = 2 * getD width i 0;
       ruby = false;
       from = 0;
       upto = 0;
-      before = depthBefore (getD class i 0) (getD width i 0) (getD before i 0) em;
-      after = depthAfter (getD class i 0) (getD width i 0) (getD after i 0) em;
+      before = d .before;
+      after = d .after;
     }
 
 -- a P has one base character

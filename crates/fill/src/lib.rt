@@ -38,15 +38,18 @@ pub fn element_of(
     let form = p.form;
     let i = p.base;
     match form {
-        word::Form::P => line::Element {
-            front: w.front,
-            len: w.len,
-            ruby: w.ruby,
-            from: w.from,
-            upto: w.upto,
-            before: class::depth_before(class[i], width[i], before[i], em),
-            after: class::depth_after(class[i], width[i], after[i], em),
-        },
+        word::Form::P => {
+            let d = class::depths_on(i == 0, class[i], width[i], before[i], after[i], em);
+            line::Element {
+                front: w.front,
+                len: w.len,
+                ruby: w.ruby,
+                from: w.from,
+                upto: w.upto,
+                before: d.before,
+                after: d.after,
+            }
+        }
         word::Form::M => plain_of(w),
         word::Form::G => plain_of(w),
         word::Form::J => plain_of(w),
@@ -183,14 +186,15 @@ pub fn plain_at(
     requires { ⌜ (i < length (now class)) × (i < length (now width)) × (i < length (now before)) × (i < length (now after)) × (getD (now width) i 0 ≤ 4096) ⌝ }
     ensures { λ e. ⌜ e ≡ plainElement i em (now (class .entry)) (now (width .entry)) (now (before .entry)) (now (after .entry)) ⌝ }
 {
+    let d = class::depths_on(i == 0, class[i], width[i], before[i], after[i], em);
     line::Element {
         front: 0,
         len: 2 * width[i],
         ruby: false,
         from: 0,
         upto: 0,
-        before: class::depth_before(class[i], width[i], before[i], em),
-        after: class::depth_after(class[i], width[i], after[i], em),
+        before: d.before,
+        after: d.after,
     }
 }
 

@@ -128,3 +128,24 @@ wanted c =
 pub all-cases : map got cases ≡ map wanted cases
 unfolding got wanted cases
 all-cases = refl
+
+-- The opening indent (document 02, R-1), worked out by hand. A space 10 wide has its block from 0 up to 20, and K1's ruby begins 5 ahead of its base.
+pub openings : List Case
+openings =
+    -- "a class 14 character that is the job's first element takes no ruby at all": the ruby begins where the space ends
+    wide (P 14 10 0 ∷ M 3 ∷ []) (0 ∷ 25 ∷ []) (20 ∷ 30 ∷ 40 ∷ [])
+    -- of two spaces only the first is the first element: the ruby lies on the second
+    ∷ wide (P 14 10 0 ∷ P 14 10 0 ∷ M 3 ∷ []) (0 ∷ 20 ∷ 40 ∷ []) (35 ∷ 45 ∷ 55 ∷ [])
+    -- "A class 14 character at the start of a later line is as before."
+    ∷ record {
+      measure = 23;
+      entries = P 15 20 0 ∷ P 14 10 0 ∷ M 3 ∷ [];
+      base = 0 ∷ 0 ∷ 20 ∷ [];
+      ruby = 15 ∷ 25 ∷ 35 ∷ [];
+      lines = 1 ∷ 3 ∷ [];
+    }
+    ∷ []
+
+pub all-openings : map got openings ≡ map wanted openings
+unfolding got wanted openings
+all-openings = refl

@@ -5,11 +5,10 @@ use mathlib.Core.List.{List}
 use mathlib.Core.Logic.{_⊎_}
 use Prim.Native.Nat.{ℕ, suc, _+_, _*_, _≤_, _<_}
 use lib.ListN.{length, getD}
-use Rattle.class.specs.Class.{depthBefore, depthAfter}
 use Rattle.word.specs.declared.Form.the-variants.{P}
 use Rattle.door.specs.declared.Piece.{Piece}
 use Rattle.door.specs.Job.{Job}
-use Rattle.job.specs.Line.{pieces}
+use Rattle.job.specs.Line.{pieces, depthsAt}
 use Rattle.job.specs.Promise.{pieceOf}
 
 -- Character i is one of piece k of the line from s up to e. A piece is an element of the job, or what of a J stands in the line (`pieces`); `first` is its first
@@ -32,12 +31,12 @@ start positions i = getD positions i 0
 abbrev pub end : List ℕ → List ℕ → ℕ → ℕ
 end positions widths i = getD positions i 0 + 2 * getD widths i 0
 
--- "The depth is at most the blank as given, and at most half an em; for class 5 a quarter em": on base character j, from its start and from its end
+-- how deep ruby may lie on base character j: from its start and from its end
 abbrev pub onStart : Job → ℕ → ℕ
-onStart job j = depthBefore (getD (job .class) j 0) (getD (job .width) j 0) (getD (job .before) j 0) (job .em)
+onStart job j = depthsAt job j .before
 
 abbrev pub onEnd : Job → ℕ → ℕ
-onEnd job j = depthAfter (getD (job .class) j 0) (getD (job .width) j 0) (getD (job .after) j 0) (job .em)
+onEnd job j = depthsAt job j .after
 
 -- The line from s up to e, by the positions of all base and all ruby characters of the job.
 pub record StandsClear (job : Job) (base ruby : List ℕ) (s e : ℕ) : Type 0 where

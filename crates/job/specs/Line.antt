@@ -6,7 +6,8 @@ use Prim.Native.Nat.{ℕ, zero, suc, _+_, _-_, _*_, min, max}
 use lib.Dec.{eqb, leb, ltb}
 use lib.ListN.{getD}
 use Rattle.basics.specs.Lists.{sum, count, any, keep, each, lastOr}
-use Rattle.class.specs.Class.{depthBefore, depthAfter}
+use Rattle.class.specs.declared.Depths.{Depths}
+use Rattle.class.specs.Class.{depthsOn}
 use Rattle.word.specs.declared.Form.{Form}
 use Rattle.word.specs.declared.Form.the-variants.{P, M, G, J}
 use Rattle.word.specs.declared.Word.{Word}
@@ -57,21 +58,23 @@ onP M depth = 0
 onP G depth = 0
 onP J depth = 0
 
+-- how deep ruby may lie on base character i where it is a P, by its class, its width and its blanks, and whether it is the job's first
+abbrev pub depthsAt : Job → ℕ → Depths
+depthsAt job i = depthsOn (eqb i 0) (getD (job .class) i 0) (getD (job .width) i 0) (getD (job .before) i 0) (getD (job .after) i 0) (job .em)
+
 -- a piece as a line sees it: its block, its ruby, and how deep a neighbour's ruby may lie on it
 unfoldable pub seen : Job → Piece → Element
-unfolding word.wordOf depthBefore depthAfter
+unfolding word.wordOf depthsOn
 seen job p =
     let w = wordOf job p in
-    let c = getD (job .class) (p .base) 0 in
-    let width = getD (job .width) (p .base) 0 in
     record {
       front = w .front;
       len = w .len;
       ruby = w .ruby;
       from = w .from;
       upto = w .upto;
-      before = onP (p .form) (depthBefore c width (getD (job .before) (p .base) 0) (job .em));
-      after = onP (p .form) (depthAfter c width (getD (job .after) (p .base) 0) (job .em));
+      before = onP (p .form) (depthsAt job (p .base) .before);
+      after = onP (p .form) (depthsAt job (p .base) .after);
     }
 
 unfoldable pub lineOf : Job → ℕ → ℕ → List Element

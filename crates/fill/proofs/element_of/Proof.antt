@@ -7,47 +7,32 @@ use Rattle.fill.proofs.element_of.Tie as tie
 enum-told : tie.Need-enum-told
 enum-told c = search needs
 
-mul-depth-before : tie.Need-mul-depth-before
-mul-depth-before c = search needs
+mul-depths-on : tie.Need-mul-depths-on
+mul-depths-on c = search needs
 
-shared-slice-read-depth-before : tie.Need-shared-slice-read-depth-before
-shared-slice-read-depth-before c = search needs
+shared-slice-read-depths-on : tie.Need-shared-slice-read-depths-on
+shared-slice-read-depths-on c = search needs
 
-mul-depth-before-2 : tie.Need-mul-depth-before-2
-mul-depth-before-2 c = search needs
+mul-depths-on-2 : tie.Need-mul-depths-on-2
+mul-depths-on-2 c = search needs
 
-shared-slice-read-depth-before-2 : tie.Need-shared-slice-read-depth-before-2
-shared-slice-read-depth-before-2 c = search needs
+shared-slice-read-depths-on-2 : tie.Need-shared-slice-read-depths-on-2
+shared-slice-read-depths-on-2 c = search needs
 
-mul-depth-before-3 : tie.Need-mul-depth-before-3
-mul-depth-before-3 c = search needs
+mul-depths-on-3 : tie.Need-mul-depths-on-3
+mul-depths-on-3 c = search needs
 
-shared-slice-read-depth-before-3 : tie.Need-shared-slice-read-depth-before-3
-shared-slice-read-depth-before-3 c = search needs
+shared-slice-read-depths-on-3 : tie.Need-shared-slice-read-depths-on-3
+shared-slice-read-depths-on-3 c = search needs
 
-depth-before-requires : tie.Need-depth-before-requires
-depth-before-requires c κs = search needs
+mul-depths-on-4 : tie.Need-mul-depths-on-4
+mul-depths-on-4 c = search needs
 
-mul-depth-after : tie.Need-mul-depth-after
-mul-depth-after c = search needs
+shared-slice-read-depths-on-4 : tie.Need-shared-slice-read-depths-on-4
+shared-slice-read-depths-on-4 c = search needs
 
-shared-slice-read-depth-after : tie.Need-shared-slice-read-depth-after
-shared-slice-read-depth-after c = search needs
-
-mul-depth-after-2 : tie.Need-mul-depth-after-2
-mul-depth-after-2 c = search needs
-
-shared-slice-read-depth-after-2 : tie.Need-shared-slice-read-depth-after-2
-shared-slice-read-depth-after-2 c = search needs
-
-mul-depth-after-3 : tie.Need-mul-depth-after-3
-mul-depth-after-3 c = search needs
-
-shared-slice-read-depth-after-3 : tie.Need-shared-slice-read-depth-after-3
-shared-slice-read-depth-after-3 c = search needs
-
-depth-after-requires : tie.Need-depth-after-requires
-depth-after-requires c κs = search needs
+depths-on-requires : tie.Need-depths-on-requires
+depths-on-requires c κs = search needs
 
 enum-told-2 : tie.Need-enum-told-2
 enum-told-2 c = search needs
@@ -68,7 +53,7 @@ plain-of-requires-3 : tie.Need-plain-of-requires-3
 plain-of-requires-3 c κs = search needs
 
 returns : tie.Need-returns
-returns c = rw (c .before .before .before .before .before .before .before .before .enum-told .given .1, ← c .before .before .before .before .depth-before .ensures, ← c .depth-after .ensures)
+returns c = rw (c .before .before .before .before .before .enum-told .given .1, ← c .depths-on .ensures)
 
 returns-2 : tie.Need-returns-2
 returns-2 c = c .plain-of .ensures ∙ rw (c .before .enum-told2 .given .1)
@@ -84,20 +69,15 @@ element-of-spec =
     tie.close
     (tie.spec
     enum-told
-    mul-depth-before
-    shared-slice-read-depth-before
-    mul-depth-before-2
-    shared-slice-read-depth-before-2
-    mul-depth-before-3
-    shared-slice-read-depth-before-3
-    depth-before-requires
-    mul-depth-after
-    shared-slice-read-depth-after
-    mul-depth-after-2
-    shared-slice-read-depth-after-2
-    mul-depth-after-3
-    shared-slice-read-depth-after-3
-    depth-after-requires
+    mul-depths-on
+    shared-slice-read-depths-on
+    mul-depths-on-2
+    shared-slice-read-depths-on-2
+    mul-depths-on-3
+    shared-slice-read-depths-on-3
+    mul-depths-on-4
+    shared-slice-read-depths-on-4
+    depths-on-requires
     enum-told-2
     plain-of-requires
     enum-told-3
