@@ -100,7 +100,7 @@ def _():
     return {'spread': spread}
 
 
-@wrong('equal inner gaps, rounded down')
+@wrong('equal inner gaps, rounded down: the remainder dropped')
 def _():
     def spread(widths, difference, limit):
         n = len(widths)
@@ -111,6 +111,40 @@ def _():
         return [positions[0] + 2 * sum(widths[:i]) + inner * i
                 for i in range(n)]
     return {'spread': spread}
+
+
+def by_pencil(full):
+    """A spread by a quotient and a remainder carried from gap to gap.
+
+    `full(n, before, left)` says whether a gap gets one half unit more: n is
+    the number of characters, `before` what was carried up to this gap and
+    `left` that and the remainder.  R-2 has left >= n - 1.
+    """
+    def spread(widths, difference, limit):
+        n = len(widths)
+        positions = right['spread'](widths, difference, limit)[:1]
+        if n == 1:
+            return positions
+        quotient, remainder = divmod(2 * difference - 2 * positions[0], n - 1)
+        carried = 0
+        for width in widths[:-1]:
+            left = carried + remainder
+            more = full(n, carried, left)
+            carried = left - (n - 1) if more else left
+            positions.append(positions[-1] + 2 * width + quotient
+                             + (1 if more else 0))
+        return positions
+    return {'spread': spread}
+
+
+@wrong('the carry taken one gap late')
+def _():
+    return by_pencil(lambda n, before, left: before >= n - 1)
+
+
+@wrong('the carried remainder compared with n instead of n - 1')
+def _():
+    return by_pencil(lambda n, before, left: left >= n)
 
 
 @wrong('mono ruby spread')
@@ -616,6 +650,10 @@ class Found(unittest.TestCase):
         for name, replacements in WRONG.items():
             with self.subTest(name):
                 self.assertIsNotNone(self.shown_by(replacements), name)
+
+    def test_the_spread_by_pencil_is_right(self):
+        self.assertIsNone(self.shown_by(
+            by_pencil(lambda n, before, left: left >= n - 1)))
 
 
 if __name__ == '__main__':

@@ -2,22 +2,20 @@
 -- its space and widths say, and moving its start moves each character alike.
 use mathlib.Core.Path.{_≡_, refl, ap, _∙_, sym}
 use mathlib.Core.Bool.{Bool, true, false, cond}
-use mathlib.Core.List.{List, [], _∷_, map, map-map}
+use mathlib.Core.List.{List, map, map-map}
 use Prim.Native.Nat.{ℕ, zero, suc, _+_, _-_, _*_, _/_, _≤_, _<_, min}
-use native.Mathlib.Numerals.{add-one}
-use native.Mathlib.Nat.{add-zero, zero-add, add-suc, suc-add, le-refl, le-trans, le-of-suc-le-suc, not-suc-le-zero, min-le-left, div-le-self, div-one, div-zero, sub-self, zero-mul, mul-zero, zero-div, mul-comm, mul-le-mul-left, div-le-of-le-mul, mul-div-cancel}
+use native.Mathlib.Nat.{zero-add, le-refl, le-trans, min-le-left, div-le-self, div-one, div-zero, sub-self, zero-mul, mul-zero, zero-div, mul-comm, mul-le-mul-left, div-le-of-le-mul, mul-div-cancel}
 use native.Mathlib.Omega.{arith}
 use borrow.Author.Tests.{le-leb, eqb-true, eqb-false}
 use lib.Dec.{leb, eqb}
-use lib.ListN.{length, take, drop, getD, length-map}
-use lib.Seq.{drop-cons, take-all, ext-getD}
+use lib.ListN.{length, take, getD, length-map}
+use lib.Seq.{take-all}
 use Rattle.basics.specs.Lists.{sum, count}
 use Rattle.basics.specs.Laws.{take-step, length-count, count-at, count-same}
 use Rattle.spread.specs.declared.Way.{Way}
 use Rattle.spread.specs.declared.Way.the-variants.{Solid, Spread, Limited}
 use Rattle.spread.specs.Worded.{solid, spread, shorter, along}
 use Rattle.spread.specs.Gap.{gap, inner, rear, start, starts}
-use Rattle.spread.specs.Running.{parts, startsFrom}
 
 -- The gap rule.
 
@@ -106,9 +104,13 @@ pub starts-at : (within at : ℕ) (ws : List ℕ) (i : ℕ) → i < length ws �
 unfolding starts
 starts-at within at ws i h = along-at _ ws i h
 
+-- character 0 stands where the string starts
+pub start-first : (s at : ℕ) (ws : List ℕ) → start s at ws 0 ≡ at
+start-first s at ws = rw (mul-zero s, zero-div (length ws - 1)) (omega arith)
+
 -- the first character stands at the string's start
 pub starts-first : (within at : ℕ) (ws : List ℕ) → 0 < length ws → getD (starts within at ws) 0 0 ≡ at
-starts-first within at ws h = starts-at within at ws 0 h ∙ rw (mul-zero within, zero-div (length ws - 1)) (omega arith)
+starts-first within at ws h = starts-at within at ws 0 h ∙ start-first within at ws
 
 -- and the last ends where the widths and the space within end
 pub starts-last : (within at : ℕ) (ws : List ℕ) → 0 < length ws → (length ws ≡ 1 → within ≡ 0) →
@@ -130,32 +132,6 @@ starts-moved x within at ws =
   where
     go : (a b : ℕ) → x + at + a + b ≡ x + (at + a + b)
     go a b = omega arith
-
--- The running form of the loop.
-
-pub starts-step : (ws : List ℕ) (i s p k x : ℕ) → i < length ws
-    → startsFrom s p k x (drop i ws) ≡ (x + s * k / p) ∷ startsFrom s p (k + 1) (x + 2 * getD ws i 0) (drop (i + 1) ws)
-starts-step ws i s p k x h = rw (add-one, add-one, drop-cons ws i 0)
-
-from-at : (s p k x : ℕ) (ws : List ℕ) (i : ℕ) → i < length ws → getD (startsFrom s p k x ws) i 0 ≡ x + 2 * sum (take i ws) + s * (k + i) / p
-from-at s p k x [] i h = absurd (not-suc-le-zero h)
-from-at s p k x (w ∷ ws) zero h = rw (add-zero k) (omega arith)
-from-at s p k x (w ∷ ws) (suc i) h = from-at s p (suc k) (x + 2 * w) ws i (le-of-suc-le-suc h) ∙ rw (add-suc, suc-add) (omega arith)
-
-length-from : (s p k x : ℕ) (ws : List ℕ) → length (startsFrom s p k x ws) ≡ length ws
-length-from s p k x [] = refl
-length-from s p k x (w ∷ ws) = ap suc (length-from s p (suc k) (x + 2 * w) ws)
-
--- dividing by one where there is no gap changes nothing, as a single character takes no part of the space
-same-part : (s i n : ℕ) → i < n → s * i / parts n ≡ s * i / (n - 1)
-same-part s zero n h = rw (mul-zero s, zero-div (parts n), zero-div (n - 1))
-same-part s (suc i) n h = ap (λ (p : ℕ). s * suc i / p) (omega arith)
-
-pub running : (s at : ℕ) (ws : List ℕ) → startsFrom s (parts (length ws)) 0 at ws ≡ starts s at ws
-running s at ws =
-    ext-getD 0 _ _ (length-from s _ 0 at ws ∙ sym (length-starts s at ws))
-    (λ i h. let l : i < length ws = omega (arith, length-from s (parts (length ws)) 0 at ws) in
-    from-at s (parts (length ws)) 0 at ws i l ∙ rw (zero-add i, same-part s i (length ws) l) (sym (starts-at s at ws i l)))
 
 -- a part is at most the whole
 pub part-le : (s i p : ℕ) → i ≤ p → s * i / p ≤ s

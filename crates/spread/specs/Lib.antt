@@ -1,4 +1,5 @@
 pub mod Worded
 pub mod Gap
+pub mod Carried
 pub mod Running
 pub mod Laws

@@ -4,7 +4,7 @@
 ghost use mathlib.Core.Path.{_≡_};
 ghost use Prim.Native.Nat.{_-_, _≤_, _<_};
 ghost use Rattle.spread.specs.Gap.{gap, starts};
-ghost use Rattle.spread.specs.Running.{Ready, parts};
+ghost use Rattle.spread.specs.Running.{Ready};
 
 // How the shorter string is set: Limited is spread with at most half an em at each end.
 pub enum Way {
@@ -31,29 +31,38 @@ pub fn gap_of(way: Way, em: u32, d: u32, n: u32) -> u32
     }
 }
 
-// The gaps within a string of n characters; 1 where it has none, so that the loop below need not ask.
-fn parts_of(n: usize) -> u32
-    requires { ⌜ n ≤ 64 ⌝ }
-    ensures { λ r. ⌜ r ≡ parts n ⌝ }
-{
-    if n < 3 {
-        return 1;
-    }
-    (n - 1) as u32
-}
-
-// The starts of a string's characters: the first at `at`, with `within` half units of space within the string. One loop serves solid and spread.
+// The starts of a string's characters: the first at `at`, with `within` half units of space within the string. One division for the string; then, from gap to
+// gap as by pencil, each gap gets the quotient, the remainder is carried, and a gap where the carried remainders make up the number of gaps gets one half
+// unit more (specs/Carried.antt). One loop serves solid and spread.
 pub fn put_starts(ws: &[u32], at: u32, within: u32, out: &mut [u32])
     requires { ⌜ Ready within at (now ws) (now out) ⌝ }
     ensures { λ _. ⌜ now (out .exit) ≡ starts within at (now (ws .entry)) ⌝ }
 {
     let n = ws.len();
-    let parts = parts_of(n);
+    if n == 0 {
+        return;
+    }
+    out[0] = at;
+    if n == 1 {
+        return;
+    }
+    let gaps = (n - 1) as u32;
+    let quotient = within / gaps;
+    let remainder = within % gaps;
     let mut x = at;
+    let mut carried: u32 = 0;
     let mut i: usize = 0;
-    while i < n {
-        out[i] = x + within * (i as u32) / parts;
-        x += 2 * ws[i];
+    while i + 1 < n {
+        let left = carried + remainder;
+        x += 2 * ws[i] + quotient;
         i += 1;
+        if left < gaps {
+            carried = left;
+            out[i] = x;
+        } else {
+            carried = left - gaps;
+            x += 1;
+            out[i] = x;
+        }
     }
 }
