@@ -383,7 +383,7 @@ static u32 place_plain(struct state *st, const struct job *j, u32 b)
 
 /*
  * A word with ruby after the line so far; its origin. A line is left once it passes the measure, so no position here passes
- * 8,000,000 half units by more than one word's length, and number 14 cannot arise.
+ * 8,000,000 half units by more than one word's length.
  */
 static u32 place_word(struct state *st, const struct job *j, const struct word *w)
 {

@@ -59,7 +59,6 @@ extern "C" {
 #define BV_NO_BREAK 11      /* no permitted break gives a line that can be set; its first base character */
 #define BV_SHORT 12         /* a result list too short; 0 */
 #define BV_FORM 13          /* a job sheet breaks its form; the line from 1, 0 if over 65,535 bytes */
-#define BV_FAR 14           /* a position would pass 4,294,967,295; the line's first base character */
 
 /* number 0: the job is set, and place is the number of its lines. Otherwise the refusal's number and its place. */
 typedef struct bv_answer {

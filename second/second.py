@@ -716,20 +716,9 @@ def fill_lines(job):
     lines, first = [], 0
     while first < job.base_count:
         end, (words, origins) = fill_line(job, owner, breaks, first)
-        check_positions(words, origins, first)
         lines.append((end, words, origins))
         first = end
     return lines
-
-
-def check_positions(words, origins, first):
-    # Refusal 14: "a position would pass 4,294,967,295"; place "first base
-    # character of the line".  The limits of a job keep every position far
-    # below it, so no job gets here.
-    for word, origin in zip(words, origins):
-        for position in word.base_positions + word.ruby_positions:
-            if origin + position > LARGEST_NUMBER:
-                raise Refused(14, first)
 
 
 # ---------------------------------------------------------------------------

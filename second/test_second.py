@@ -946,15 +946,6 @@ class Refusals(Case):
                 self.refused(10, 0, [g(2, 7, cls=base, ruby_class=ruby)])
                 self.accepted([m(3, cls=base, ruby_class=ruby)])
 
-    def test_14_position(self):
-        # No job gets there, so the check is shown on numbers of its own.
-        word = second.Word(3, [0, 20], 40, 0, [5, 25], 35)
-        second.check_positions([word], [BIG - 25], 9)
-        with self.assertRaises(second.Refused) as caught:
-            second.check_positions([word], [BIG - 24], 9)
-        self.assertEqual((caught.exception.number, caught.exception.place),
-                         (14, 9))
-
 
 class Order(Case):
     """Two faults in one job."""

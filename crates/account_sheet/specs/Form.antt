@@ -1,5 +1,5 @@
 -- What the account of a sheet is, said of its bytes, as for the setting: `refused 13 L` exactly of bytes that break the form on line L, `refused 2 P` exactly of those in which a count over its
--- maximum is the first fault, and `refused 12 P` and `refused 14 P` of none.
+-- maximum is the first fault, and `refused 12 P` of none.
 use mathlib.Core.Bool.{cond}
 use mathlib.Core.List.{List, [], _++_}
 use mathlib.Core.Logic.{_↔_}
@@ -25,7 +25,7 @@ use Rattle.job.specs.Order.{given-first}
 use Rattle.result.specs.Text.{lineTwo, refusalText}
 use Rattle.result.specs.Refused.{refused-is, refused-begins}
 use Rattle.setter.specs.Answer.{sheetJob}
-use Rattle.setter.specs.Given.{Given, by-sheet, by-job, thirteen-by, two-by, twelve-by, fourteen-by}
+use Rattle.setter.specs.Given.{Given, by-sheet, by-job, thirteen-by, two-by, twelve-by}
 use Rattle.shortest.specs.Needed.{needed}
 use Rattle.account_text.specs.Text.{said, verdictText, accountText, needsText}
 use Rattle.account_sheet.specs.Answer.{declinedText, tellingText, jobAccount, accountBy, accountOfSheet}
@@ -67,6 +67,3 @@ module _ (s : List ℕ) where
 
   pub never-twelve : (p : ℕ) → accountOfSheet s ≡ bytes "refused 12 " ++ (decimal p ++ bytes "\n") → ⊥
   never-twelve = twelve-by s (accountOfSheet s) read gives
-
-  pub never-fourteen : (p : ℕ) → accountOfSheet s ≡ bytes "refused 14 " ++ (decimal p ++ bytes "\n") → ⊥
-  never-fourteen = fourteen-by s (accountOfSheet s) read gives

@@ -12,7 +12,7 @@ use lib.Seq.{sets}
 use Rattle.text.specs.Print.{Wrote}
 use Rattle.text.specs.Written.{then, same-long}
 use Rattle.refusal.specs.declared.Refusal.{Refusal}
-use Rattle.refusal.specs.declared.Refusal.the-variants.{Range, Count, Short, Character, Blanks, Element, Supply, BlankInside, JukugoBase, Mixed, WesternOver, Far, NoBreak, Form}
+use Rattle.refusal.specs.declared.Refusal.the-variants.{Range, Count, Short, Character, Blanks, Element, Supply, BlankInside, JukugoBase, Mixed, WesternOver, NoBreak, Form}
 use Rattle.refusal.specs.Refusal.{numberOf, placeOf}
 use Rattle.door.specs.Job.{Job, baseCount, elementCount}
 use Rattle.door.specs.Refusals.{ownFaults}
@@ -54,7 +54,6 @@ eleven (BlankInside p) e = absurd (omega arith)
 eleven (JukugoBase p) e = absurd (omega arith)
 eleven (Mixed p) e = absurd (omega arith)
 eleven (WesternOver p) e = absurd (omega arith)
-eleven (Far p) e = absurd (omega arith)
 eleven (NoBreak p) e = refl
 eleven (Form p) e = absurd (omega arith)
 

@@ -24,7 +24,6 @@ use Rattle.job.specs.Laws.{entries-cut}
 use Rattle.job.specs.Words as words
 use Rattle.job.specs.Walk.{stateOf, state-more, can-set, best, best-stays}
 use Rattle.fill.specs.declared.Reached.{Reached}
-use Rattle.fill.specs.declared.Reached.the-variants as reached
 use Rattle.fill.specs.Piece.{Into, pieceUpto, more, good}
 use Rattle.fill.specs.Search.{Here, the-element, into-jukugo, low-end, low-s}
 
@@ -46,8 +45,7 @@ tooWide s x end em measure = isJ (x .form) && ltb (2 * measure) (end + 2 * (em *
 
 -- what is known at the end c of an element
 abbrev pub ReachesTo : Job → ℕ → ℕ → Reached → Type 0
-ReachesTo job s c (reached.At fit st) = (fit ≡ canSet job s c) × (fit ≡ true → st ≡ stateOf job s c)
-ReachesTo job s c (reached.Refused r) = ⊥
+ReachesTo job s c r = (r .fit ≡ canSet job s c) × (r .fit ≡ true → r .st ≡ stateOf job s c)
 
 -- the first of so many
 ems-first : (em : ℕ) (ws : List ℕ) (b n : ℕ) → 0 < n → All (OneEm em) (entries ws b n) → em ≡ getD ws b 0

@@ -9,7 +9,7 @@ ghost use lib.Dec.{leb, eqb};
 ghost use lib.ListN.{length, getD};
 ghost use mathlib.Core.List.{[]};
 ghost use Rattle.line.specs.Setting as setting;
-ghost use Rattle.line.specs.declared.Placed.the-variants as placed;
+ghost use Rattle.fill.specs.declared.Placing.the-variants as placing;
 ghost use Rattle.door.specs.Job.{jobOf, baseCount, elementCount, element};
 ghost use Rattle.word.specs.Part.{formOfPart};
 ghost use Rattle.job.specs.Line as meaning;
@@ -126,6 +126,12 @@ pub fn piece_upto(x: door::Piece, s: usize, c: usize, runs: &[u32]) -> door::Pie
     }
 }
 
+// What stands once a piece is placed, or level one's refusal of it.
+pub enum Placing {
+    At(line::State),
+    Refused(refusal::Refusal),
+}
+
 // The piece of element x up to c, set within itself and placed after the line so far. A refusal of level one goes up unchanged.
 pub fn reach(
     s: usize,
@@ -146,9 +152,9 @@ pub fn reach(
     ebase: &[u32],
     eruby: &[u32],
     runs: &[u32],
-) -> line::Placed
+) -> Placing
     requires { ⌜ (Into (jobOf em measure (now class) (now width) (now before) (now after) (now flag) (now rclass) (now rwidth) (now kind) (now ebase) (now eruby) (now runs)) s c x) × (st ≡ stateOf (jobOf em measure (now class) (now width) (now before) (now after) (now flag) (now rclass) (now rwidth) (now kind) (now ebase) (now eruby) (now runs)) s (x .base)) × (k < 1024) ⌝ }
-    ensures { λ r. ⌜ r ≡ placed.At (setting.origin st (meaning.seen (jobOf em measure (now (class .entry)) (now (width .entry)) (now (before .entry)) (now (after .entry)) (now (flag .entry)) (now (rclass .entry)) (now (rwidth .entry)) (now (kind .entry)) (now (ebase .entry)) (now (eruby .entry)) (now (runs .entry))) (pieceUpto (jobOf em measure (now (class .entry)) (now (width .entry)) (now (before .entry)) (now (after .entry)) (now (flag .entry)) (now (rclass .entry)) (now (rwidth .entry)) (now (kind .entry)) (now (ebase .entry)) (now (eruby .entry)) (now (runs .entry))) s c x))) (stateOf (jobOf em measure (now (class .entry)) (now (width .entry)) (now (before .entry)) (now (after .entry)) (now (flag .entry)) (now (rclass .entry)) (now (rwidth .entry)) (now (kind .entry)) (now (ebase .entry)) (now (eruby .entry)) (now (runs .entry))) s c) ⌝ }
+    ensures { λ r. ⌜ r ≡ placing.At (stateOf (jobOf em measure (now (class .entry)) (now (width .entry)) (now (before .entry)) (now (after .entry)) (now (flag .entry)) (now (rclass .entry)) (now (rwidth .entry)) (now (kind .entry)) (now (ebase .entry)) (now (eruby .entry)) (now (runs .entry))) s c) ⌝ }
 {
     let p = piece_upto(x, s, c, runs);
     let answer = door::measure_piece(
@@ -166,12 +172,14 @@ pub fn reach(
     let word::Answer::Set(w) = answer else {
         let word::Answer::Refused(why) = answer else {
             // Never reached: an answer has two cases.
-            return line::Placed::Refused(refusal::Refusal::Short);
+            return Placing::Refused(refusal::Refusal::Short);
         };
-        return line::Placed::Refused(why);
+        return Placing::Refused(why);
     };
     let e = element_of(p, w, em, class, width, before, after);
-    line::place(s as u32, st, e)
+    let placed = line::place(st, e);
+    let next = placed.st;
+    Placing::At(next)
 }
 
 // A P as the line sees it: "A P element is its own block", without ruby; how deep a neighbour's may lie on it is asked of the class table.
@@ -218,18 +226,20 @@ fn reach_judged(
     ebase: &[u32],
     eruby: &[u32],
     runs: &[u32],
-) -> line::Placed
+) -> line::State
     requires { ⌜ (Into (jobOf em measure (now class) (now width) (now before) (now after) (now flag) (now rclass) (now rwidth) (now kind) (now ebase) (now eruby) (now runs)) s c x) × (st ≡ stateOf (jobOf em measure (now class) (now width) (now before) (now after) (now flag) (now rclass) (now rwidth) (now kind) (now ebase) (now eruby) (now runs)) s (x .base)) × (k < 1024) ⌝ }
-    ensures { λ r. ⌜ r ≡ placed.At (setting.origin st (meaning.seen (jobOf em measure (now (class .entry)) (now (width .entry)) (now (before .entry)) (now (after .entry)) (now (flag .entry)) (now (rclass .entry)) (now (rwidth .entry)) (now (kind .entry)) (now (ebase .entry)) (now (eruby .entry)) (now (runs .entry))) (pieceUpto (jobOf em measure (now (class .entry)) (now (width .entry)) (now (before .entry)) (now (after .entry)) (now (flag .entry)) (now (rclass .entry)) (now (rwidth .entry)) (now (kind .entry)) (now (ebase .entry)) (now (eruby .entry)) (now (runs .entry))) s c x))) (stateOf (jobOf em measure (now (class .entry)) (now (width .entry)) (now (before .entry)) (now (after .entry)) (now (flag .entry)) (now (rclass .entry)) (now (rwidth .entry)) (now (kind .entry)) (now (ebase .entry)) (now (eruby .entry)) (now (runs .entry))) s c) ⌝ }
+    ensures { λ r. ⌜ r ≡ stateOf (jobOf em measure (now (class .entry)) (now (width .entry)) (now (before .entry)) (now (after .entry)) (now (flag .entry)) (now (rclass .entry)) (now (rwidth .entry)) (now (kind .entry)) (now (ebase .entry)) (now (eruby .entry)) (now (runs .entry))) s c ⌝ }
 {
     if door::is_plain(x) {
         let e = plain_at(x.base, em, class, width, before, after);
-        return line::place(s as u32, st, e);
+        let placed = line::place(st, e);
+        return placed.st;
     }
     let p = piece_upto(x, s, c, runs);
     let w = door::piece_word(p, em, class, width, rclass, rwidth, runs);
     let e = element_of(p, w, em, class, width, before, after);
-    line::place(s as u32, st, e)
+    let placed = line::place(st, e);
+    placed.st
 }
 
 // The line so far ends within the measure.
@@ -317,8 +327,8 @@ fn within_jukugo(
             eruby,
             runs,
         ) {
-            line::Placed::Refused(why) => return Ended::Refused(why),
-            line::Placed::At(_, next) => {
+            Placing::Refused(why) => return Ended::Refused(why),
+            Placing::At(next) => {
                 if fits(next, measure) {
                     return Ended::At(Break {
                         end: c,
@@ -484,9 +494,9 @@ enum Turn {
 }
 
 // The line up to an element's end can be set or not, and its state where it can.
-enum Reached {
-    At(bool, line::State),
-    Refused(refusal::Refusal),
+struct Reached {
+    fit: bool,
+    st: line::State,
 }
 
 // A J whose block alone, of one em for each character, passes the measure.
@@ -531,10 +541,10 @@ fn reach_end(
     ensures { λ a. ⌜ ReachesTo (jobOf em measure (now (class .entry)) (now (width .entry)) (now (before .entry)) (now (after .entry)) (now (flag .entry)) (now (rclass .entry)) (now (rwidth .entry)) (now (kind .entry)) (now (ebase .entry)) (now (eruby .entry)) (now (runs .entry))) s (x .base + x .bases) a ⌝ }
 {
     if too_wide(s, x, st.end, em, measure) {
-        return Reached::At(false, st);
+        return Reached { fit: false, st: st };
     }
     let c = x.base + x.bases;
-    match reach_judged(
+    let next = reach_judged(
         s,
         c,
         k,
@@ -553,9 +563,10 @@ fn reach_end(
         ebase,
         eruby,
         runs,
-    ) {
-        line::Placed::Refused(why) => Reached::Refused(why),
-        line::Placed::At(_, next) => Reached::At(fits(next, measure), next),
+    );
+    Reached {
+        fit: fits(next, measure),
+        st: next,
     }
 }
 
@@ -584,7 +595,7 @@ fn pass_element(
     requires { ⌜ Here (jobOf em measure (now class) (now width) (now before) (now after) (now flag) (now rclass) (now rwidth) (now kind) (now ebase) (now eruby) (now runs)) s k x st × Best (jobOf em measure (now class) (now width) (now before) (now after) (now flag) (now rclass) (now rwidth) (now kind) (now ebase) (now eruby) (now runs)) s (x .base) last × (bases ≡ baseCount (jobOf em measure (now class) (now width) (now before) (now after) (now flag) (now rclass) (now rwidth) (now kind) (now ebase) (now eruby) (now runs))) ⌝ }
     ensures { λ a. ⌜ TurnsTo (jobOf em measure (now (class .entry)) (now (width .entry)) (now (before .entry)) (now (after .entry)) (now (flag .entry)) (now (rclass .entry)) (now (rwidth .entry)) (now (kind .entry)) (now (ebase .entry)) (now (eruby .entry)) (now (runs .entry))) s (x .base + x .bases) a ⌝ }
 {
-    match reach_end(
+    let reached = reach_end(
         s,
         k,
         x,
@@ -602,39 +613,37 @@ fn pass_element(
         ebase,
         eruby,
         runs,
+    );
+    let fit = reached.fit;
+    match after_element(
+        fit,
+        s,
+        k,
+        x,
+        st,
+        last,
+        bases,
+        em,
+        measure,
+        class,
+        width,
+        before,
+        after,
+        flag,
+        rclass,
+        rwidth,
+        kind,
+        ebase,
+        eruby,
+        runs,
     ) {
-        Reached::Refused(why) => Turn::Refused(why),
-        Reached::At(fit, next) => {
-            match after_element(
-                fit,
-                s,
-                k,
-                x,
-                st,
-                last,
-                bases,
-                em,
-                measure,
-                class,
-                width,
-                before,
-                after,
-                flag,
-                rclass,
-                rwidth,
-                kind,
-                ebase,
-                eruby,
-                runs,
-            ) {
-                Ended::Refused(why) => Turn::Refused(why),
-                Ended::At(found) => {
-                    if fit {
-                        Turn::On(next, found)
-                    } else {
-                        Turn::Off(found)
-                    }
-                }
+        Ended::Refused(why) => Turn::Refused(why),
+        Ended::At(found) => {
+            if fit {
+                let next = reached.st;
+                Turn::On(next, found)
+            } else {
+                Turn::Off(found)
             }
         }
     }

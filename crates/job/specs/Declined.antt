@@ -18,7 +18,6 @@ use Rattle.door.specs.Refusals.{_when_}
 use Rattle.door.specs.Passed.{Passed}
 use Rattle.job.specs.Line.{furthest, endsFrom, ends}
 use Rattle.job.specs.Refusals.{noBreak, lineFaults, linesFaults}
-use Rattle.job.specs.Bounded.{never-far}
 use Rattle.job.specs.Promise.{CanSet, Break, Ends, Chain, Filled, Stuck}
 use Rattle.job.specs.Filled.{end-none, no-break, line-ends, stuck-chain}
 
@@ -39,10 +38,6 @@ abbrev pub Way : Job → ℕ → List ℕ → List Refusal → Type 0
 Way job s es faults = ((faults ≡ []) × Chain job s es (baseCount job)) ⊎ Stops job s es faults
 
 module _ (job : Job) (passed : Passed job) where
-  -- number 14 is never among them
-  one-row : (s : ℕ) → lineFaults job s ≡ NoBreak s when noBreak job s
-  one-row s = rw (never-far job passed s)
-
   at-end : (n s : ℕ) → s ≡ baseCount job → Way job s (endsFrom job n s) (from job n s)
   at-end n s e = inl (rw (end-none job n s (omega arith), le-ltb s (baseCount job) (omega arith)), rw (end-none job n s (omega arith)) e)
 
@@ -59,10 +54,10 @@ module _ (job : Job) (passed : Passed job) where
       keeps = lt-ltb s (baseCount job) h
 
       here : noBreak job s ≡ true → from job (suc n) s ≡ NoBreak s ∷ []
-      here b = rw (b, keeps, one-row s, b)
+      here b = rw (b, keeps, b)
 
       later : noBreak job s ≡ false → from job (suc n) s ≡ from job n e
-      later b = rw (b, keeps, one-row s, b)
+      later b = rw (b, keeps, b)
 
       move : Ends job s e → Way job e (endsFrom job n e) (from job n e) → noBreak job s ≡ false → Way job s (e ∷ endsFrom job n e) (from job (suc n) s)
       move l (inl w) b = inl (later b ∙ w .0, (l, w .1))

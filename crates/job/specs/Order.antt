@@ -14,7 +14,7 @@ use lib.Dec.{ltb, eqb}
 use lib.ListN.{length, getD}
 use Rattle.basics.specs.Lists.{count, keep, each, All}
 use Rattle.refusal.specs.declared.Refusal.{Refusal}
-use Rattle.refusal.specs.declared.Refusal.the-variants.{Range, Count, Short, Character, Blanks, Element, Supply, BlankInside, JukugoBase, Mixed, WesternOver, Far, NoBreak, Form}
+use Rattle.refusal.specs.declared.Refusal.the-variants.{Range, Count, Short, Character, Blanks, Element, Supply, BlankInside, JukugoBase, Mixed, WesternOver, NoBreak, Form}
 use Rattle.refusal.specs.Refusal.{placeOf}
 use Rattle.word.specs.Answer.{blankInside, jukugoBase, mixedIn, westernOver}
 use Rattle.door.specs.declared.Piece.{Piece}
@@ -22,7 +22,7 @@ use Rattle.door.specs.Job.{Job, baseCount, rubyCount, elementCount, elements, g
 use Rattle.door.specs.Refusals.{_when_, emWrong, measureWrong, listShort, baseWrong, rubyWrong, blanksWrong, countsWrong, runOut, leftOver, baseFaults, rubyFaults, elementFaults, jobFaults, charFaults, elementsFaults, leftFaults, ownFaults}
 use Rattle.door.specs.Passed.{limits}
 use Rattle.job.specs.Line.{furthest, endsFrom, ends}
-use Rattle.job.specs.Refusals.{tooFar, noBreak, lineFaults, linesFaults, faults, fault}
+use Rattle.job.specs.Refusals.{noBreak, lineFaults, linesFaults, faults, fault}
 use Rattle.job.specs.Laws.{all-append, all-each}
 use Rattle.job.specs.Walk.{length-elements}
 use Rattle.job.specs.Promise.{nobody}
@@ -193,24 +193,24 @@ elements-between job k (x ∷ xs) =
     step : (i n : ℕ) → suc i + n ≡ i + suc n
     step i n = omega arith
 
-left-between : (job : Job) → Between (Element (elementCount job)) (Far 0) (leftFaults job)
+left-between : (job : Job) → Between (Element (elementCount job)) (NoBreak 0) (leftFaults job)
 unfolding leftFaults
 left-between job =
     let n = elementCount job in
-    append (Element n) (Supply n) (Supply n) (Far 0) [] (leftFaults job) (inl refl)
-    (record { range = inr (inr (refl, inr (refl, omega arith))); low = tt; high = tt; rises = tt }) (one (Supply n) (Far 0) (leftOver job (elements job)) (inl (omega arith)))
+    append (Element n) (Supply n) (Supply n) (NoBreak 0) [] (leftFaults job) (inl refl)
+    (record { range = inr (inr (refl, inr (refl, omega arith))); low = tt; high = tt; rises = tt }) (one (Supply n) (NoBreak 0) (leftOver job (elements job)) (inl (omega arith)))
 
 -- The lines: each begins past the one before.
 
-line-between : (job : Job) (s : ℕ) → Between (Far s) (Far (suc s)) (lineFaults job s)
+line-between : (job : Job) (s : ℕ) → Between (NoBreak s) (NoBreak (suc s)) (lineFaults job s)
 line-between job s =
-    also (Far s) (NoBreak s) (Far (suc s)) (Far s when tooFar job s) (noBreak job s) (inr (refl, inl (omega arith))) (one (Far s) (NoBreak s) (tooFar job s) (inr (refl, inr (refl, omega arith))))
+    one (NoBreak s) (NoBreak (suc s)) (noBreak job s) (inr (refl, inl (omega arith)))
 
-upto-far : (a b : ℕ) → a ≤ b → Upto (Far a) (Far b)
-upto-far a b h =
+upto-line : (a b : ℕ) → a ≤ b → Upto (NoBreak a) (NoBreak b)
+upto-line a b h =
     elim (decLt a b) [
       | yes g ↦ inr (inr (refl, inl g))
-      | no g ↦ inl (ap Far (same g))
+      | no g ↦ inl (ap NoBreak (same g))
     ]
   where
     same : (a < b → ⊥) → a ≡ b
@@ -221,21 +221,21 @@ from job ss = each (lineFaults job) (keep (λ s. ltb s (baseCount job)) ss)
 
 -- the line from s, and the lines after it
 module _ (job : Job) where
-  nothing : (s : ℕ) → s ≤ baseCount job → Between (Far s) (Far (baseCount job)) []
-  nothing s h = record { range = upto-far s (baseCount job) h; low = tt; high = tt; rises = tt }
+  nothing : (s : ℕ) → s ≤ baseCount job → Between (NoBreak s) (NoBreak (baseCount job)) []
+  nothing s h = record { range = upto-line s (baseCount job) h; low = tt; high = tt; rises = tt }
 
-  line-then : (s : ℕ) (ss : List ℕ) → s ≤ baseCount job → (s < baseCount job → Between (Far (suc s)) (Far (baseCount job)) (from job ss)) → (baseCount job ≤ s → ss ≡ []) →
-      Between (Far s) (Far (baseCount job)) (from job (s ∷ ss))
+  line-then : (s : ℕ) (ss : List ℕ) → s ≤ baseCount job → (s < baseCount job → Between (NoBreak (suc s)) (NoBreak (baseCount job)) (from job ss)) → (baseCount job ≤ s → ss ≡ []) →
+      Between (NoBreak s) (NoBreak (baseCount job)) (from job (s ∷ ss))
   line-then s ss h more last =
       elim (decLt s (baseCount job)) [
-        | yes g ↦ rw (lt-ltb s (baseCount job) g) (append (Far s) (Far (suc s)) (Far (suc s)) (Far (baseCount job)) (lineFaults job s) (from job ss) (inl refl) (line-between job s) (more g))
+        | yes g ↦ rw (lt-ltb s (baseCount job) g) (append (NoBreak s) (NoBreak (suc s)) (NoBreak (suc s)) (NoBreak (baseCount job)) (lineFaults job s) (from job ss) (inl refl) (line-between job s) (more g))
         | no g ↦ rw (le-ltb s (baseCount job) (other g), last (other g)) (nothing s h)
       ]
     where
       other : (s < baseCount job → ⊥) → baseCount job ≤ s
       other g = omega arith
 
-  lines-between : (n s : ℕ) → s ≤ baseCount job → Between (Far s) (Far (baseCount job)) (from job (s ∷ endsFrom job n s))
+  lines-between : (n s : ℕ) → s ≤ baseCount job → Between (NoBreak s) (NoBreak (baseCount job)) (from job (s ∷ endsFrom job n s))
   unfolding endsFrom
   lines-between zero s h = line-then s [] h (λ g. nothing (suc s) g) (λ g. refl)
   lines-between (suc n) s h = line-then s (endsFrom job (suc n) s) h (λ g. rest g (found-ahead job s) (λ u. lines-between n (furthest job s) u)) (end-none job (suc n) s)
@@ -243,14 +243,14 @@ module _ (job : Job) where
       e : ℕ
       e = furthest job s
 
-      rest : s < baseCount job → (e ≡ 0) ⊎ ((s < e) × (e ≤ baseCount job)) → (e ≤ baseCount job → Between (Far e) (Far (baseCount job)) (from job (e ∷ endsFrom job n e))) →
-          Between (Far (suc s)) (Far (baseCount job)) (from job (cond (eqb e 0) [] (e ∷ endsFrom job n e)))
+      rest : s < baseCount job → (e ≡ 0) ⊎ ((s < e) × (e ≤ baseCount job)) → (e ≤ baseCount job → Between (NoBreak e) (NoBreak (baseCount job)) (from job (e ∷ endsFrom job n e))) →
+          Between (NoBreak (suc s)) (NoBreak (baseCount job)) (from job (cond (eqb e 0) [] (e ∷ endsFrom job n e)))
       rest g (inl z) f = rw z (nothing (suc s) g)
       rest g (inr l) f =
           rw (ne-eqb e 0 (λ z. omega (arith, l .0)))
-          (append (Far (suc s)) (Far (suc s)) (Far e) (Far (baseCount job)) [] (from job (e ∷ endsFrom job n e)) (upto-far (suc s) e (l .0)) (none-between (Far (suc s))) (f (l .1)))
+          (append (NoBreak (suc s)) (NoBreak (suc s)) (NoBreak e) (NoBreak (baseCount job)) [] (from job (e ∷ endsFrom job n e)) (upto-line (suc s) e (l .0)) (none-between (NoBreak (suc s))) (f (l .1)))
 
-  all-lines-between : Between (Far 0) (Far (baseCount job)) (linesFaults job)
+  all-lines-between : Between (NoBreak 0) (NoBreak (baseCount job)) (linesFaults job)
   unfolding ends linesFaults
   all-lines-between = lines-between (baseCount job) 0 zero-le
 
@@ -262,13 +262,13 @@ length-is job = zero-add (length (elements job)) ∙ length-elements job
 later : Job → List Refusal
 later job = charFaults job ++ ((elementsFaults job 0 (elements job) ++ leftFaults job) ++ linesFaults job)
 
-later-between : (job : Job) → baseCount job ≤ 1024 → Between (Character 0) (Far (baseCount job)) (later job)
+later-between : (job : Job) → baseCount job ≤ 1024 → Between (Character 0) (NoBreak (baseCount job)) (later job)
 unfolding later
 later-between job h =
-    append (Character 0) (Character (1024 + rubyCount job)) (Element 0) (Far (baseCount job)) (charFaults job) ((elementsFaults job 0 (elements job) ++ leftFaults job) ++ linesFaults job)
+    append (Character 0) (Character (1024 + rubyCount job)) (Element 0) (NoBreak (baseCount job)) (charFaults job) ((elementsFaults job 0 (elements job) ++ leftFaults job) ++ linesFaults job)
     (inr (inl (omega arith))) (char-between job h)
-    (append (Element 0) (Far 0) (Far 0) (Far (baseCount job)) (elementsFaults job 0 (elements job) ++ leftFaults job) (linesFaults job) (inl refl)
-    (append (Element 0) (Element (elementCount job)) (Element (elementCount job)) (Far 0) (elementsFaults job 0 (elements job)) (leftFaults job) (inl refl)
+    (append (Element 0) (NoBreak 0) (NoBreak 0) (NoBreak (baseCount job)) (elementsFaults job 0 (elements job) ++ leftFaults job) (linesFaults job) (inl refl)
+    (append (Element 0) (Element (elementCount job)) (Element (elementCount job)) (NoBreak 0) (elementsFaults job 0 (elements job)) (leftFaults job) (inl refl)
     (subst (λ n. Between (Element 0) (Element n) (elementsFaults job 0 (elements job))) (length-is job) (elements-between job 0 (elements job))) (left-between job))
     (all-lines-between job))
 
@@ -360,7 +360,7 @@ module _ (job : Job) (b r l : ℕ) where
   unfolding linesFaults
   line-rows =
       all-each (Begins job) R (lineFaults job) (keep (λ s. ltb s (baseCount job)) (0 ∷ ends job))
-      (λ s h. both (Far s when tooFar job s) (NoBreak s when noBreak job s) (all-when R (Far s) (tooFar job s) (λ t. (h, t))) (all-when R (NoBreak s) (noBreak job s) (λ t. (h, t))))
+      (λ s h. all-when R (NoBreak s) (noBreak job s) (λ t. (h, t)))
       (kept (λ s. ltb s (baseCount job)) (Begins job) (0 ∷ ends job) (λ s m t. (ltb-true s (baseCount job) t, m)))
 
   later-rows : All R (later job)
@@ -608,8 +608,7 @@ module _ (job : Job) (b r l : ℕ) where
   listed (JukugoBase p) h = row-eight p h
   listed (Mixed p) h = row-nine p h
   listed (WesternOver p) h = row-ten p h
-  listed (Far p) h = line-row p (Far p) (h .0) (in-left (Far p) (Far p when tooFar job p) (NoBreak p when noBreak job p) (in-when (Far p) (tooFar job p) (h .1)))
-  listed (NoBreak p) h = line-row p (NoBreak p) (h .0) (in-right (NoBreak p) (Far p when tooFar job p) (NoBreak p when noBreak job p) (in-when (NoBreak p) (noBreak job p) (h .1)))
+  listed (NoBreak p) h = line-row p (NoBreak p) (h .0) (in-when (NoBreak p) (noBreak job p) (h .1))
   listed (Form p) h = absurd h
 
   -- The head.
@@ -656,7 +655,7 @@ later-low job =
     (both-low (elementsFaults job 0 (elements job) ++ leftFaults job) (linesFaults job)
     (both-low (elementsFaults job 0 (elements job)) (leftFaults job) (raise (Element 0) (elementsFaults job 0 (elements job)) (inl (omega arith)) (elements-between job 0 (elements job) .low))
     (raise (Element (elementCount job)) (leftFaults job) (inl (omega arith)) (left-between job .low)))
-    (raise (Far 0) (linesFaults job) (inl (omega arith)) (all-lines-between job .low)))
+    (raise (NoBreak 0) (linesFaults job) (inl (omega arith)) (all-lines-between job .low)))
   where
     both-low : (xs ys : List Refusal) → All (Upto (Character 0)) xs → All (Upto (Character 0)) ys → All (Upto (Character 0)) (xs ++ ys)
     both-low xs ys p q = all-append (Upto (Character 0)) xs ys p q
@@ -717,7 +716,7 @@ module _ (job : Job) (base ruby lines : ℕ) where
 
 -- Where the refusal comes from: the door's list, or, with nothing there, the lines'.
 
-own-before : (job : Job) (b r l : ℕ) → All (λ x. Before x (Far 0)) (ownFaults job b r l)
+own-before : (job : Job) (b r l : ℕ) → All (λ x. Before x (NoBreak 0)) (ownFaults job b r l)
 unfolding ownFaults charFaults
 own-before job b r l =
     both-high (jobFaults job b r l) (charFaults job ++ (elementsFaults job 0 (elements job) ++ leftFaults job)) (sink (Character 0) (jobFaults job b r l) (inl (omega arith)) (job-between job b r l .high))
@@ -728,11 +727,11 @@ own-before job b r l =
     (both-high (elementsFaults job 0 (elements job)) (leftFaults job)
     (sink (Element (0 + length (elements job))) (elementsFaults job 0 (elements job)) (inl (omega arith)) (elements-between job 0 (elements job) .high)) (left-between job .high)))
   where
-    both-high : (xs ys : List Refusal) → All (λ x. Before x (Far 0)) xs → All (λ x. Before x (Far 0)) ys → All (λ x. Before x (Far 0)) (xs ++ ys)
-    both-high xs ys p q = all-append (λ x. Before x (Far 0)) xs ys p q
+    both-high : (xs ys : List Refusal) → All (λ x. Before x (NoBreak 0)) xs → All (λ x. Before x (NoBreak 0)) ys → All (λ x. Before x (NoBreak 0)) (xs ++ ys)
+    both-high xs ys p q = all-append (λ x. Before x (NoBreak 0)) xs ys p q
 
-    sink : (c : Refusal) (xs : List Refusal) → Before c (Far 0) → All (λ x. Before x c) xs → All (λ x. Before x (Far 0)) xs
-    sink c xs h a = map-all (λ x. Before x c) (λ x. Before x (Far 0)) xs (λ x k. trans x c (Far 0) k h) a
+    sink : (c : Refusal) (xs : List Refusal) → Before c (NoBreak 0) → All (λ x. Before x c) xs → All (λ x. Before x (NoBreak 0)) xs
+    sink c xs h a = map-all (λ x. Before x c) (λ x. Before x (NoBreak 0)) xs (λ x k. trans x c (NoBreak 0) k h) a
 
 head-of : (P : Refusal → Type 0) (xs ys : List Refusal) (r : Refusal) → All P xs → head? (xs ++ ys) ≡ some r → P r ⊎ ((xs ≡ []) × (head? ys ≡ some r))
 head-of P [] ys r a e = inr (refl, e)
@@ -741,9 +740,9 @@ head-of P (x ∷ xs) ys r a e = let h : x ≡ r = cc in inl (subst P h (a .0))
 -- a refusal of the lines' stage is given only where the door has none
 pub lines-turn : (job : Job) (b r l : ℕ) (q : Refusal) → stage q ≡ 5 → fault job b r l ≡ some q → (ownFaults job b r l ≡ []) × (head? (linesFaults job) ≡ some q)
 unfolding fault faults
-lines-turn job b r l q h e = go (head-of (λ x. Before x (Far 0)) (ownFaults job b r l) (linesFaults job) q (own-before job b r l) e)
+lines-turn job b r l q h e = go (head-of (λ x. Before x (NoBreak 0)) (ownFaults job b r l) (linesFaults job) q (own-before job b r l) e)
   where
-    late : Before q (Far 0) → ⊥
+    late : Before q (NoBreak 0) → ⊥
     late (inl k) = omega arith
     late (inr k) = place (k .1)
       where
@@ -763,10 +762,9 @@ lines-turn job b r l q h e = go (head-of (λ x. Before x (Far 0)) (ownFaults job
             few (JukugoBase p) h k = omega arith
             few (Mixed p) h k = omega arith
             few (WesternOver p) h k = omega arith
-            few (Far p) h k = omega arith
             few (NoBreak p) h k = omega arith
             few (Form p) h k = omega arith
 
-    go : Before q (Far 0) ⊎ ((ownFaults job b r l ≡ []) × (head? (linesFaults job) ≡ some q)) → (ownFaults job b r l ≡ []) × (head? (linesFaults job) ≡ some q)
+    go : Before q (NoBreak 0) ⊎ ((ownFaults job b r l ≡ []) × (head? (linesFaults job) ≡ some q)) → (ownFaults job b r l ≡ []) × (head? (linesFaults job) ≡ some q)
     go (inl k) = absurd (late k)
     go (inr k) = k

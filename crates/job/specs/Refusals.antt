@@ -4,31 +4,25 @@ use mathlib.Core.List.{List, _∷_, _++_, head?}
 use mathlib.Core.Option.{Option}
 use Prim.Native.Nat.{ℕ}
 use lib.Dec.{eqb, ltb}
-use Rattle.basics.specs.Lists.{any, each, keep}
+use Rattle.basics.specs.Lists.{each, keep}
 use Rattle.refusal.specs.declared.Refusal.{Refusal}
-use Rattle.refusal.specs.declared.Refusal.the-variants.{Far, NoBreak}
-use Rattle.line.specs.Rules.{largest}
+use Rattle.refusal.specs.declared.Refusal.the-variants.{NoBreak}
 use Rattle.door.specs.Job.{Job, baseCount}
 use Rattle.door.specs.Refusals.{_when_, ownFaults}
-use Rattle.job.specs.Line.{extentOf, tries, furthest, ends}
-
--- 14: "a position would pass 4,294,967,295", in some try of the line from s
-unfoldable pub tooFar : Job → ℕ → Bool
-unfolding tries extentOf
-tooFar job s = any (λ e. ltb largest (extentOf job s e)) (tries job s)
+use Rattle.job.specs.Line.{furthest, ends}
 
 -- 11: "no permitted break gives a line that can be set"
 unfoldable pub noBreak : Job → ℕ → Bool
 unfolding furthest
 noBreak job s = eqb (furthest job s) 0
 
--- the place of both is the "first base character of the line"; within a line 14 comes before 11, as in the table
+-- its place is the "first base character of the line"
 abbrev pub lineFaults : Job → ℕ → List Refusal
-lineFaults job s = Far s when tooFar job s ++ NoBreak s when noBreak job s
+lineFaults job s = NoBreak s when noBreak job s
 
 -- "then lines in turn": a line begins at the first base character, and at the end of each line "so far"
 unfoldable pub linesFaults : Job → List Refusal
-unfolding tooFar noBreak ends baseCount
+unfolding noBreak ends baseCount
 linesFaults job = each (lineFaults job) (keep (λ s. ltb s (baseCount job)) (0 ∷ ends job))
 
 -- "Order: 1, 2 and 12, ..; then base characters and then ruby characters in turn, ..; then elements in turn, ..; then leftover characters; then lines in

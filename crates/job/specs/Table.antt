@@ -7,14 +7,14 @@ use mathlib.Core.Logic.{_⊎_}
 use Prim.Native.Nat.{ℕ, _+_, _<_}
 use lib.ListN.{getD}
 use Rattle.refusal.specs.declared.Refusal.{Refusal}
-use Rattle.refusal.specs.declared.Refusal.the-variants.{Range, Count, Short, Character, Blanks, Element, Supply, BlankInside, JukugoBase, Mixed, WesternOver, Far, NoBreak, Form}
+use Rattle.refusal.specs.declared.Refusal.the-variants.{Range, Count, Short, Character, Blanks, Element, Supply, BlankInside, JukugoBase, Mixed, WesternOver, NoBreak, Form}
 use Rattle.refusal.specs.Refusal.{placeOf}
 use Rattle.word.specs.Answer.{blankInside, jukugoBase, mixedIn, westernOver}
 use Rattle.door.specs.declared.Piece.{Piece}
 use Rattle.door.specs.Job.{Job, baseCount, rubyCount, elementCount, elements, given}
 use Rattle.door.specs.Refusals.{emWrong, measureWrong, listShort, baseWrong, rubyWrong, blanksWrong, countsWrong, runOut, leftOver}
 use Rattle.job.specs.Line.{ends}
-use Rattle.job.specs.Refusals.{tooFar, noBreak}
+use Rattle.job.specs.Refusals.{noBreak}
 use Rattle.job.specs.Promise.{nobody}
 
 abbrev pub Member : {A : Type 0} → A → List A → Type 0
@@ -44,8 +44,7 @@ Row job base ruby lines (BlankInside p) = Of job (λ x. blankInside (x .form) (g
 Row job base ruby lines (JukugoBase p) = Of job (λ x. jukugoBase (x .form) (given job x)) p
 Row job base ruby lines (Mixed p) = Of job (λ x. mixedIn (x .form) (given job x)) p
 Row job base ruby lines (WesternOver p) = Of job (λ x. westernOver (x .form) (given job x)) p
-Row job base ruby lines (Far p) = Begins job p × (tooFar job p ≡ true)  -- "first base character of the line"
-Row job base ruby lines (NoBreak p) = Begins job p × (noBreak job p ≡ true)
+Row job base ruby lines (NoBreak p) = Begins job p × (noBreak job p ≡ true)  -- "first base character of the line"
 Row job base ruby lines (Form p) = ⊥  -- 13 is the sheet's own
 
 -- "Order: 1, 2 and 12, ..; then base characters and then ruby characters ..; then elements ..; then leftover characters; then lines"
@@ -61,7 +60,6 @@ stage (BlankInside p) = 4
 stage (JukugoBase p) = 4
 stage (Mixed p) = 4
 stage (WesternOver p) = 4
-stage (Far p) = 5
 stage (NoBreak p) = 5
 stage (Form p) = 6
 
@@ -78,9 +76,8 @@ line (BlankInside p) = 7
 line (JukugoBase p) = 8
 line (Mixed p) = 9
 line (WesternOver p) = 10
-line (Far p) = 11
-line (NoBreak p) = 12
-line (Form p) = 13
+line (NoBreak p) = 11
+line (Form p) = 12
 
 -- One comes before another: by its stage; of one stage "by lowest place", which is "in turn", as ruby characters have places past all base characters' and
 -- what is left over has the place past all elements'; and at one place in the table's order.

@@ -1,22 +1,21 @@
 -- The account of one piece from what the walk has of the line before it.
-use mathlib.Core.Path.{_≡_, sym, ap, ap₂, subst, _∙_}
+use mathlib.Core.Path.{_≡_, refl, sym, ap, ap₂, subst, _∙_}
 use mathlib.Core.List.{List, [], _∷_, _++_, map, map-append}
-use Prim.Native.Nat.{ℕ, suc, _+_, _<_}
+use Prim.Native.Nat.{ℕ, suc, _+_, _≤_, _<_}
 use native.Mathlib.Numerals.{add-one}
 use native.Mathlib.Omega.{arith}
 use lib.ListN.{length, length-map, length-append}
 use Rattle.line.specs.declared.Element.{Element}
 use Rattle.line.specs.declared.State.{State}
-use Rattle.line.specs.declared.Placed.the-variants.{At}
 use Rattle.line.specs.Rules.{blockOf, blockAt, Apart, Sounds}
-use Rattle.line.specs.Setting.{origin, placed}
+use Rattle.line.specs.Setting.{origin, placed, furthest, total}
 use Rattle.door.specs.declared.Piece.{Piece}
 use Rattle.door.specs.Job.{Job}
 use Rattle.job.specs.Line.{pieces, seen, lineOf, origins}
 use Rattle.job.specs.Walk.{stateOf, origins-more, length-origins}
 use Rattle.job.specs.Sound.{sounds}
-use Rattle.fill.specs.Piece.{Into, pieceUpto, more, line-start}
-use Rattle.fill.specs.Reach.{reached}
+use Rattle.fill.specs.Piece.{Into, pieceUpto, more}
+use Rattle.fill.specs.Reach.{reached, fits-after}
 use Rattle.account.specs.declared.Before.{Before}
 use Rattle.account.specs.Reasons.{accountOf}
 use Rattle.account.specs.Step.{accountAfter, passed, standing}
@@ -56,11 +55,11 @@ module _ {job : Job} {s c k : ℕ} {x : Piece} {st : State} {i : ℕ} {b : Befor
   abbrev xs : List ℕ
   xs = origins job s (x .base)
 
-  pub asks-place : s < 1024
-  asks-place = line-start job s c x (ready .into)
+  pub asks-place : furthest st + total p ≤ 4294967295
+  asks-place = fits-after job s c x (ready .into) st (ready .state) p refl
 
-  pub is-placed : placed s st p ≡ At at (stateOf job s c)
-  is-placed = rw (ready .state) (reached job s c x (ready .into))
+  pub is-placed : (placed st p .at ≡ at) × (placed st p .st ≡ stateOf job s c)
+  is-placed = (ap (λ (t : State). origin t p) (ready .state), reached job s c x (ready .into) st (ready .state) p refl)
 
   pub line-is : lineOf job s c ≡ es ++ (p ∷ [])
   unfolding lineOf

@@ -76,7 +76,7 @@ pub struct Told {
     pub before: account::Before,
 }
 
-// The piece of element x up to c, number i of its line, set after the line so far, and why it stands there. The job has passed the door, so no place is refused.
+// The piece of element x up to c, number i of its line, set after the line so far, and why it stands there.
 pub fn tell_piece(
     s: usize,
     c: usize,
@@ -121,15 +121,9 @@ pub fn tell_piece(
         eruby,
         runs,
     );
-    let placed = line::place(s as u32, st, e);
-    let line::Placed::At(at, next) = placed else {
-        return Told {
-            account: account::account_of(i, b, e, 0),
-            start: 0,
-            st: st,
-            before: b,
-        };
-    };
+    let placed = line::place(st, e);
+    let at = placed.at;
+    let next = placed.st;
     let told = account::account_of(i, b, e, at);
     let start = account::block_start(e, at);
     let stands = account::pass(i, b, e, at);

@@ -8,12 +8,8 @@ use Rattle.basics.specs.Lists.{sum}
 use Rattle.line.specs.declared.Element.{Element}
 use Rattle.line.specs.declared.State.{State}
 use Rattle.line.specs.Rules.{extent}
-use Rattle.line.specs.Setting.{start, put, origin, settle, run, furthest}
+use Rattle.line.specs.Setting.{start, put, origin, settle, run, furthest, total}
 use Rattle.line.specs.Theorems.{extent-state}
-
--- an element's own length, from its origin to the end of its block or ruby
-abbrev pub total : Element → ℕ
-total e = max (e .front + e .len) (cond (e .ruby) (e .upto) 0)
 
 pub origin-bound : (st : State) (e : Element) → origin st e ≤ furthest st
 unfolding origin

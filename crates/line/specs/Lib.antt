@@ -6,7 +6,6 @@ pub mod Extent
 pub mod Theorems
 pub mod Bound
 pub mod Cases
-pub mod Place
 pub mod Promise
 pub mod Passes
 pub mod Determined

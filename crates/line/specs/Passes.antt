@@ -5,14 +5,12 @@ use mathlib.Core.List.{List}
 use Prim.Native.Nat.{ℕ, _*_, _≤_, _<_}
 use lib.ListN.{length}
 use lib.Dec.{leb}
-use Rattle.refusal.specs.declared.Refusal.the-variants.{Far}
 use Rattle.line.specs.declared.State.{State}
 use Rattle.line.specs.declared.Answer.{Answer}
 use Rattle.line.specs.declared.Answer.the-variants.{Set, Declined}
-use Rattle.line.specs.declared.Why.the-variants.{Refused, Long}
-use Rattle.line.specs.Rules.{largest}
-use Rattle.line.specs.Setting.{start, run, furthest}
-use Rattle.line.specs.Promise.{Lists, shortest, line}
+use Rattle.line.specs.declared.Why.the-variants.{Long}
+use Rattle.line.specs.Setting.{furthest}
+use Rattle.line.specs.Promise.{Lists, shortest, AllWithin}
 
 -- a test that is true exactly where P holds
 pub record Tells (r : Bool) (P : Type 0) : Type 0 where
@@ -36,12 +34,15 @@ pub record Has (i : ℕ) (l : Lists) : Type 0 where
   pub afters : i < length (l .after)
 
 -- the answer, by the last state
-abbrev pub tried : (first measure : ℕ) → State → Answer
-tried first measure st =
-    cond (leb (furthest st) largest) (cond (leb (furthest st) (2 * measure)) (Set (furthest st)) (Declined Long)) (Declined (Refused (Far first)))
+abbrev pub tried : (measure : ℕ) → State → Answer
+tried measure st = cond (leb (furthest st) (2 * measure)) (Set (furthest st)) (Declined Long)
 
--- what the writing pass may count on, once the line was tried
-pub record Ready (count : ℕ) (l : Lists) (out : List ℕ) : Type 0 where
+-- what the passes that place the elements may count on
+pub record Judged (count : ℕ) (l : Lists) : Type 0 where
   pub all : count ≡ shortest l
+  pub within : AllWithin l
+
+-- and the writing pass
+pub record Ready (count : ℕ) (l : Lists) (out : List ℕ) : Type 0 where
+  pub judged : Judged count l
   pub room : count ≤ length out
-  pub near : furthest (run start (line l)) ≤ largest

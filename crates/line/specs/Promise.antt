@@ -6,13 +6,14 @@ use Prim.Native.Nat.{ℕ, _≤_, _<_, min}
 use lib.ListN.{length, getD, drop}
 use lib.Dec.{eqb}
 use Rattle.basics.specs.Lists.{count}
-use Rattle.refusal.specs.declared.Refusal.the-variants.{Short, Far}
+use Rattle.refusal.specs.declared.Refusal.the-variants.{Short}
 use Rattle.line.specs.declared.Element.{Element}
 use Rattle.line.specs.declared.Answer.{Answer}
 use Rattle.line.specs.declared.Answer.the-variants.{Set, Declined}
 use Rattle.line.specs.declared.Why.{Why}
 use Rattle.line.specs.declared.Why.the-variants.{Refused, Unsound, Long}
-use Rattle.line.specs.Rules.{Apart, Clear, Least, extent, Sound, largest}
+use Rattle.line.specs.Rules.{Clear, Least, extent, Sound}
+use Rattle.line.specs.Setting.{total}
 
 -- a line as it is lent: one list a field
 pub record Lists : Type 0 where
@@ -49,13 +50,22 @@ elementAt l i =
 abbrev pub line : Lists → List Element
 line l = map (elementAt l) (count 0 (shortest l))
 
--- an element "already set within itself", its flag 0 or 1
+-- The limits of a job's lines: at most 1,024 elements, and no word longer than 64 ruby characters of 4,096 units.
+abbrev pub mostElements : ℕ
+mostElements = 1024
+
+abbrev pub longestElement : ℕ
+longestElement = 524288
+
+-- an element "already set within itself", its flag 0 or 1, and no longer than a word may be
 pub record SetWithin (flag : ℕ) (e : Element) : Type 0 where
   pub flagged : flag ≤ 1
   pub sound : Sound e
+  pub short : total e ≤ longestElement
 
-abbrev pub AllWithin : Lists → Type 0
-AllWithin l = (i : ℕ) → i < shortest l → SetWithin (getD (l .ruby) i 0) (elementAt l i)
+pub record AllWithin (l : Lists) : Type 0 where
+  pub few : shortest l ≤ mostElements
+  pub each : (i : ℕ) → i < shortest l → SetWithin (getD (l .ruby) i 0) (elementAt l i)
 
 -- the refusal where T fails, and what follows where it holds
 abbrev pub Unless : (T : Type 0) → Type 0 → Type 0 → Type 0
@@ -73,12 +83,10 @@ pub record Sets (measure : ℕ) (es : List Element) (was now : List ℕ) (r : An
   pub answer : r ≡ Set (extent es origins)
   pub written : now ≡ origins ++ drop (length es) was
 
--- The answers in document 01's order: a result list too short (12), elements not set within themselves, a position past the largest (14:
--- no setting keeps rules 1 to 3 short of it), too long (no setting keeps all four).
-abbrev pub Promise : (first measure : ℕ) (l : Lists) (was now : List ℕ) → Answer → Type 0
-Promise first measure l was now r =
+-- The answers in turn: a result list too short (12), elements that no line of a job has, too long (no setting keeps all four rules).
+abbrev pub Promise : (measure : ℕ) (l : Lists) (was now : List ℕ) → Answer → Type 0
+Promise measure l was now r =
     Unless (shortest l ≤ length was) (Declines (Refused Short) was now r)
     (Unless (AllWithin l) (Declines Unsound was now r)
-    (Unless ((xs : List ℕ) × Apart (line l) xs × (extent (line l) xs ≤ largest)) (Declines (Refused (Far first)) was now r)
     (Unless ((xs : List ℕ) × Clear measure (line l) xs) (Declines Long was now r)
-    (Sets measure (line l) was now r))))
+    (Sets measure (line l) was now r)))

@@ -92,10 +92,6 @@ extent [] xs = 0
 extent (e ∷ es) [] = 0
 extent (e ∷ es) (x ∷ xs) = max (furthestEnd e x) (extent es xs)
 
--- "14: a position would pass 4,294,967,295." The ends of blocks and rubies are positions too.
-abbrev pub largest : ℕ
-largest = 4294967295
-
 -- An element "already set within itself": some length, a string that starts at its origin, depths within its length, and ruby that lies
 -- within the block or around it. Nothing says that ruby passes the block by as much in front as behind.
 pub record Inside (e : Element) : Type 0 where

@@ -4,13 +4,10 @@ use mathlib.Core.Bool.{cond}
 use mathlib.Core.List.{List, [], _∷_}
 use Prim.Native.Nat.{ℕ, zero, suc, _+_, _-_, _≤_, _<_, max}
 use lib.ListN.{length}
-use lib.Dec.{leb}
-use Rattle.refusal.specs.declared.Refusal.the-variants.{Far}
 use Rattle.line.specs.declared.Element.{Element}
 use Rattle.line.specs.declared.State.{State}
 use Rattle.line.specs.declared.Placed.{Placed}
-use Rattle.line.specs.declared.Placed.the-variants.{At, Refused}
-use Rattle.line.specs.Rules.{el, org, largest}
+use Rattle.line.specs.Rules.{el, org}
 
 -- Where an element's ruby starts and ends in its own coordinates. Where it has none its block's end and start stand in for them: the
 -- demands below then ask no more than those of the blocks.
@@ -59,10 +56,13 @@ settle es = settleFrom start es
 abbrev pub furthest : State → ℕ
 furthest st = max (st .end) (st .reach)
 
--- e after the state: its origin and the state then, or number 14, whose place is the line's first base character
-abbrev pub placed : ℕ → State → Element → Placed
-placed first st e =
-    cond (leb (furthest (put st e (origin st e))) largest) (At (origin st e) (put st e (origin st e))) (Refused (Far first))
+-- e after the state: its origin and the state then
+abbrev pub placed : State → Element → Placed
+placed st e = record { at = origin st e; st = put st e (origin st e) }
+
+-- an element's own length, from its origin to the end of its block or ruby
+abbrev pub total : Element → ℕ
+total e = max (e .front + e .len) (cond (e .ruby) (e .upto) 0)
 
 -- any setting, by its states: what stands before the element with the number i
 unfoldable pub after : State → List Element → List ℕ → ℕ → State

@@ -30,8 +30,7 @@ keeps es s = pairs.follows-apart es (settle es) s (settle-follows es)
 pub least : (es : List Element) (xs : List ℕ) → Sounds es → Apart es xs → (i : ℕ) → i < length es → org (settle es) i ≤ org xs i
 least es xs s a = settle-least es xs (pairs.apart-follows es xs s a)
 
--- So its extent is the least: it ends within k exactly when some setting that keeps rules 1 to 3 does. (With the largest position for k this
--- is number 14.)
+-- So its extent is the least: it ends within k exactly when some setting that keeps rules 1 to 3 does.
 pub nearest : (k : ℕ) (es : List Element) → Sounds es → extent es (settle es) ≤ k ↔ ((xs : List ℕ) × Apart es xs × (extent es xs ≤ k))
 nearest k es s = (λ h. (settle es, keeps es s, h), λ p. below (p .0) (p .1) (p .2))
   where

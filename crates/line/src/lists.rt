@@ -1,20 +1,24 @@
 // A line given by lists, one a field, as a caller has it who holds no words: the elements are judged once at the door, the line is
 // tried without writing, and only a line that can be set is written.
 ghost use mathlib.Core.Path.{_≡_};
-ghost use Prim.Native.Nat.{min};
+ghost use Prim.Native.Nat.{_≤_, min};
 ghost use lib.ListN.{drop};
 ghost use mathlib.Core.List.{_++_};
 ghost use Rattle.line.specs.Rules.{Inside, Around, Flush};
-ghost use Rattle.line.specs.Setting.{start, run, settle};
-ghost use Rattle.line.specs.Promise.{lists, shortest, elementAt, line, SetWithin, AllWithin, Promise};
-ghost use Rattle.line.specs.Passes.{Tells, Has, Ready, tried};
+ghost use Rattle.line.specs.Setting.{start, run, settle, total};
+ghost use Rattle.line.specs.Promise.{lists, shortest, elementAt, line, longestElement, SetWithin, AllWithin, Promise};
+ghost use Rattle.line.specs.Passes.{Tells, Has, Judged, Ready, tried};
 use crate::Answer;
 use crate::Element;
-use crate::Placed;
 use crate::START;
 use crate::Why;
 use crate::place;
 use refusal::Refusal;
+
+// The limits of a job's lines: how many elements there are at most, and how long one is at most.
+const MOST_ELEMENTS: usize = 1024;
+
+const LONGEST_ELEMENT: u64 = 524288;
 
 // Whether e's ruby lies within its block.
 fn inside(e: Element) -> bool
@@ -62,7 +66,24 @@ fn flush(e: Element) -> bool
     true
 }
 
-// Whether e is set within itself, and the flag that says whether it has ruby is 0 or 1.
+// Whether e is no longer than a word may be.
+fn short(e: Element) -> bool
+    ensures { λ r. ⌜ Tells r (total e ≤ longestElement) ⌝ }
+{
+    if LONGEST_ELEMENT < e.front as u64 + e.len as u64 {
+        return false;
+    }
+    let ruby = e.ruby;
+    if !ruby {
+        return true;
+    }
+    if LONGEST_ELEMENT < e.upto as u64 {
+        return false;
+    }
+    true
+}
+
+// Whether e is set within itself and no longer than a word, and the flag that says whether it has ruby is 0 or 1.
 fn set_within(flag: u32, e: Element) -> bool
     ensures { λ r. ⌜ Tells r (SetWithin flag e) ⌝ }
 {
@@ -79,6 +100,9 @@ fn set_within(flag: u32, e: Element) -> bool
         return false;
     }
     if !flush(e) {
+        return false;
+    }
+    if !short(e) {
         return false;
     }
     let ruby = e.ruby;
@@ -140,7 +164,7 @@ fn element_at(
     }
 }
 
-// Whether all elements are set within themselves.
+// Whether there are no more elements than a job may have, and all are set within themselves.
 fn all_within(
     count: usize,
     front: &[u32],
@@ -155,6 +179,9 @@ fn all_within(
     ensures { λ r. ⌜ Tells r (AllWithin
         (lists (now (front .entry)) (now (len .entry)) (now (ruby .entry)) (now (from .entry)) (now (upto .entry)) (now (before .entry)) (now (after .entry)))) ⌝ }
 {
+    if MOST_ELEMENTS < count {
+        return false;
+    }
     let mut i: usize = 0;
     while i < count {
         let e = element_at(i, front, len, ruby, from, upto, before, after);
@@ -166,10 +193,9 @@ fn all_within(
     true
 }
 
-// The line set without a list to write to: its extent, or that it would pass the largest position (14) or the measure. Of the
-// positions only the last state is kept.
+// The line set without a list to write to: its extent, or that it would pass the measure. Of the positions only the last state is
+// kept.
 fn try_line(
-    first: u32,
     measure: u32,
     count: usize,
     front: &[u32],
@@ -180,18 +206,16 @@ fn try_line(
     before: &[u32],
     after: &[u32],
 ) -> Answer
-    requires { ⌜ count ≡ shortest (lists (now front) (now len) (now ruby) (now from) (now upto) (now before) (now after)) ⌝ }
-    ensures { λ r. ⌜ r ≡ tried first measure (run start (line
+    requires { ⌜ Judged count (lists (now front) (now len) (now ruby) (now from) (now upto) (now before) (now after)) ⌝ }
+    ensures { λ r. ⌜ r ≡ tried measure (run start (line
         (lists (now (front .entry)) (now (len .entry)) (now (ruby .entry)) (now (from .entry)) (now (upto .entry)) (now (before .entry)) (now (after .entry))))) ⌝ }
 {
     let mut st = START;
     let mut i: usize = 0;
     while i < count {
         let e = element_at(i, front, len, ruby, from, upto, before, after);
-        match place(first, st, e) {
-            Placed::At(_, next) => st = next,
-            Placed::Refused(r) => return Answer::Declined(Why::Refused(r)),
-        }
+        let p = place(st, e);
+        st = p.st;
         i += 1;
     }
     let extent = basics::larger(st.end, st.reach);
@@ -201,8 +225,7 @@ fn try_line(
     Answer::Set(extent)
 }
 
-// The origins of a line at the front of out. It was tried before, so that nothing is refused here and the place of a refusal is of no
-// use.
+// The origins of a line at the front of out.
 fn write_line(
     count: usize,
     front: &[u32],
@@ -223,20 +246,17 @@ fn write_line(
     let mut i: usize = 0;
     while i < count {
         let e = element_at(i, front, len, ruby, from, upto, before, after);
-        let Placed::At(x, next) = place(0, st, e) else {
-            return;
-        };
-        out[i] = x;
-        st = next;
+        let p = place(st, e);
+        out[i] = p.at;
+        st = p.st;
         i += 1;
     }
 }
 
 // A line of elements given by lists of their fields, one a field, set within the measure, which is in units. The flags `ruby` say
 // whether an element has any: 0 or 1. The origins go to the front of out; a line that is not set leaves it as it was, so the line
-// is tried before anything is written. `first` is the line's first base character, the place of number 14.
+// is tried before anything is written.
 pub fn set_line(
-    first: u32,
     measure: u32,
     front: &[u32],
     len: &[u32],
@@ -247,7 +267,7 @@ pub fn set_line(
     after: &[u32],
     out: &mut [u32],
 ) -> Answer
-    ensures { λ r. ⌜ Promise first measure
+    ensures { λ r. ⌜ Promise measure
         (lists (now (front .entry)) (now (len .entry)) (now (ruby .entry)) (now (from .entry)) (now (upto .entry)) (now (before .entry)) (now (after .entry)))
         (now (out .entry)) (now (out .exit)) r ⌝ }
 {
@@ -258,18 +278,7 @@ pub fn set_line(
     if !all_within(count, front, len, ruby, from, upto, before, after) {
         return Answer::Declined(Why::Unsound);
     }
-    let tried = try_line(
-        first,
-        measure,
-        count,
-        front,
-        len,
-        ruby,
-        from,
-        upto,
-        before,
-        after,
-    );
+    let tried = try_line(measure, count, front, len, ruby, from, upto, before, after);
     let Answer::Set(extent) = tried else {
         return tried;
     };

@@ -4,7 +4,7 @@ use mathlib.Core.Bool.{cond}
 use Prim.Native.Nat.{ℕ}
 use lib.Dec.{eqb}
 use Rattle.refusal.specs.declared.Refusal.{Refusal}
-use Rattle.refusal.specs.declared.Refusal.the-variants.{Range, Count, Short, Character, Blanks, Element, Supply, BlankInside, JukugoBase, Mixed, WesternOver, Far, NoBreak, Form}
+use Rattle.refusal.specs.declared.Refusal.the-variants.{Range, Count, Short, Character, Blanks, Element, Supply, BlankInside, JukugoBase, Mixed, WesternOver, NoBreak, Form}
 
 abbrev pub numberOf : Refusal → ℕ
 numberOf (Range p) = 1
@@ -18,7 +18,6 @@ numberOf (BlankInside p) = 7
 numberOf (JukugoBase p) = 8
 numberOf (Mixed p) = 9
 numberOf (WesternOver p) = 10
-numberOf (Far p) = 14
 numberOf (NoBreak p) = 11
 numberOf (Form p) = 13
 
@@ -35,7 +34,6 @@ placeOf (BlankInside p) = p
 placeOf (JukugoBase p) = p
 placeOf (Mixed p) = p
 placeOf (WesternOver p) = p
-placeOf (Far p) = p
 placeOf (NoBreak p) = p
 placeOf (Form p) = p
 
@@ -53,8 +51,7 @@ byPaper n p =
     (cond (eqb n 9) (Mixed p)
     (cond (eqb n 10) (WesternOver p)
     (cond (eqb n 11) (NoBreak p)
-    (cond (eqb n 13) (Form p)
-    (cond (eqb n 14) (Far p) Short))))))))))))
+    (cond (eqb n 13) (Form p) Short)))))))))))
 
 back : (r : Refusal) → byPaper (numberOf r) (placeOf r) ≡ r
 unfolding byPaper
@@ -69,7 +66,6 @@ back (BlankInside p) = refl
 back (JukugoBase p) = refl
 back (Mixed p) = refl
 back (WesternOver p) = refl
-back (Far p) = refl
 back (NoBreak p) = refl
 back (Form p) = refl
 

@@ -27,8 +27,6 @@ pub enum Refusal {
     Mixed(u32),
     // 10: Western ruby over Western base in G; the element.
     WesternOver(u32),
-    // 14: a position would pass 4,294,967,295; the line's first base character.
-    Far(u32),
     // 11: no permitted break gives a line that can be set; the line's first base character.
     NoBreak(u32),
     // 13: job sheet text breaks its form; the line from 1, 0 if over-long.
@@ -51,7 +49,6 @@ pub fn number(r: Refusal) -> u32
         Refusal::JukugoBase(_) => 8,
         Refusal::Mixed(_) => 9,
         Refusal::WesternOver(_) => 10,
-        Refusal::Far(_) => 14,
         Refusal::NoBreak(_) => 11,
         Refusal::Form(_) => 13,
     }
@@ -73,7 +70,6 @@ pub fn place(r: Refusal) -> u32
         Refusal::JukugoBase(p) => p,
         Refusal::Mixed(p) => p,
         Refusal::WesternOver(p) => p,
-        Refusal::Far(p) => p,
         Refusal::NoBreak(p) => p,
         Refusal::Form(p) => p,
     }

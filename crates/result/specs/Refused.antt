@@ -9,13 +9,13 @@ use Rattle.text.specs.Text.{most, number}
 use Rattle.text.specs.Print.{decimal}
 use Rattle.text.specs.Back.{number-back}
 use Rattle.refusal.specs.declared.Refusal.{Refusal}
-use Rattle.refusal.specs.declared.Refusal.the-variants.{Range, Count, Short, Character, Blanks, Element, Supply, BlankInside, JukugoBase, Mixed, WesternOver, Far, NoBreak, Form}
+use Rattle.refusal.specs.declared.Refusal.the-variants.{Range, Count, Short, Character, Blanks, Element, Supply, BlankInside, JukugoBase, Mixed, WesternOver, NoBreak, Form}
 use Rattle.refusal.specs.Refusal.{numberOf, placeOf}
 use Rattle.door.specs.Job.{Job}
 use Rattle.result.specs.Text.{bytes, lineOne, lineTwo, resultText, refusalText}
 
 -- the refusal list's numbers
-pub number-most : (r : Refusal) → numberOf r ≤ 14
+pub number-most : (r : Refusal) → numberOf r ≤ 13
 number-most (Range p) = omega arith
 number-most (Count p) = omega arith
 number-most Short = omega arith
@@ -27,7 +27,6 @@ number-most (BlankInside p) = omega arith
 number-most (JukugoBase p) = omega arith
 number-most (Mixed p) = omega arith
 number-most (WesternOver p) = omega arith
-number-most (Far p) = omega arith
 number-most (NoBreak p) = omega arith
 number-most (Form p) = omega arith
 

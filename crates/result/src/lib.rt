@@ -114,7 +114,8 @@ fn state_after(
         eruby,
         runs,
     );
-    let line::Placed::At(_, next) = placed else {
+    let fill::Placing::At(next) = placed else {
+        // Never reached: the door has judged the piece.
         return st;
     };
     next

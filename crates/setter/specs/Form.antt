@@ -1,5 +1,5 @@
 -- What is written of a sheet, said of its bytes. `refused 13 L` is written exactly of bytes that break the form on line L, `refused 2 P` exactly of those in which a count over its maximum is the
--- first fault, and `refused 12 P` and `refused 14 P` of none.
+-- first fault, and `refused 12 P` of none.
 use mathlib.Core.List.{List, _++_}
 use mathlib.Core.Logic.{_↔_}
 use mathlib.Core.Option.{Option, none, some}
@@ -21,7 +21,7 @@ use Rattle.job.specs.Order.{given-first}
 use Rattle.result.specs.Text.{lineTwo, refusalText}
 use Rattle.result.specs.Refused.{refused-is, no-refusal}
 use Rattle.setter.specs.Answer.{setText, textBy, jobText, sheetJob, answerBy, answerText}
-use Rattle.setter.specs.Given.{Given, by-sheet, by-job, thirteen-by, two-by, twelve-by, fourteen-by}
+use Rattle.setter.specs.Given.{Given, by-sheet, by-job, thirteen-by, two-by, twelve-by}
 
 set-other : (job : Job) (n p : ℕ) → setText job ≡ lineTwo (bytes "refused") n p → ⊥
 unfolding setText
@@ -55,9 +55,6 @@ module _ (s : List ℕ) where
   pub two-written : (which : ℕ) → (answerText s ≡ bytes "refused 2 " ++ (decimal which ++ bytes "\n")) ↔ Over s which
   two-written = two-by s (answerText s) read gives
 
-  -- no sheet is refused with 12, since the program's result lists have the maximum lengths; nor with 14, as no job is
+  -- no sheet is refused with 12, since the program's result lists have the maximum lengths
   pub never-twelve : (p : ℕ) → answerText s ≡ bytes "refused 12 " ++ (decimal p ++ bytes "\n") → ⊥
   never-twelve = twelve-by s (answerText s) read gives
-
-  pub never-fourteen : (p : ℕ) → answerText s ≡ bytes "refused 14 " ++ (decimal p ++ bytes "\n") → ⊥
-  never-fourteen = fourteen-by s (answerText s) read gives

@@ -1,5 +1,5 @@
 -- A text that answers a sheet, the setting's or the account's: when it is `refused N P`. Either the reading gave that refusal, or the refusal list gives the number to the sheet's job. So it is
--- known of the sheet's bytes when it is 13 or 2, and that it is never 12 or 14.
+-- known of the sheet's bytes when it is 13 or 2, and that it is never 12.
 use mathlib.Core.Bool.{true}
 use mathlib.Core.List.{List, _++_}
 use mathlib.Core.Logic.{_↔_}
@@ -11,7 +11,7 @@ use Rattle.text.specs.Text.{most}
 use Rattle.text.specs.Print.{bytes, decimal}
 use Rattle.text.specs.Unique.{decimal-one}
 use Rattle.refusal.specs.declared.Refusal.{Refusal}
-use Rattle.refusal.specs.declared.Refusal.the-variants.{Range, Count, Short, Character, Blanks, Element, Supply, BlankInside, JukugoBase, Mixed, WesternOver, Far, NoBreak, Form}
+use Rattle.refusal.specs.declared.Refusal.the-variants.{Range, Count, Short, Character, Blanks, Element, Supply, BlankInside, JukugoBase, Mixed, WesternOver, NoBreak, Form}
 use Rattle.refusal.specs.Refusal.{numberOf, placeOf, same-refusal}
 use Rattle.sheet.specs.declared.Counts.{Counts}
 use Rattle.sheet.specs.declared.Reading.the-variants.{Sound, Refused}
@@ -39,9 +39,6 @@ is-form r e = same-refusal r (Form (placeOf r)) e refl
 is-count : (r : Refusal) → numberOf r ≡ 2 → r ≡ Count (placeOf r)
 is-count r e = same-refusal r (Count (placeOf r)) e refl
 
-is-far : (r : Refusal) → numberOf r ≡ 14 → r ≡ Far (placeOf r)
-is-far r e = same-refusal r (Far (placeOf r)) e refl
-
 is-short : (r : Refusal) → numberOf r ≡ 12 → r ≡ Short
 is-short (Range p) e = absurd (omega arith)
 is-short (Count p) e = absurd (omega arith)
@@ -54,7 +51,6 @@ is-short (BlankInside p) e = absurd (omega arith)
 is-short (JukugoBase p) e = absurd (omega arith)
 is-short (Mixed p) e = absurd (omega arith)
 is-short (WesternOver p) e = absurd (omega arith)
-is-short (Far p) e = absurd (omega arith)
 is-short (NoBreak p) e = absurd (omega arith)
 is-short (Form p) e = absurd (omega arith)
 
@@ -70,10 +66,6 @@ line-twelve p = refl
 line-thirteen : (p : ℕ) → bytes "refused 13 " ++ (decimal p ++ bytes "\n") ≡ lineTwo (bytes "refused") 13 p
 unfolding lineTwo
 line-thirteen p = refl
-
-line-fourteen : (p : ℕ) → bytes "refused 14 " ++ (decimal p ++ bytes "\n") ≡ lineTwo (bytes "refused") 14 p
-unfolding lineTwo
-line-fourteen p = refl
 
 text-of : (r : Refusal) → refusalText r ≡ lineTwo (bytes "refused") (numberOf r) (placeOf r)
 unfolding refusalText
@@ -109,13 +101,6 @@ module _ (s : List ℕ) where
   twelve-given p (by-job c r n is first) =
       no-short s c is 1024 2048 1024 (omega arith) (omega arith) (omega arith) (subst (First job 1024 2048 1024) (is-short r n) first .holds)
 
-  fourteen-given : (p : ℕ) → Given s 14 p → ⊥
-  fourteen-given p (by-sheet r n q e) = let g = not-read r (Far (placeOf r)) (is-far r n) e in let z : _≡_ {A = ℕ} 0 1 = cc in omega arith
-  fourteen-given p (by-job c r n is first) =
-      demands.never-fourteen job (replicate 1024 0) (replicate 2048 0) (replicate 1024 0) (placeOf r)
-      (demands.refused-exactly job (replicate 1024 0) (replicate 2048 0) (replicate 1024 0) (Far (placeOf r)) .1
-      (rw (length-replicate {A = ℕ} 1024 0, length-replicate {A = ℕ} 2048 0) (subst (First job 1024 2048 1024) (is-far r n) first)))
-
   -- an answer that is the reading's refusal where there is one, and `refused N P` for no other cause
   module _ (answer : List ℕ) (read : (r : Refusal) → reading s .end ≡ Refused r → answer ≡ refusalText r)
       (given : (n p : ℕ) → n ≤ most → answer ≡ lineTwo (bytes "refused") n p → Given s n p) where
@@ -129,6 +114,3 @@ module _ (s : List ℕ) where
 
     pub twelve-by : (p : ℕ) → answer ≡ bytes "refused 12 " ++ (decimal p ++ bytes "\n") → ⊥
     twelve-by p e = twelve-given p (given 12 p (omega arith) (e ∙ line-twelve p))
-
-    pub fourteen-by : (p : ℕ) → answer ≡ bytes "refused 14 " ++ (decimal p ++ bytes "\n") → ⊥
-    fourteen-by p e = fourteen-given p (given 14 p (omega arith) (e ∙ line-fourteen p))

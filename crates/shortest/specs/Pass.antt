@@ -11,7 +11,6 @@ use lib.ListN.{length, getD}
 use Rattle.basics.specs.Lists.{each}
 use Rattle.word.specs.Given.{isJ}
 use Rattle.line.specs.declared.State.{State}
-use Rattle.line.specs.Rules.{largest}
 use Rattle.line.specs.Setting as setting
 use Rattle.door.specs.declared.Piece.{Piece}
 use Rattle.door.specs.Job.{Job, baseCount, elementCount, elements, takesRuns, element}
@@ -25,7 +24,7 @@ use Rattle.fill.specs.Search.{Here, Counts}
 use Rattle.fill.specs.Search as search
 use Rattle.shortest.specs.declared.Sofar.{Sofar}
 use Rattle.shortest.specs.Needed.{needed, CanBegin}
-use Rattle.shortest.specs.Upto.{leastUpto, least-none, least-step, least-all, least-plain}
+use Rattle.shortest.specs.Upto.{largest, leastUpto, least-none, least-step, least-all, least-plain}
 
 -- A line has nothing yet where it begins, or before.
 

@@ -8,7 +8,6 @@ use native.Mathlib.Omega.{arith}
 use borrow.Author.Tests.{eq-eqb}
 use Rattle.basics.specs.Lists.{count, keep}
 use Rattle.word.specs.Given.{isJ}
-use Rattle.line.specs.Rules.{largest}
 use Rattle.door.specs.declared.Piece.{Piece}
 use Rattle.door.specs.Job.{Job, baseCount}
 use Rattle.door.specs.Passed.{Passed}
@@ -32,6 +31,10 @@ least-more d y (x ∷ xs) = ap (min x) (least-more d y xs) ∙ swap x y (least d
 least-start : (d y : ℕ) (xs : List ℕ) → y ≤ d → least d (xs ++ (y ∷ [])) ≡ least y (xs ++ (y ∷ []))
 least-start d y [] h = omega arith
 least-start d y (x ∷ xs) h = ap (min x) (least-start d y xs h)
+
+-- the largest number of 32 bits, past every extent: what is held before the first break
+abbrev pub largest : ℕ
+largest = 4294967295
 
 -- the least extent that the line from s has at a permitted break up to c
 unfoldable pub leastUpto : Job → ℕ → ℕ → ℕ

@@ -49,6 +49,7 @@ pub record Promise (form : Form) (w : Given) (v : Word) : Type 0 where
   pub edge : (v .front ≡ 0) ⊎ (v .from ≡ 0)
   pub equal : v .front + v .len + v .front ≡ total v
   pub limit : total v ≤ 524288
+  pub sums : total v ≤ 2 * (sum (w .width) + sum (w .rubyWidth))
   pub block : v .len ≡ 2 * sum (w .width) + v .inbase
   pub string : v .runs ≡ false → hasRuby form ≡ true → v .upto ≡ v .from + 2 * sum (w .rubyWidth) + v .inruby
   pub each : v .runs ≡ true → anyLonger (w .em) (split (w .run) (w .rubyWidth)) ≡ false
@@ -77,6 +78,7 @@ by-ways form h w r b s =
       edge = inl refl;
       equal = omega arith;
       limit = omega arith;
+      sums = omega arith;
       block = omega arith;
       string = λ q k. refl;
       each = λ q. absurd (false≢true q);
@@ -93,6 +95,7 @@ by-ways form h w r b s =
       edge = inr refl;
       equal = omega arith;
       limit = omega arith;
+      sums = omega arith;
       block = refl;
       string = λ q k. omega arith;
       each = λ q. absurd (false≢true q);
@@ -113,6 +116,7 @@ by-runs w s h e =
       edge = inl refl;
       equal = omega arith;
       limit = omega arith;
+      sums = omega arith;
       block = omega arith;
       string = λ q k. absurd (true≢false q);
       each = λ q. e;
@@ -131,6 +135,7 @@ word-kept P w s j =
       edge = inl refl;
       equal = omega arith;
       limit = omega (arith, s .narrow);
+      sums = omega arith;
       block = omega arith;
       string = λ q k. absurd (false≢true k);
       each = λ q. absurd (false≢true q);

@@ -27,8 +27,7 @@ use Rattle.word.specs.Sized.{RunsReady}
 use Rattle.word.specs.Promise as promised
 use Rattle.word.specs.Theorems.{base-stands, ruby-stands}
 use Rattle.line.specs.declared.State.{State}
-use Rattle.line.specs.declared.Placed.the-variants.{At}
-use Rattle.line.specs.Setting.{origin, placed}
+use Rattle.line.specs.Setting.{origin, placed, furthest, total}
 use Rattle.line.specs.Bound.{origin-bound}
 use Rattle.door.specs.declared.Piece.{Piece}
 use Rattle.door.specs.Job.{Job, baseCount, rubyCount, entries, takesRuns, given}
@@ -38,8 +37,8 @@ use Rattle.job.specs.Line.{part, wordOf, seen, baseAt, rubyAt}
 use Rattle.job.specs.Laws.{entries-add}
 use Rattle.job.specs.Walk.{stateOf}
 use Rattle.job.specs.Bounded.{state-bounded}
-use Rattle.fill.specs.Piece.{Into, Cuts, pieceUpto, good, cuts, before-it, not-far, line-start}
-use Rattle.fill.specs.Reach.{readsOf, reads, first-within, reached, small}
+use Rattle.fill.specs.Piece.{Into, Cuts, pieceUpto, good, cuts, before-it, not-far}
+use Rattle.fill.specs.Reach.{readsOf, reads, first-within, reached, fits-after, small}
 use Rattle.fill.specs.Judged.{wordsOf, same-word, word-reads}
 
 -- the part of a list that is lent from a up to a + n
@@ -296,11 +295,11 @@ module _ {job : Job} {s c k : ℕ} {x : Piece} {st : State} {base ruby : List �
   pub asks-element : (q .base < length (job .class)) × (q .base < length (job .width)) × (q .base < length (job .before)) × (q .base < length (job .after))
   asks-element = first-within job s c x (ready .into)
 
-  pub asks-place : s < 1024
-  asks-place = line-start job s c x (ready .into)
+  pub asks-place : furthest st + total (seen job q) ≤ 4294967295
+  asks-place = fits-after job s c x (ready .into) st (ready .state) (seen job q) refl
 
-  pub is-placed : placed s st (seen job q) ≡ At at (stateOf job s c)
-  is-placed = rw (ready .state) (reached job s c x (ready .into))
+  pub is-placed : (placed st (seen job q) .at ≡ at) × (placed st (seen job q) .st ≡ stateOf job s c)
+  is-placed = (ap (λ (t : State). origin t (seen job q)) (ready .state), reached job s c x (ready .into) st (ready .state) (seen job q) refl)
 
   pub asks-base : BaseReady q (wordOf job q) at (job .width) base
   asks-base = base-ready job s c x (ready .into) base (ready .bases)

@@ -13,16 +13,14 @@ use Rattle.word.specs.Given.{Given, hasRuby}
 use Rattle.word.specs.Alone.{places}
 use Rattle.line.specs.declared.Element.{Element}
 use Rattle.line.specs.declared.State.{State}
-use Rattle.line.specs.declared.Placed.the-variants.{At}
-use Rattle.line.specs.Setting.{origin, put, placed, furthest}
-use Rattle.line.specs.Place.{placed-near}
+use Rattle.line.specs.Setting.{origin, put, furthest, total}
 use Rattle.door.specs.declared.Piece.{Piece}
 use Rattle.door.specs.Job.{Job, given}
 use Rattle.door.specs.Entries.{length-entries}
 use Rattle.job.specs.Line.{seen, baseAt, rubyAt}
 use Rattle.job.specs.Walk.{stateOf, state-more}
-use Rattle.job.specs.Bounded.{state-bounded}
-use Rattle.fill.specs.Piece.{Into, pieceUpto, more, line-start}
+use Rattle.fill.specs.Piece.{Into, pieceUpto, more}
+use Rattle.fill.specs.Reach.{fits-after}
 use Rattle.fill.specs.Plain.{plainElement, one, plain-piece, plain-seen, plain-reads}
 use Rattle.write.specs.Piece.{PieceReady, baseWith, rubyWith}
 
@@ -32,16 +30,10 @@ plainOrigin i st em class width before after = origin st (plainElement i em clas
 abbrev pub plainState : ℕ → State → ℕ → List ℕ → List ℕ → List ℕ → List ℕ → State
 plainState i st em class width before after = put st (plainElement i em class width before after) (plainOrigin i st em class width before after)
 
-pub record PlainReady (s i : ℕ) (st : State) (em : ℕ) (class width before after base : List ℕ) : Type 0 where
+pub record PlainReady (i : ℕ) (st : State) (em : ℕ) (class width before after base : List ℕ) : Type 0 where
   pub reads : (i < length class) × (i < length width) × (i < length before) × (i < length after) × (getD width i 0 ≤ 4096)
   pub room : i < length base
-  pub first : s < 1024
-  pub near : furthest (plainState i st em class width before after) ≤ 4294967295
-
--- its place is no refusal
-pub plain-placed : {s i : ℕ} {st : State} {em : ℕ} {class width before after base : List ℕ} → PlainReady s i st em class width before after base →
-    placed s st (plainElement i em class width before after) ≡ At (plainOrigin i st em class width before after) (plainState i st em class width before after)
-plain-placed {s} {i} {st} {em} {class} {width} {before} {after} ready = placed-near s st (plainElement i em class width before after) (ready .near)
+  pub near : furthest st + total (plainElement i em class width before after) ≤ 4294967295
 
 module _ {job : Job} {s c k : ℕ} {x : Piece} {st : State} {base ruby : List ℕ} (ready : PieceReady job s c k x st base ruby) (plain : hasRuby (x .form) ≡ false) where
   abbrev e : Element
@@ -56,14 +48,13 @@ module _ {job : Job} {s c k : ℕ} {x : Piece} {st : State} {base ruby : List �
       (subst (λ (t : State). put t (seen job (pieceUpto job s c x)) (origin t (seen job (pieceUpto job s c x))) ≡ stateOf job s c) (sym (ready .state))
       (sym (state-more job s (x .base) c (pieceUpto job s c x) (more job s c x (ready .into)))))
 
-  pub asks-plain : PlainReady s (x .base) st (job .em) (job .class) (job .width) (job .before) (job .after) base
+  pub asks-plain : PlainReady (x .base) st (job .em) (job .class) (job .width) (job .before) (job .after) base
   asks-plain =
       let g = ready .into .is .good in
       record {
         reads = plain-reads job s c x (ready .into) plain;
         room = omega (arith, g .inside, g .counts .some, ready .bases);
-        first = line-start job s c x (ready .into);
-        near = subst (λ (t : State). furthest t ≤ 4294967295) (sym gives-state) (omega (arith, state-bounded job (ready .into .passed) s c));
+        near = fits-after job s c x (ready .into) st (ready .state) e is-seen;
       }
 
   -- its only base character stands at its origin

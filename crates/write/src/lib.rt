@@ -57,9 +57,8 @@ fn write_ruby(
     }
 }
 
-// A P set after the line so far and written: "A P element is its own block", so its one base character stands at its origin. The place is within all positions, so it is no refusal.
+// A P set after the line so far and written: "A P element is its own block", so its one base character stands at its origin.
 fn write_plain(
-    s: usize,
     i: usize,
     st: line::State,
     em: u32,
@@ -69,19 +68,16 @@ fn write_plain(
     after: &[u32],
     base: &mut [u32],
 ) -> line::State
-    requires { ⌜ PlainReady s i st em (now class) (now width) (now before) (now after) (now base) ⌝ }
+    requires { ⌜ PlainReady i st em (now class) (now width) (now before) (now after) (now base) ⌝ }
     ensures { λ t. ⌜ (t ≡ plainState i st em (now (class .entry)) (now (width .entry)) (now (before .entry)) (now (after .entry))) × (now (base .exit) ≡ set (now (base .entry)) i (plainOrigin i st em (now (class .entry)) (now (width .entry)) (now (before .entry)) (now (after .entry)))) ⌝ }
 {
     let e = fill::plain_at(i, em, class, width, before, after);
-    let placed = line::place(s as u32, st, e);
-    let line::Placed::At(at, next) = placed else {
-        return st;
-    };
-    base[i] = at;
-    next
+    let placed = line::place(st, e);
+    base[i] = placed.at;
+    placed.st
 }
 
-// The piece of element x up to c, set after the line so far and written; the state after it. The job has passed the door, so its word was judged and its place is no refusal.
+// The piece of element x up to c, set after the line so far and written; the state after it. The job has passed the door, so its word was judged.
 fn write_piece(
     s: usize,
     c: usize,
@@ -108,18 +104,16 @@ fn write_piece(
     ensures { λ t. ⌜ (t ≡ stateOf (jobOf em measure (now (class .entry)) (now (width .entry)) (now (before .entry)) (now (after .entry)) (now (flag .entry)) (now (rclass .entry)) (now (rwidth .entry)) (now (kind .entry)) (now (ebase .entry)) (now (eruby .entry)) (now (runs .entry))) s c) × (now (base .exit) ≡ baseWith (jobOf em measure (now (class .entry)) (now (width .entry)) (now (before .entry)) (now (after .entry)) (now (flag .entry)) (now (rclass .entry)) (now (rwidth .entry)) (now (kind .entry)) (now (ebase .entry)) (now (eruby .entry)) (now (runs .entry))) s c x (now (base .entry))) × (now (ruby .exit) ≡ rubyWith (jobOf em measure (now (class .entry)) (now (width .entry)) (now (before .entry)) (now (after .entry)) (now (flag .entry)) (now (rclass .entry)) (now (rwidth .entry)) (now (kind .entry)) (now (ebase .entry)) (now (eruby .entry)) (now (runs .entry))) s c x (now (ruby .entry))) ⌝ }
 {
     if door::is_plain(x) {
-        return write_plain(s, x.base, st, em, class, width, before, after, base);
+        return write_plain(x.base, st, em, class, width, before, after, base);
     }
     let p = fill::piece_upto(x, s, c, runs);
     let w = door::piece_word(p, em, class, width, rclass, rwidth, runs);
     let e = fill::element_of(p, w, em, class, width, before, after);
-    let placed = line::place(s as u32, st, e);
-    let line::Placed::At(at, next) = placed else {
-        return st;
-    };
+    let placed = line::place(st, e);
+    let at = placed.at;
     write_base(p, w, at, width, base);
     write_ruby(p, w, at, em, rwidth, runs, ruby);
-    next
+    placed.st
 }
 
 // Where the walk stands once element x, the k-th, is passed.

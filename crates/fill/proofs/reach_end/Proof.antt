@@ -7,7 +7,6 @@ use Rattle.line.specs.declared.State.{State}
 use Rattle.line.specs.Setting as setting
 use Rattle.door.specs.Job.{Job, jobOf}
 use Rattle.job.specs.Walk.{stateOf, can-set}
-use Rattle.fill.specs.Reach.{at-state, at-refused}
 use Rattle.fill.specs.Search as search
 use Rattle.fill.specs.Start.{wide-end}
 use borrow.Author.Needs.{needs}
@@ -18,9 +17,6 @@ use Rattle.fill.proofs.reach_end.Tie as tie
 abbrev job : tie.Start → Job
 job a =
     jobOf (a .args .em) (a .args .measure) (a .args .class .now) (a .args .width .now) (a .args .before .now) (a .args .after .now) (a .args .flag .now) (a .args .rclass .now) (a .args .rwidth .now) (a .args .kind .now) (a .args .ebase .now) (a .args .eruby .now) (a .args .runs .now)
-
-state : (c : tie.After-known-told2) → let a = c .before .before .before .before .before .before .before .before .before .before .before .before .before .before .before .before .before .before in stateOf (job a) (a .args .s) (a .args .x .base + a .args .x .bases) ≡ c .before .next .given .0 .1 .0
-state c = at-state (sym (c .before .before .before .reach-judged .ensures) ∙ c .before .next .given .1)
 
 too-wide-requires : tie.Need-too-wide-requires
 too-wide-requires c κs = let a = c .before .before .before .before .before .before .before .before .before .before .before in let l = search.low-end (job a) (a .args .s) (a .args .k) (a .args .x) (a .args .st) (a .pre) in (l .0, omega (arith, l))
@@ -34,24 +30,17 @@ add-c c = let a = c .before .before .before .before .before .before .before .bef
 reach-judged-requires : tie.Need-reach-judged-requires
 reach-judged-requires c κs = let a = c .before .before .before .before .before .before .before .before .before .before .before .before .before .before in (search.into-end (job a) (a .args .s) (a .args .k) (a .args .x) (a .args .st) (a .pre), a .pre .state, search.index-small (job a) (a .args .s) (a .args .k) (a .args .x) (a .args .st) (a .pre))
 
-enum-known-why : tie.Need-enum-known-why
-enum-known-why c = search needs
-
-enum-known-next : tie.Need-enum-known-next
-enum-known-next c = search needs
-
 fits-requires : tie.Need-fits-requires
 fits-requires c κs = search needs
 
 returns-2 : tie.Need-returns-2
-returns-2 c = at-refused (sym (c .before .before .before .reach-judged .ensures) ∙ c .before .why .given .1)
-
-returns-3 : tie.Need-returns-3
-returns-3 c =
-    let a = c .before .before .before .before .before .before .before .before .before .before .before .before .before .before .before .before .before .before .before in (
-      c .fits2 .ensures ∙ sym (can-set (job a) (a .args .s) (a .args .x .base + a .args .x .bases) ∙ ap (λ (t : State). leb (setting.furthest t) (2 * a .args .measure)) (state (c .before))),
-      λ _. sym (state (c .before)),
+returns-2 c =
+    let a = c .before .before .before .before .before .before .before .before .before .before .before .before .before .before .before .before in
+    let s = a .args .s in
+    let e = a .args .x .base + a .args .x .bases in (
+      c .fits2 .ensures ∙ sym (can-set (job a) s e ∙ ap (λ (t : State). leb (setting.furthest t) (2 * a .args .measure)) (sym (c .before .reach-judged .ensures))),
+      λ _. c .before .reach-judged .ensures,
     )
 
 pub reach-end-spec : {M : Type 1} → statement M
-reach-end-spec = tie.close (tie.spec too-wide-requires returns add-c reach-judged-requires enum-known-why enum-known-next fits-requires returns-2 returns-3)
+reach-end-spec = tie.close (tie.spec too-wide-requires returns add-c reach-judged-requires fits-requires returns-2)

@@ -1,8 +1,9 @@
 -- A P is seen as its one character alone says, and the word of any other piece is the one that was judged. So the line sees the piece as `seen` has it, and its place is the least.
-use mathlib.Core.Path.{_≡_, sym, _∙_}
+use mathlib.Core.Path.{_≡_, sym, ap, _∙_}
 use mathlib.Core.Bool.{false}
 use borrow.Author.Tests.{not-true}
 use Rattle.word.specs.Given.{hasRuby}
+use Rattle.line.specs.declared.Placed.{Placed}
 use Rattle.door.specs.Job.{Job, jobOf}
 use Rattle.job.specs.Line.{wordOf, seen}
 use Rattle.fill.specs.Judged as judged
@@ -33,18 +34,18 @@ is-plain-requires c κs = search needs
 plain-at-requires : tie.Need-plain-at-requires
 plain-at-requires c κs = let a = c .before .before .before .before .before .before .before .before .before .before .before .before .before in plain.plain-reads (job a) (a .args .s) (a .args .c) (a .args .x) (a .pre .0) (is-p c)
 
-cast-place : tie.Need-cast-place
-cast-place c = let a = c .before .before .before .before .before .before .before .before .before .before .before .before .before .before in omega (arith, piece.line-start (job a) (a .args .s) (a .args .c) (a .args .x) (a .pre .0))
-
 place-requires : tie.Need-place-requires
-place-requires c κs = search needs
+place-requires c κs =
+    let a = c .before .before .before .before .before .before .before .before .before .before .before .before .before .before in
+    reach.fits-after (job a) (a .args .s) (a .args .c) (a .args .x) (a .pre .0) (a .args .st) (a .pre .1) (c .plain-at .result)
+    (c .plain-at .ensures ∙ plain.plain-seen (job a) (a .args .s) (a .args .c) (a .args .x) (a .pre .0) (is-p (c .before)))
 
 returns : tie.Need-returns
 returns c =
-    let a = c .before .before .before .before .before .before .before .before .before .before .before .before .before .before .before in
-    c .place .ensures
-    ∙ reach.reached-from (job a) (a .args .s) (a .args .c) (a .args .x) (a .pre .0) (a .args .st) (a .pre .1) (c .before .plain-at .result)
-    (c .before .plain-at .ensures ∙ plain.plain-seen (job a) (a .args .s) (a .args .c) (a .args .x) (a .pre .0) (is-p (c .before .before)))
+    let a = c .before .before .before .before .before .before .before .before .before .before .before .before .before .before .before .before in
+    ap (λ (p : Placed). p .st) (c .before .place .ensures)
+    ∙ reach.reached (job a) (a .args .s) (a .args .c) (a .args .x) (a .pre .0) (a .args .st) (a .pre .1) (c .before .before .plain-at .result)
+    (c .before .before .plain-at .ensures ∙ plain.plain-seen (job a) (a .args .s) (a .args .c) (a .args .x) (a .pre .0) (is-p (c .before .before .before)))
 
 piece-upto-requires : tie.Need-piece-upto-requires
 piece-upto-requires c κs =
@@ -59,19 +60,20 @@ piece-word-requires c κs =
 element-of-requires : tie.Need-element-of-requires
 element-of-requires c κs = let a = c .before .before .before .before .before .before .before .before .before .before .before .before .before .before .before in rw (the (c .before)) (reach.first-within (job a) (a .args .s) (a .args .c) (a .args .x) (a .pre .0))
 
-cast-place-2 : tie.Need-cast-place-2
-cast-place-2 c = let a = c .before .before .before .before .before .before .before .before .before .before .before .before .before .before .before .before in omega (arith, piece.line-start (job a) (a .args .s) (a .args .c) (a .args .x) (a .pre .0))
-
 place-requires-2 : tie.Need-place-requires-2
-place-requires-2 c κs = search needs
+unfolding seen
+place-requires-2 c κs =
+    let a = c .before .before .before .before .before .before .before .before .before .before .before .before .before .before .before .before in
+    reach.fits-after (job a) (a .args .s) (a .args .c) (a .args .x) (a .pre .0) (a .args .st) (a .pre .1) (c .element-of .result)
+    (c .element-of .ensures ∙ rw (word (c .before), the (c .before .before)))
 
 returns-2 : tie.Need-returns-2
 unfolding seen
 returns-2 c =
-    let a = c .before .before .before .before .before .before .before .before .before .before .before .before .before .before .before .before .before in
-    c .place2 .ensures
-    ∙ reach.reached-from (job a) (a .args .s) (a .args .c) (a .args .x) (a .pre .0) (a .args .st) (a .pre .1) (c .before .element-of .result)
-    (c .before .element-of .ensures ∙ rw (word (c .before .before), the (c .before .before .before)))
+    let a = c .before .before .before .before .before .before .before .before .before .before .before .before .before .before .before .before .before .before in
+    ap (λ (p : Placed). p .st) (c .before .place2 .ensures)
+    ∙ reach.reached (job a) (a .args .s) (a .args .c) (a .args .x) (a .pre .0) (a .args .st) (a .pre .1) (c .before .before .element-of .result)
+    (c .before .before .element-of .ensures ∙ rw (word (c .before .before .before), the (c .before .before .before .before)))
 
 pub reach-judged-spec : {M : Type 1} → statement M
 reach-judged-spec =
@@ -79,12 +81,10 @@ reach-judged-spec =
     (tie.spec
     is-plain-requires
     plain-at-requires
-    cast-place
     place-requires
     returns
     piece-upto-requires
     piece-word-requires
     element-of-requires
-    cast-place-2
     place-requires-2
     returns-2)

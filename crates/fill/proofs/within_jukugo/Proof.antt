@@ -40,7 +40,7 @@ low-end a = search.low-end (job a) (a .args .s) (a .args .k) (a .args .x) (a .ar
 from : (c : tie.In-loop Inv-loop μ-loop) → low (first-loop (c .before)) < c .before .loop .c
 from c = omega (arith, c .loop-test .taken, c .before .before .before .before .before .skipped-of .ensures)
 
-state : (c : tie.After-known-told2 Inv-loop μ-loop) {t : Bool} → t ≡ leb (setting.furthest (c .before .next .given .0 .1 .0)) (2 * first-loop (c .before .before .before .before .before) .args .measure) →
+state : (c : tie.After-known-told2 Inv-loop μ-loop) {t : Bool} → t ≡ leb (setting.furthest (c .before .next .given .0 .0)) (2 * first-loop (c .before .before .before .before .before) .args .measure) →
     leb (setting.furthest (stateOf (job (first-loop (c .before .before .before .before .before))) (first-loop (c .before .before .before .before .before) .args .s) (c .before .before .before .before .before .loop .c))) (2 * first-loop (c .before .before .before .before .before) .args .measure) ≡ t
 state c e = rw (at-state (sym (c .before .before .before .reach .ensures) ∙ c .before .next .given .1)) (sym e)
 

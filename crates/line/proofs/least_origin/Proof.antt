@@ -1,20 +1,21 @@
--- Each call gives one of the four lower bounds, and the largest of them is the definition. The sums are of numbers of at most 33 bits, and fit.
+-- Each call gives one of the four lower bounds, and the largest of them is the definition. Two numbers taken away in turn are their sum taken away.
 use mathlib.Core.Path.{_≡_}
 use Prim.Native.Nat.{ℕ, _+_, _-_, max}
+use native.Mathlib.Omega.{arith}
 use borrow.Author.Needs.{needs}
+use Rattle.line.proofs.least_origin.Statement.{statement}
+use Rattle.line.proofs.least_origin.Tie as tie
 use Rattle.line.specs.declared.Element.{Element}
 use Rattle.line.specs.declared.State.{State}
 use Rattle.line.specs.Setting.{rubyFrom, origin}
-use Rattle.line.proofs.least_origin.Statement.{statement}
-use Rattle.line.proofs.least_origin.Tie as tie
+
+twice : (a b c d r : ℕ) → d ≡ a - b → r ≡ d - c → r ≡ a - (b + c)
+twice a b c d r e f = omega arith
 
 largest-of : (st : State) (e : Element) (f a b c d block ruby x : ℕ) → f ≡ rubyFrom e → a ≡ st .end - e .front → b ≡ st .reach - (e .front + e .before) →
     block ≡ max a b → c ≡ st .reach - f → d ≡ st .end - (f + st .room) → ruby ≡ max c d → x ≡ max block ruby → x ≡ origin st e
 unfolding origin
 largest-of st e f a b c d block ruby x hf ha hb hm hc hd hn hx = rw (hx, hm, hn, ha, hb, hc, hd, hf)
-
-cast-front : tie.Need-cast-front
-cast-front c = search needs
 
 ruby-from-requires : tie.Need-ruby-from-requires
 ruby-from-requires c κs = search needs
@@ -22,29 +23,23 @@ ruby-from-requires c κs = search needs
 less-requires : tie.Need-less-requires
 less-requires c κs = search needs
 
-cast-less : tie.Need-cast-less
-cast-less c = search needs
-
-add-less : tie.Need-add-less
-add-less c = search needs
-
 less-requires-2 : tie.Need-less-requires-2
 less-requires-2 c κs = search needs
-
-larger-requires : tie.Need-larger-requires
-larger-requires c κs = search needs
 
 less-requires-3 : tie.Need-less-requires-3
 less-requires-3 c κs = search needs
 
-cast-less-2 : tie.Need-cast-less-2
-cast-less-2 c = search needs
-
-add-less-2 : tie.Need-add-less-2
-add-less-2 c = search needs
+larger-requires : tie.Need-larger-requires
+larger-requires c κs = search needs
 
 less-requires-4 : tie.Need-less-requires-4
 less-requires-4 c κs = search needs
+
+less-requires-5 : tie.Need-less-requires-5
+less-requires-5 c κs = search needs
+
+less-requires-6 : tie.Need-less-requires-6
+less-requires-6 c κs = search needs
 
 larger-requires-2 : tie.Need-larger-requires-2
 larger-requires-2 c κs = search needs
@@ -54,27 +49,31 @@ larger-requires-3 c κs = search needs
 
 returns : tie.Need-returns
 returns c =
-    let second = c .before .before .before .before in
-    let first = second .before .before .before .before in
-    let entry = first .before .before .before in
-    largest-of (entry .args .st) (entry .args .e) _ _ _ _ _ _ _ _ (first .before .ruby-from .ensures .0) (first .less .ensures) (second .before .before .less2 .ensures)
-    (second .before .larger .ensures) (second .less3 .ensures) (c .before .before .less4 .ensures) (c .before .larger2 .ensures) (c .larger3 .ensures)
+    let last = c .before in
+    let sixth = last .before in
+    let fifth = sixth .before in
+    let fourth = fifth .before in
+    let block = fourth .before in
+    let third = block .before in
+    let second = third .before in
+    let first = second .before in
+    let entry = first .before .before in
+    largest-of (entry .args .st) (entry .args .e) _ _ _ _ _ _ _ _ (first .before .ruby-from .ensures) (first .less .ensures)
+    (twice _ _ _ _ _ (second .less2 .ensures) (third .less3 .ensures)) (block .larger .ensures) (fourth .less4 .ensures)
+    (twice _ _ _ _ _ (fifth .less5 .ensures) (sixth .less6 .ensures)) (last .larger2 .ensures) (c .larger3 .ensures)
 
 pub least-origin-spec : {M : Type 1} → statement M
 least-origin-spec =
     tie.close
     (tie.spec
-    cast-front
     ruby-from-requires
     less-requires
-    cast-less
-    add-less
     less-requires-2
-    larger-requires
     less-requires-3
-    cast-less-2
-    add-less-2
+    larger-requires
     less-requires-4
+    less-requires-5
+    less-requires-6
     larger-requires-2
     larger-requires-3
     returns)

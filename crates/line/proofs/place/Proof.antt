@@ -1,104 +1,62 @@
--- The origin and the two ends are those of the definition, so the test is the definition's own. A cast holds since an end is within the furthest.
+-- The origin lies within what stands, so both ends are within the sum that is asked to fit.
 use mathlib.Core.Path.{_≡_, refl}
-use Prim.Native.Nat.{ℕ, _+_, _≤_, _<_, max}
+use mathlib.Core.Bool.{Bool, true, false, cond}
+use Prim.Native.Nat.{ℕ, _+_, _≤_, max}
 use native.Mathlib.Omega.{arith}
 use borrow.Author.Needs.{needs}
-use borrow.Author.Tests.{le-leb, lt-leb}
-use Rattle.refusal.specs.declared.Refusal.the-variants.{Far}
-use Rattle.line.specs.declared.Element.{Element}
-use Rattle.line.specs.declared.State.{State}
-use Rattle.line.specs.declared.Placed.the-variants.{At, Refused}
-use Rattle.line.specs.Rules.{largest}
-use Rattle.line.specs.Setting.{rubyUpto, put, origin, furthest, placed}
 use Rattle.line.proofs.place.Statement.{statement}
 use Rattle.line.proofs.place.Tie as tie
+use Rattle.line.specs.declared.Element.{Element}
+use Rattle.line.specs.declared.State.{State}
+use Rattle.line.specs.Setting.{rubyUpto, origin, put, furthest, total, placed}
+use Rattle.line.specs.Bound.{origin-bound}
 
-module _ (first : ℕ) (st : State) (e : Element) (x u w f : ℕ) (hx : x ≡ origin st e) (hu : u ≡ rubyUpto e) (hw : w ≡ max (st .reach) (x + u))
-    (hf : f ≡ max (x + e .front + e .len) w) where
-  same : f ≡ furthest (put st e (origin st e))
-  same = rw (← hx, ← hu, ← hw) hf
+-- what is asked to fit, of the block and of the ruby
+block-fits : (st : State) (e : Element) (x m : ℕ) → furthest st + total e ≤ m → x ≡ origin st e → x + e .front + e .len ≤ m
+block-fits st e x m h q = omega (arith, origin-bound st e, q)
 
-  far : largest < f → Refused (Far first) ≡ placed first st e
-  far h = rw (lt-leb (furthest (put st e (origin st e))) largest (omega (arith, same)))
-
-  at : (v : ℕ) → v ≡ e .after → f ≤ largest → At x (record { end = x + e .front + e .len; reach = w; room = v }) ≡ placed first st e
-  at v hv h = rw (le-leb (furthest (put st e (origin st e))) largest (omega (arith, same)), hw, hx, hu, hv)
+ruby-fits : (st : State) (e : Element) (x u m : ℕ) → furthest st + total e ≤ m → x ≡ origin st e → u ≡ rubyUpto e → x + u ≤ m
+ruby-fits st e x u m h q r = go (e .ruby) (omega (arith, origin-bound st e, q)) r h
+  where
+    go : (b : Bool) → x ≤ furthest st → u ≡ cond b (e .upto) (e .front) → furthest st + max (e .front + e .len) (cond b (e .upto) 0) ≤ m → x + u ≤ m
+    go true o f k = omega arith
+    go false o f k = omega arith
 
 least-origin-requires : tie.Need-least-origin-requires
-least-origin-requires c κs = search needs
-
-cast-end : tie.Need-cast-end
-cast-end c = search needs
-
-cast-end-2 : tie.Need-cast-end-2
-cast-end-2 c = search needs
-
-add-end : tie.Need-add-end
-add-end c = search needs
-
-cast-end-3 : tie.Need-cast-end-3
-cast-end-3 c = search needs
-
-add-end-2 : tie.Need-add-end-2
-add-end-2 c = search needs
-
-cast-further : tie.Need-cast-further
-cast-further c = search needs
-
-cast-further-2 : tie.Need-cast-further-2
-cast-further-2 c = search needs
+least-origin-requires c κs = omega (arith, c .pre)
 
 ruby-upto-requires : tie.Need-ruby-upto-requires
 ruby-upto-requires c κs = search needs
 
-cast-further-3 : tie.Need-cast-further-3
-cast-further-3 c = search needs
+add-t5 : tie.Need-add-t5
+add-t5 c =
+    let start = c .before .before .before in
+    omega (arith, block-fits (start .args .st) (start .args .e) _ 4294967295 (start .pre) (c .before .before .least-origin .ensures))
 
-add-further : tie.Need-add-further
-add-further c = search needs
+add-t6 : tie.Need-add-t6
+add-t6 c =
+    let start = c .before .before .before .before in
+    omega (arith, block-fits (start .args .st) (start .args .e) _ 4294967295 (start .pre) (c .before .before .before .least-origin .ensures))
 
-further-requires : tie.Need-further-requires
-further-requires c κs = search needs
+add-larger : tie.Need-add-larger
+add-larger c =
+    let start = c .before .before .before .before in
+    omega (arith, ruby-fits (start .args .st) (start .args .e) _ _ 4294967295 (start .pre) (c .before .before .before .least-origin .ensures) (c .before .before .ruby-upto .ensures))
 
-further-requires-2 : tie.Need-further-requires-2
-further-requires-2 c κs = search needs
+larger-requires : tie.Need-larger-requires
+larger-requires c κs = search needs
 
 returns : tie.Need-returns
-returns c =
-    let called = c .before .before .before in
-    far _ _ _ _ _ _ _ (called .before .before .before .before .least-origin .ensures) (called .ruby-upto .ensures) (c .before .before .further .ensures)
-    (c .before .further2 .ensures) (c .if1 .taken)
-
-cast-t11 : tie.Need-cast-t11
-cast-t11 c = search needs
-
-cast-t14 : tie.Need-cast-t14
-cast-t14 c = search needs
-
-returns-2 : tie.Need-returns-2
-returns-2 c =
-    let called = c .before .before .before in
-    at _ _ _ _ _ _ _ (called .before .before .before .before .least-origin .ensures) (called .ruby-upto .ensures) (c .before .before .further .ensures)
-    (c .before .further2 .ensures) _ refl (c .if1 .left)
+returns c = rw (c .larger .ensures, c .before .before .before .ruby-upto .ensures, c .before .before .before .before .least-origin .ensures)
 
 pub place-spec : {M : Type 1} → statement M
 place-spec =
     tie.close
     (tie.spec
     least-origin-requires
-    cast-end
-    cast-end-2
-    add-end
-    cast-end-3
-    add-end-2
-    cast-further
-    cast-further-2
     ruby-upto-requires
-    cast-further-3
-    add-further
-    further-requires
-    further-requires-2
-    returns
-    cast-t11
-    cast-t14
-    returns-2)
+    add-t5
+    add-t6
+    add-larger
+    larger-requires
+    returns)

@@ -1,12 +1,12 @@
--- The piece was judged and its place is within all positions, so it is no refusal. The word stands at the least origin after the state, and its writers put its characters there; a P has one character and no ruby.
-use mathlib.Core.Path.{_≡_, sym, _∙_}
+-- The piece was judged. The word stands at the least origin after the state, and its writers put its characters there; a P has one character and no ruby.
+use mathlib.Core.Path.{_≡_, sym, ap, _∙_}
 use Prim.Native.Nat.{ℕ}
 use mathlib.Core.Bool.{false}
 use borrow.Author.Tests.{not-true}
 use Rattle.word.specs.Given.{hasRuby}
 use Rattle.line.specs.declared.State.{State}
-use Rattle.line.specs.declared.Placed.the-variants.{At}
-use Rattle.line.specs.Setting.{origin}
+use Rattle.line.specs.declared.Placed.{Placed}
+use Rattle.line.specs.Setting.{origin, placed}
 use Rattle.door.specs.declared.Piece.{Piece}
 use Rattle.door.specs.Job.{Job, jobOf}
 use Rattle.job.specs.Line.{wordOf, seen}
@@ -15,7 +15,6 @@ use Rattle.fill.specs.Piece.{pieceUpto, same-piece}
 use Rattle.write.specs.Piece as written
 use Rattle.write.specs.Plain as plain
 use borrow.Author.Needs.{needs}
-use native.Mathlib.Omega.{arith}
 use Rattle.write.proofs.write_piece.Statement.{statement}
 use Rattle.write.proofs.write_piece.Tie as tie
 
@@ -42,12 +41,15 @@ the c = let a = c .before .before .before .before .before .before .before .befor
 word : (c : tie.After-piece-word) → c .piece-word .result ≡ wordOf (job (c .before .before .before .before .before .before .before .before .before .before .before .before .before .before .before .before .before)) (piece (c .before .before .before .before .before .before .before .before .before .before .before .before .before .before .before .before .before))
 word c = c .piece-word .ensures ∙ rw (the (c .before)) (written.is-word (c .before .before .before .before .before .before .before .before .before .before .before .before .before .before .before .before .before .pre))
 
-located : (c : tie.After-place) → c .place .result ≡ At (org (c .before .before .before .before .before .before .before .before .before .before .before .before .before .before .before .before .before .before .before)) (after (c .before .before .before .before .before .before .before .before .before .before .before .before .before .before .before .before .before .before .before))
+sees : (c : tie.After-element-of) → c .element-of .result ≡ seen (job (c .before .before .before .before .before .before .before .before .before .before .before .before .before .before .before .before .before .before)) (piece (c .before .before .before .before .before .before .before .before .before .before .before .before .before .before .before .before .before .before))
 unfolding seen
-located c = c .place .ensures ∙ rw (c .before .element-of .ensures, word (c .before .before), the (c .before .before .before)) (written.is-placed (c .before .before .before .before .before .before .before .before .before .before .before .before .before .before .before .before .before .before .before .pre))
+sees c = c .element-of .ensures ∙ rw (word (c .before), the (c .before .before))
 
-spot : (c : tie.After-known-told) → (c .before .placed .given .0 .0 ≡ org (c .before .before .before .before .before .before .before .before .before .before .before .before .before .before .before .before .before .before .before .before .before .before)) × (c .before .placed .given .0 .1 .0 ≡ after (c .before .before .before .before .before .before .before .before .before .before .before .before .before .before .before .before .before .before .before .before .before .before))
-spot c = let e = sym (c .before .placed .given .1) ∙ located (c .before .before .before) in (cc, cc)
+located : (c : tie.After-place) → let a = c .before .before .before .before .before .before .before .before .before .before .before .before .before .before .before .before .before .before .before in (c .place .result .at ≡ org a) × (c .place .result .st ≡ after a)
+located c =
+    let a = c .before .before .before .before .before .before .before .before .before .before .before .before .before .before .before .before .before .before .before in
+    let is : c .place .result ≡ placed (a .args .st) (seen (job a) (piece a)) = c .place .ensures ∙ ap (placed (a .args .st)) (sees (c .before)) in
+    (ap (λ (p : Placed). p .at) is ∙ written.is-placed (a .pre) .0, ap (λ (p : Placed). p .st) is ∙ written.is-placed (a .pre) .1)
 
 is-plain-requires : tie.Need-is-plain-requires
 is-plain-requires c κs = search needs
@@ -73,28 +75,16 @@ piece-word-requires c κs = rw (the c) (written.asks-word (c .before .before .be
 element-of-requires : tie.Need-element-of-requires
 element-of-requires c κs = rw (the (c .before)) (written.asks-element (c .before .before .before .before .before .before .before .before .before .before .before .before .before .before .before .before .before .pre))
 
-cast-place : tie.Need-cast-place
-cast-place c = omega (arith, written.asks-place (c .before .before .before .before .before .before .before .before .before .before .before .before .before .before .before .before .before .before .pre))
-
 place-requires : tie.Need-place-requires
-place-requires c κs = search needs
-
-enum-known-placed : tie.Need-enum-known-placed
-enum-known-placed c = search needs
-
-enum-told : tie.Need-enum-told
-enum-told c = search needs
-
-returns-2 : tie.Need-returns-2
-returns-2 c = absurd (let e = sym (located (c .before .before)) ∙ c .enum-told .given .1 in let z : _≡_ {A = ℕ} 0 1 = cc in omega arith)
+place-requires c κs = rw (sees c) (written.asks-place (c .before .before .before .before .before .before .before .before .before .before .before .before .before .before .before .before .before .before .pre))
 
 write-base-requires : tie.Need-write-base-requires
-write-base-requires c κs = rw (the (c .before .before .before .before .before .before .before), word (c .before .before .before .before .before .before), spot (c .before) .0) (written.asks-base (c .before .before .before .before .before .before .before .before .before .before .before .before .before .before .before .before .before .before .before .before .before .before .before .pre))
+write-base-requires c κs = rw (the (c .before .before .before .before), word (c .before .before .before), located (c .before) .0) (written.asks-base (c .before .before .before .before .before .before .before .before .before .before .before .before .before .before .before .before .before .before .before .before .pre))
 
 write-ruby-requires : tie.Need-write-ruby-requires
 write-ruby-requires c κs =
-    rw (the (c .before .before .before .before .before .before .before .before .before .before .before), word (c .before .before .before .before .before .before .before .before .before .before))
-    (rw (← spot (c .before .before .before .before .before) .0) at (written.asks-ruby (c .before .before .before .before .before .before .before .before .before .before .before .before .before .before .before .before .before .before .before .before .before .before .before .before .before .before .before .pre)))
+    rw (the (c .before .before .before .before .before .before .before .before), word (c .before .before .before .before .before .before .before))
+    (rw (← located (c .before .before .before .before .before) .0) at (written.asks-ruby (c .before .before .before .before .before .before .before .before .before .before .before .before .before .before .before .before .before .before .before .before .before .before .before .before .pre)))
 
 same-length-2 : tie.Need-same-length-2
 same-length-2 c = search needs
@@ -102,12 +92,14 @@ same-length-2 c = search needs
 same-length-3 : tie.Need-same-length-3
 same-length-3 c = search needs
 
-returns-3 : tie.Need-returns-3
-returns-3 c = (
-  spot (c .before .before .before .before .before .before .before .before) .1,
-  c .before .before .before .before .before .before .write-base .ensures ∙ rw (the (c .before .before .before .before .before .before .before .before .before .before .before .before .before .before), word (c .before .before .before .before .before .before .before .before .before .before .before .before .before), spot (c .before .before .before .before .before .before .before .before) .0) (written.gives-base (c .before .before .before .before .before .before .before .before .before .before .before .before .before .before .before .before .before .before .before .before .before .before .before .before .before .before .before .before .before .before .pre)),
-  c .before .before .write-ruby .ensures ∙ rw (the (c .before .before .before .before .before .before .before .before .before .before .before .before .before .before), word (c .before .before .before .before .before .before .before .before .before .before .before .before .before), spot (c .before .before .before .before .before .before .before .before) .0) (written.gives-ruby (c .before .before .before .before .before .before .before .before .before .before .before .before .before .before .before .before .before .before .before .before .before .before .before .before .before .before .before .before .before .before .pre)),
-)
+returns-2 : tie.Need-returns-2
+returns-2 c =
+    let put = c .before .before .before .before .before .before .before .before .before in
+    let a = put .before .before .before .before .before .before .before .before .before .before .before .before .before .before .before .before .before .before .before in (
+      located put .1,
+      c .before .before .before .before .before .before .before .write-base .ensures ∙ rw (the (put .before .before .before), word (put .before .before), located put .0) (written.gives-base (a .pre)),
+      c .before .before .before .write-ruby .ensures ∙ rw (the (put .before .before .before), word (put .before .before), located put .0) (written.gives-ruby (a .pre)),
+    )
 
 pub write-piece-spec : {M : Type 1} → statement M
 write-piece-spec =
@@ -120,13 +112,9 @@ write-piece-spec =
     piece-upto-requires
     piece-word-requires
     element-of-requires
-    cast-place
     place-requires
-    enum-known-placed
-    enum-told
-    returns-2
     write-base-requires
     write-ruby-requires
     same-length-2
     same-length-3
-    returns-3)
+    returns-2)

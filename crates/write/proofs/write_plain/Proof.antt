@@ -1,14 +1,13 @@
--- The place is within all positions, so it is no refusal. The only base character is put at the origin.
-use mathlib.Core.Path.{_≡_, sym, ap, _∙_}
+-- The only base character is put at the origin.
+use mathlib.Core.Path.{_≡_, ap, _∙_}
 use Prim.Native.Nat.{ℕ}
 use lib.ListN.{set}
-use Rattle.line.specs.declared.Element.{Element}
 use Rattle.line.specs.declared.State.{State}
-use Rattle.line.specs.declared.Placed.the-variants.{At}
+use Rattle.line.specs.declared.Placed.{Placed}
 use Rattle.line.specs.Setting.{placed}
-use Rattle.write.specs.Plain.{plainOrigin, plainState, plain-placed}
+use Rattle.fill.specs.Plain.{plainElement}
+use Rattle.write.specs.Plain.{plainOrigin, plainState}
 use borrow.Author.Needs.{needs}
-use native.Mathlib.Omega.{arith}
 use Rattle.write.proofs.write_plain.Statement.{statement}
 use Rattle.write.proofs.write_plain.Tie as tie
 
@@ -19,29 +18,11 @@ org a = plainOrigin (a .args .i) (a .args .st) (a .args .em) (a .args .class .no
 abbrev after : tie.Start → State
 after a = plainState (a .args .i) (a .args .st) (a .args .em) (a .args .class .now) (a .args .width .now) (a .args .before .now) (a .args .after .now)
 
-located : (c : tie.After-place) → c .place .result ≡ At (org (c .before .before .before .before .before .before .before)) (after (c .before .before .before .before .before .before .before))
-located c = let a = c .before .before .before .before .before .before .before in c .place .ensures ∙ ap (λ (e : Element). placed (a .args .s) (a .args .st) e) (c .before .plain-at .ensures) ∙ plain-placed (a .pre)
-
-spot : (c : tie.After-known-told) → (c .before .placed .given .0 .0 ≡ org (c .before .before .before .before .before .before .before .before .before .before)) × (c .before .placed .given .0 .1 .0 ≡ after (c .before .before .before .before .before .before .before .before .before .before))
-spot c = let e = sym (c .before .placed .given .1) ∙ located (c .before .before .before) in (cc, cc)
-
 plain-at-requires : tie.Need-plain-at-requires
 plain-at-requires c κs = c .before .before .before .before .before .pre .reads
 
-cast-place : tie.Need-cast-place
-cast-place c = omega (arith, c .before .before .before .before .before .before .pre .first)
-
 place-requires : tie.Need-place-requires
-place-requires c κs = search needs
-
-enum-known-placed : tie.Need-enum-known-placed
-enum-known-placed c = search needs
-
-enum-told : tie.Need-enum-told
-enum-told c = search needs
-
-returns : tie.Need-returns
-returns c = absurd (let e = sym (located (c .before .before)) ∙ c .enum-told .given .1 in let z : _≡_ {A = ℕ} 0 1 = cc in omega arith)
+place-requires c κs = rw (c .plain-at .ensures) (c .before .before .before .before .before .before .pre .near)
 
 mul-base : tie.Need-mul-base
 mul-base c = search needs
@@ -52,20 +33,18 @@ slice-write-base c = search needs
 same-length : tie.Need-same-length
 same-length c = search needs
 
-returns-2 : tie.Need-returns-2
-returns-2 c = let a = c .before .before .before .before .before .before .before .before .before .before in (spot c .1, ap (λ (o : ℕ). set (a .args .base .now) (a .args .i) o) (spot c .0))
+-- what is placed is what the definitions have
+spot : (c : tie.After-place) → let a = c .before .before .before .before .before .before .before in (c .place .result .at ≡ org a) × (c .place .result .st ≡ after a)
+spot c =
+    let a = c .before .before .before .before .before .before .before in
+    let is : c .place .result ≡ placed (a .args .st) (plainElement (a .args .i) (a .args .em) (a .args .class .now) (a .args .width .now) (a .args .before .now) (a .args .after .now)) =
+    c .place .ensures ∙ ap (placed (a .args .st)) (c .before .plain-at .ensures) in
+    (ap (λ (p : Placed). p .at) is, ap (λ (p : Placed). p .st) is)
+
+returns : tie.Need-returns
+returns c =
+    let a = c .before .before .before .before .before .before .before .before in
+    (spot (c .before) .1, ap (λ (o : ℕ). set (a .args .base .now) (a .args .i) o) (spot (c .before) .0))
 
 pub write-plain-spec : {M : Type 1} → statement M
-write-plain-spec =
-    tie.close
-    (tie.spec
-    plain-at-requires
-    cast-place
-    place-requires
-    enum-known-placed
-    enum-told
-    returns
-    mul-base
-    slice-write-base
-    same-length
-    returns-2)
+write-plain-spec = tie.close (tie.spec plain-at-requires place-requires mul-base slice-write-base same-length returns)

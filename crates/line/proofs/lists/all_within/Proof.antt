@@ -2,7 +2,7 @@
 use Prim.Native.Nat.{_-_}
 use borrow.Author.Tests.{not-true, not-false}
 use Rattle.line.specs.Promise.{lists}
-use Rattle.line.proofs.Passes.{Checked, checked-start, checked-has, checked-next, checked-end, checked-fails}
+use Rattle.line.proofs.Passes.{Checked, checked-start, checked-has, checked-next, checked-end, checked-fails, too-many}
 use borrow.Author.Needs.{needs}
 use native.Mathlib.Omega.{arith}
 use Rattle.line.proofs.lists.all_within.Statement.{statement}
@@ -14,8 +14,11 @@ Inv-loop count front len ruby from upto before after i₀ i = Checked (lists fro
 abbrev μ-loop : tie.MeasureT-loop
 μ-loop count front len ruby from upto before after i₀ i = count - i
 
+returns : tie.Need-returns Inv-loop μ-loop
+returns c = too-many _ _ (c .before .before .before .before .before .before .before .before .pre) (c .if1 .taken)
+
 loop-holds : tie.Need-loop-holds Inv-loop μ-loop
-loop-holds c = checked-start _ _ (c .before .before .before .before .before .before .before .pre)
+loop-holds c = checked-start _ _ (c .before .before .before .before .before .before .before .before .pre) (c .if1 .left)
 
 element-at-requires : tie.Need-element-at-requires Inv-loop μ-loop
 element-at-requires c κs = checked-has _ _ _ (c .before .loop .inv) (c .loop-test .taken)
@@ -29,11 +32,11 @@ shared-slice-read-set-within c = omega (arith, checked-has _ _ _ (c .before .bef
 set-within-requires : tie.Need-set-within-requires Inv-loop μ-loop
 set-within-requires c κs = search needs
 
-returns : tie.Need-returns Inv-loop μ-loop
-returns c =
+returns-2 : tie.Need-returns-2 Inv-loop μ-loop
+returns-2 c =
     let turn = c .before .before .before .before in
     checked-fails _ _ _ (turn .before .loop .inv) (turn .loop-test .taken)
-    (λ w. c .before .set-within .ensures .no (not-true _ (c .if1 .taken)) (rw (c .before .before .before .element-at .ensures) w))
+    (λ w. c .before .set-within .ensures .no (not-true _ (c .if2 .taken)) (rw (c .before .before .before .element-at .ensures) w))
 
 add-i : tie.Need-add-i Inv-loop μ-loop
 add-i c = search needs
@@ -45,10 +48,10 @@ loop-again : tie.Need-loop-again Inv-loop μ-loop
 loop-again c =
     let turn = c .before .before .before .before in
     checked-next _ _ _ (turn .before .loop .inv)
-    (rw (c .before .before .before .element-at .ensures) at (c .before .set-within .ensures .yes (not-false _ (c .if1 .left))))
+    (rw (c .before .before .before .element-at .ensures) at (c .before .set-within .ensures .yes (not-false _ (c .if2 .left))))
 
-returns-2 : tie.Need-returns-2 Inv-loop μ-loop
-returns-2 c = checked-end _ _ _ (c .before .loop .inv) (c .loop-test .left)
+returns-3 : tie.Need-returns-3 Inv-loop μ-loop
+returns-3 c = checked-end _ _ _ (c .before .loop .inv) (c .loop-test .left)
 
 pub all-within-spec : {M : Type 1} → statement M
 all-within-spec =
@@ -56,13 +59,14 @@ all-within-spec =
     (tie.spec
     Inv-loop
     μ-loop
+    returns
     loop-holds
     element-at-requires
     mul-set-within
     shared-slice-read-set-within
     set-within-requires
-    returns
+    returns-2
     add-i
     loop-less
     loop-again
-    returns-2)
+    returns-3)

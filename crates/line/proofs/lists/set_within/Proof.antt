@@ -27,15 +27,22 @@ flush-requires c κs = search needs
 returns-5 : tie.Need-returns-5
 returns-5 c = denied (λ w. c .before .flush .ensures .no (not-true _ (c .if5 .taken)) (w .sound .flush))
 
+short-requires : tie.Need-short-requires
+short-requires c κs = search needs
+
+returns-6 : tie.Need-returns-6
+returns-6 c = denied (λ w. c .before .short .ensures .no (not-true _ (c .if6 .taken)) (w .short))
+
 inside-requires : tie.Need-inside-requires
 inside-requires c κs = search needs
 
 around-requires : tie.Need-around-requires
 around-requires c κs = search needs
 
-returns-6 : tie.Need-returns-6
-returns-6 c =
-    let flush = c .before .before .before in
+returns-7 : tie.Need-returns-7
+returns-7 c =
+    let short = c .before .before .before in
+    let flush = short .before .before in
     told
     (record {
       flagged = omega arith;
@@ -44,14 +51,16 @@ returns-6 c =
         flush = flush .before .flush .ensures .yes (not-false _ (flush .if5 .left));
         before = omega arith;
         after = omega arith;
-        shape = λ t. inl (c .before .inside .ensures .yes (c .if7 .taken));
+        shape = λ t. inl (c .before .inside .ensures .yes (c .if8 .taken));
       };
+      short = short .before .short .ensures .yes (not-false _ (short .if6 .left));
     })
 
-returns-7 : tie.Need-returns-7
-returns-7 c =
+returns-8 : tie.Need-returns-8
+returns-8 c =
     let inside = c .before .before in
-    let flush = inside .before .before in
+    let short = inside .before .before in
+    let flush = short .before .before in
     record {
       yes = λ q. record {
         flagged = omega arith;
@@ -62,13 +71,15 @@ returns-7 c =
           after = omega arith;
           shape = λ t. inr (c .around .ensures .yes q);
         };
+        short = short .before .short .ensures .yes (not-false _ (short .if6 .left));
       };
-      no = λ q w. ⊎-elim (inside .inside .ensures .no (c .before .if7 .left)) (c .around .ensures .no q) (w .sound .shape (subst T (sym (inside .before .if6 .taken)) tt));
+      no = λ q w. ⊎-elim (inside .inside .ensures .no (c .before .if8 .left)) (c .around .ensures .no q) (w .sound .shape (subst T (sym (inside .before .if7 .taken)) tt));
     }
 
-returns-8 : tie.Need-returns-8
-returns-8 c =
-    let flush = c .before in
+returns-9 : tie.Need-returns-9
+returns-9 c =
+    let short = c .before in
+    let flush = short .before .before in
     told
     (record {
       flagged = omega arith;
@@ -77,8 +88,9 @@ returns-8 c =
         flush = flush .before .flush .ensures .yes (not-false _ (flush .if5 .left));
         before = omega arith;
         after = omega arith;
-        shape = λ t. absurd (subst T (c .if6 .left) t);
+        shape = λ t. absurd (subst T (c .if7 .left) t);
       };
+      short = short .before .short .ensures .yes (not-false _ (short .if6 .left));
     })
 
 pub set-within-spec : {M : Type 1} → statement M
@@ -91,8 +103,10 @@ set-within-spec =
     returns-4
     flush-requires
     returns-5
+    short-requires
+    returns-6
     inside-requires
     around-requires
-    returns-6
     returns-7
-    returns-8)
+    returns-8
+    returns-9)

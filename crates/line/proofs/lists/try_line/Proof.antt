@@ -1,18 +1,17 @@
--- The rest of the line ends in the same state as the whole, whatever was passed. The answer is by the last state, and an element refused on the
--- way shows that this passes the largest position.
+-- The rest of the line ends in the same state as the whole, whatever was passed, and the answer is by the last state.
 use Prim.Native.Nat.{_-_}
 use Rattle.line.specs.Promise.{lists}
-use Rattle.line.proofs.Passes.{Walked, walked-start, walked-has, walked-next, walked-refused, walked-end, tried-long, tried-set}
+use Rattle.line.proofs.Passes.{Walked, walked-start, walked-has, walked-fits, walked-next, walked-end, tried-long, tried-set}
 use borrow.Author.Needs.{needs}
 use native.Mathlib.Omega.{arith}
 use Rattle.line.proofs.lists.try_line.Statement.{statement}
 use Rattle.line.proofs.lists.try_line.Tie as tie
 
 abbrev Inv-loop : tie.InvT-loop
-Inv-loop first measure count front len ruby from upto before after st₀ i₀ st i = Walked (lists front len ruby from upto before after) count st i
+Inv-loop measure count front len ruby from upto before after st₀ i₀ st i = Walked (lists front len ruby from upto before after) count st i
 
 abbrev μ-loop : tie.MeasureT-loop
-μ-loop first measure count front len ruby from upto before after st₀ i₀ st i = count - i
+μ-loop measure count front len ruby from upto before after st₀ i₀ st i = count - i
 
 loop-holds : tie.Need-loop-holds Inv-loop μ-loop
 loop-holds c = walked-start _ _ (c .before .before .before .before .before .before .before .pre)
@@ -21,19 +20,7 @@ element-at-requires : tie.Need-element-at-requires Inv-loop μ-loop
 element-at-requires c κs = walked-has _ _ _ _ (c .before .loop .inv) (c .loop-test .taken)
 
 place-requires : tie.Need-place-requires Inv-loop μ-loop
-place-requires c κs = search needs
-
-enum-known-next : tie.Need-enum-known-next Inv-loop μ-loop
-enum-known-next c = search needs
-
-enum-known-r : tie.Need-enum-known-r Inv-loop μ-loop
-enum-known-r c = search needs
-
-returns : tie.Need-returns Inv-loop μ-loop
-returns c =
-    let turn = c .before .before .before .before .before in
-    walked-refused _ _ _ _ _ (turn .before .loop .inv) (turn .loop-test .taken) _ _
-    (c .before .before .before .before .element-at .ensures) (c .before .before .before .place .ensures) _ _ (c .before .r .given .1)
+place-requires c κs = walked-fits _ _ _ _ (c .before .before .loop .inv) (c .before .loop-test .taken) _ (c .element-at .ensures)
 
 add-i : tie.Need-add-i Inv-loop μ-loop
 add-i c = search needs
@@ -43,9 +30,8 @@ loop-less c = search needs
 
 loop-again : tie.Need-loop-again Inv-loop μ-loop
 loop-again c =
-    let turn = c .before .before .before .before .before in
-    walked-next _ _ _ _ _ (turn .before .loop .inv) (turn .loop-test .taken) _ _
-    (c .before .before .before .before .element-at .ensures) (c .before .before .before .place .ensures) _ _ (c .before .next .given .1)
+    let turn = c .before .before .before in
+    walked-next _ _ _ _ (turn .before .loop .inv) (turn .loop-test .taken) _ (c .before .before .element-at .ensures) _ (c .before .place .ensures)
 
 larger-requires : tie.Need-larger-requires Inv-loop μ-loop
 larger-requires c κs = search needs
@@ -56,17 +42,15 @@ mul-if1 c = search needs
 cast-if1 : tie.Need-cast-if1 Inv-loop μ-loop
 cast-if1 c = search needs
 
+returns : tie.Need-returns Inv-loop μ-loop
+returns c =
+    let last = c .before .before in
+    tried-long _ _ _ (walked-end _ _ _ _ (last .before .loop .inv) (last .loop-test .left)) (omega (arith, c .before .larger .ensures))
+
 returns-2 : tie.Need-returns-2 Inv-loop μ-loop
 returns-2 c =
     let last = c .before .before in
-    tried-long _ _ _ _ (walked-end _ _ _ _ (last .before .loop .inv) (last .loop-test .left)) (last .before .loop .inv .near)
-    (omega (arith, c .before .larger .ensures))
-
-returns-3 : tie.Need-returns-3 Inv-loop μ-loop
-returns-3 c =
-    let last = c .before .before in
-    tried-set _ _ _ _ (walked-end _ _ _ _ (last .before .loop .inv) (last .loop-test .left)) _ (c .before .larger .ensures)
-    (last .before .loop .inv .near) (c .if1 .left)
+    tried-set _ _ _ (walked-end _ _ _ _ (last .before .loop .inv) (last .loop-test .left)) _ (c .before .larger .ensures) (c .if1 .left)
 
 pub try-line-spec : {M : Type 1} → statement M
 try-line-spec =
@@ -77,14 +61,11 @@ try-line-spec =
     loop-holds
     element-at-requires
     place-requires
-    enum-known-next
-    enum-known-r
-    returns
     add-i
     loop-less
     loop-again
     larger-requires
     mul-if1
     cast-if1
-    returns-2
-    returns-3)
+    returns
+    returns-2)
