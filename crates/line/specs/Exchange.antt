@@ -1,6 +1,6 @@
--- "What one correction may disturb" (document 02, R-9): a part of a line is exchanged for another. What stands before it stays where it was, and from the
--- second element after it on all move by one and the same amount. By the rules alone: whichever settings of the two lines keep the four rules with no element
--- any nearer the line's start. `Onward` has the argument, and `sharp` of Cases that the first element after it may move by another amount.
+-- "What one correction may disturb" (document 02, R-9): one element of a line is exchanged for another (`correction`), or any part of it for another part
+-- (`exchange`). What stands before it stays where it was, and from the second element after it on all move by one and the same amount. The theorems go by the
+-- rules alone and speak of any two least settings. `Onward` has the argument; `sharp` of Cases shows that the first element after it may move by another amount.
 use mathlib.Core.Path.{_≡_, refl, sym, ap, ap₂, _∙_, subst}
 use mathlib.Core.List.{List, [], _∷_, _++_}
 use Prim.Native.Nat.{ℕ, zero, suc, _+_, _-_, _≤_, _<_}
@@ -31,7 +31,8 @@ pub record Throughout (H : (was now : ℕ) → Type 0) (es es′ : List Element)
   pub rubyStart : H (rubyAt es xs i .start) (rubyAt es′ ys j .start)
   pub rubyEnd : H (rubyAt es xs i .end) (rubyAt es′ ys j .end)
 
--- The part b between a and c exchanged for b′. The second element after it has the number 1 in c.
+-- The part b between a and c exchanged for b′; one of the two may be empty, where elements are put in or taken out. The first element after it has the number 0
+-- in c, the second the number 1.
 pub record Exchanged (a b b′ c : List Element) (xs ys : List ℕ) : Type 0 where
   pub stays : (i : ℕ) → i < length a → Throughout Stayed (a ++ (b ++ c)) (a ++ (b′ ++ c)) xs ys i i
   pub forth : ℕ
@@ -102,7 +103,9 @@ moved forth back es es′ xs ys i j e h =
 pub exchanged : (a b b′ c : List Element) → Sounds c → Exchanged a b b′ c (settle (a ++ (b ++ c))) (settle (a ++ (b′ ++ c)))
 exchanged a b b′ c w =
     record {
-      stays = λ i l. stayed (a ++ (b ++ c)) (a ++ (b′ ++ c)) _ _ i i (el-first a (b′ ++ c) i l ∙ sym (el-first a (b ++ c) i l)) (org-first start a (b′ ++ c) i l ∙ sym (org-first start a (b ++ c) i l));
+      stays = λ i l.
+          stayed (a ++ (b ++ c)) (a ++ (b′ ++ c)) _ _ i i (el-first a (b′ ++ c) i l ∙ sym (el-first a (b ++ c) i l))
+          (org-first start a (b′ ++ c) i l ∙ sym (org-first start a (b ++ c) i l));
       forth = rest .forth;
       back = rest .back;
       moves = λ i h l.
@@ -174,12 +177,12 @@ correction m m′ n es es′ xs ys w w′ o l l′ = go (split n es es′ o)
           back = x .back;
           moves = λ i h k.
               rw (r .was, r .now)
-              (subst (λ j. Throughout (Moved (x .forth) (x .back)) (r .a ++ (r .e ∷ r .c)) (r .a ++ (r .e′ ∷ r .c)) xs ys j j) (same i h)
+              (subst (λ j. Throughout (Moved (x .forth) (x .back)) (r .a ++ (r .e ∷ r .c)) (r .a ++ (r .e′ ∷ r .c)) xs ys j j) (same i (omega arith))
               (x .moves (i - (length (r .a) + 1)) (omega (arith, r .count)) (omega (arith, r .count, ap length (r .was), length-append (r .a) (r .e ∷ r .c)))));
         }
       where
         x : Exchanged (r .a) (r .e ∷ []) (r .e′ ∷ []) (r .c) xs ys
         x = exchange m m′ (r .a) (r .e ∷ []) (r .e′ ∷ []) (r .c) xs ys (rw (r .was) at w) (rw (r .now) at w′) (rw (r .was) at l) (rw (r .now) at l′)
 
-        same : (i : ℕ) → n + 2 ≤ i → length (r .a) + 1 + (i - (length (r .a) + 1)) ≡ i
+        same : (i : ℕ) → n + 1 ≤ i → length (r .a) + 1 + (i - (length (r .a) + 1)) ≡ i
         same i h = omega (arith, r .count)
