@@ -2,12 +2,15 @@
 -- base 10 wide, ruby 5 wide, kana-like."
 use mathlib.Core.Path.{_≡_, refl}
 use mathlib.Core.List.{List, [], _∷_, _++_, map}
-use Prim.Native.Nat.{ℕ, _+_, _-_}
+use Prim.Native.Nat.{ℕ, zero, suc, _+_, _-_, _<_}
+use native.Mathlib.Omega.{arith}
 use lib.ListN.{length, replicate}
 use Rattle.basics.specs.Lists.{sum, each}
-use Rattle.door.specs.Job.{Job}
+use Rattle.door.specs.Job.{Job, elements}
 use Rattle.job.specs.declared.Answer.the-variants.{Set}
 use Rattle.job.specs.Outcome.{Outcome, outcome}
+use Rattle.job.specs.Correction.{Line, IsSet, SameElement, Corrected, piece}
+use Rattle.job.specs.Exchanged.{elementOf, ElementExchanged, BreaksKept, one-element}
 
 -- an element with its base characters, as the cases give them
 pub data Entry : Type 0 where
@@ -149,3 +152,42 @@ openings =
 pub all-openings : map got openings ≡ map wanted openings
 unfolding got wanted openings
 all-openings = refl
+
+-- One correction (document 02, R-9), worked out by hand: K12 with one K1 more behind it, and its first word exchanged for one with a single ruby character. The
+-- space moves back by 5 and all after it by 9: the first element after it may move by another amount than the rest.
+abbrev was : Case
+was = wide (M 3 ∷ P 14 3 0 ∷ M 3 ∷ M 3 ∷ []) (5 ∷ 25 ∷ 35 ∷ 65 ∷ []) (0 ∷ 10 ∷ 20 ∷ 30 ∷ 40 ∷ 50 ∷ 60 ∷ 70 ∷ 80 ∷ [])
+
+abbrev now : Case
+now = wide (M 1 ∷ P 14 3 0 ∷ M 3 ∷ M 3 ∷ []) (0 ∷ 20 ∷ 26 ∷ 56 ∷ []) (5 ∷ 21 ∷ 31 ∷ 41 ∷ 51 ∷ 61 ∷ 71 ∷ [])
+
+pub one-correction : map got (was ∷ now ∷ []) ≡ map wanted (was ∷ now ∷ [])
+unfolding got wanted
+one-correction = refl
+
+-- These two jobs meet what the theorem asks: they differ in element 0, and the breaks of the one line are kept.
+abbrev lineIn : Case → Line
+lineIn c = record { job = jobOf (c .measure) (c .entries); base = nines (c .base); ruby = nines (c .ruby); lines = nines (c .base); number = 0 }
+
+set : IsSet (lineIn was) × IsSet (lineIn now)
+unfolding outcome
+set = (record { count = 1; answer = refl; there = omega arith }, record { count = 1; answer = refl; there = omega arith })
+
+others : (k : ℕ) → k < 4 → (k ≡ 0 → ⊥) → SameElement (lineIn was .job) (elementOf (lineIn was .job) k) (lineIn now .job) (elementOf (lineIn now .job) k)
+unfolding elements
+others zero h n = absurd (n refl)
+others (suc zero) h n = record { form = refl; alike = record { em = refl; class = refl; width = refl; rubyClass = refl; rubyWidth = refl; run = λ e. refl }; before = refl; after = refl }
+others (suc (suc zero)) h n = record { form = refl; alike = record { em = refl; class = refl; width = refl; rubyClass = refl; rubyWidth = refl; run = λ e. refl }; before = refl; after = refl }
+others (suc (suc (suc zero))) h n = record { form = refl; alike = record { em = refl; class = refl; width = refl; rubyClass = refl; rubyWidth = refl; run = λ e. refl }; before = refl; after = refl }
+others (suc (suc (suc (suc k)))) h n = absurd (omega arith)
+
+exchanged : ElementExchanged 0 (lineIn was .job) (lineIn now .job)
+unfolding elements
+exchanged = record { there = omega arith; each = refl; others = others }
+
+kept : BreaksKept 0 (lineIn was) (lineIn now)
+unfolding elements outcome
+kept = record { number = refl; begins = refl; ahead = omega arith; behind = omega arith; ends = refl }
+
+pub corrected : (n : ℕ) × (piece (lineIn was) n ≡ elementOf (lineIn was .job) 0) × (piece (lineIn now) n ≡ elementOf (lineIn now .job) 0) × Corrected n (lineIn was) (lineIn now)
+corrected = one-element 0 (lineIn was) (lineIn now) (set .0) (set .1) exchanged kept

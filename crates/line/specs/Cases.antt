@@ -1,11 +1,14 @@
--- Cases K9 to K12 of document 01 ("Settings on both sides of each edge"), computed over the setting.
+-- Cases K9 to K12 of document 01 ("Settings on both sides of each edge"), computed over the setting; and K12 corrected (document 02, R-9).
 use mathlib.Core.Path.{_≡_, refl}
 use mathlib.Core.Bool.{true, false, cond}
 use mathlib.Core.List.{List, [], _∷_, _++_, map}
-use Prim.Native.Nat.{ℕ}
+use Prim.Native.Nat.{ℕ, _≤_, _<_}
+use native.Mathlib.Omega.{arith}
+use lib.ListN.{length}
 use Rattle.line.specs.declared.Element.{Element}
-use Rattle.line.specs.Rules.{blockOf, rubyOf}
+use Rattle.line.specs.Rules.{org, blockOf, rubyOf}
 use Rattle.line.specs.Setting.{origin, settleFrom, settle}
+use Rattle.line.specs.Exchange.{Moved}
 
 -- where the blocks of a line start, and where its rubies do
 abbrev blockStarts : List Element → List ℕ → List ℕ
@@ -53,3 +56,24 @@ set c = record { blocks = blockStarts (c .line) (settle (c .line)); rubies = rub
 pub right : map set cases ≡ map (λ c. c .starts) cases
 unfolding settleFrom origin
 right = refl
+
+-- "all elements from the second after it onward": the first may move by another amount. K12 with one K1 more behind it, and its first word exchanged for one
+-- with a single ruby character of 5 over its base 10 units wide.
+abbrev single : Element
+single = record { front = 0; len = 20; ruby = true; from = 5; upto = 15; before = 0; after = 0 }
+
+abbrev was : List Element
+was = k1 ∷ plain 6 6 6 ∷ k1 ∷ k1 ∷ []
+
+abbrev now : List Element
+now = single ∷ plain 6 6 6 ∷ k1 ∷ k1 ∷ []
+
+-- The space moves back by 5: it need no longer stand clear of the ruby before it. The words after it move by 9: their rubies are no longer held by that one.
+pub corrected : (blockStarts was (settle was) ≡ 5 ∷ 25 ∷ 35 ∷ 65 ∷ []) × (blockStarts now (settle now) ≡ 0 ∷ 20 ∷ 26 ∷ 56 ∷ [])
+unfolding settleFrom origin
+corrected = (refl, refl)
+
+-- So there is no one amount by which all elements after the exchanged one move.
+pub sharp : (forth back : ℕ) → ((i : ℕ) → 1 ≤ i → i < length was → Moved forth back (org (settle was) i) (org (settle now) i)) → ⊥
+unfolding settleFrom origin
+sharp forth back h = omega (arith, h 1 (omega arith) (omega arith), h 2 (omega arith) (omega arith))

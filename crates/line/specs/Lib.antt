@@ -4,6 +4,8 @@ pub mod Pairs
 pub mod Least
 pub mod Extent
 pub mod Theorems
+pub mod Onward
+pub mod Exchange
 pub mod Bound
 pub mod Cases
 pub mod Promise
