@@ -1,0 +1,2 @@
+-- The rows of a job, and the laws that join them to its lines.
+pub mod Rows
