@@ -14,7 +14,15 @@ fn most_within(bases: usize, end: u32, em: u32, limit: u32) -> usize {
 }
 
 // The furthest break within the J from i on, after a line of the state st, or `last`: each inner break is a try, from the furthest on.
-fn within(t: &[u32], i: usize, bases: usize, st: line::State, last: usize, em: u32, limit: u32) -> usize {
+fn within(
+    t: &[u32],
+    i: usize,
+    bases: usize,
+    st: line::State,
+    last: usize,
+    em: u32,
+    limit: u32,
+) -> usize {
     let mut k = most_within(bases, st.end, em, limit);
     while 0 < k {
         let step = cells::advance(t, i, i + k, em, st);
@@ -27,7 +35,15 @@ fn within(t: &[u32], i: usize, bases: usize, st: line::State, last: usize, em: u
 }
 
 // The furthest break once the piece at i is passed, whose end can be set or not.
-fn break_behind(t: &[u32], i: usize, st: line::State, last: usize, fit: bool, em: u32, limit: u32) -> usize {
+fn break_behind(
+    t: &[u32],
+    i: usize,
+    st: line::State,
+    last: usize,
+    fit: bool,
+    em: u32,
+    limit: u32,
+) -> usize {
     let a = cells::cell_at(t, i);
     let bases = a.bases as usize;
     if fit {

@@ -29,3 +29,8 @@ module _ (st : State) (len before after : ℕ) (h : before ≤ len) where
     where
       go : (a b : ℕ) → e ≡ a → r ≡ b → _≡_ {A = Placed} (record { at = x; st = record { end = e; reach = r; room = after } }) (record { at = x; st = record { end = a; reach = b; room = after } })
       go a b f g = cc
+
+-- whatever stands for the ruby that it hasn't
+pub plain-as : (st : State) (e : Element) → e .ruby ≡ false → e .front ≡ 0 → placed st (plain (e .len) (e .before) (e .after)) ≡ placed st e
+unfolding origin
+plain-as st e r f = rw (r, f)

@@ -22,7 +22,16 @@ fn rubies_upto(t: &[u32], i: usize, c: usize) -> usize {
     a.ruby as usize + a.rubies as usize
 }
 
-fn put_ruby(t: &[u32], i: usize, c: usize, em: u32, w: word::Word, at: u32, rwidth: &[u32], ruby: &mut [u32]) {
+fn put_ruby(
+    t: &[u32],
+    i: usize,
+    c: usize,
+    em: u32,
+    w: word::Word,
+    at: u32,
+    rwidth: &[u32],
+    ruby: &mut [u32],
+) {
     if w.runs {
         put_runs(t, i, c, em, at, rwidth, ruby);
         return;
@@ -38,7 +47,16 @@ fn fewer(a: usize, b: usize) -> usize {
 }
 
 // The line from s up to e.
-fn put_line(t: &[u32], s: usize, e: usize, em: u32, width: &[u32], rwidth: &[u32], base: &mut [u32], ruby: &mut [u32]) {
+fn put_line(
+    t: &[u32],
+    s: usize,
+    e: usize,
+    em: u32,
+    width: &[u32],
+    rwidth: &[u32],
+    base: &mut [u32],
+    ruby: &mut [u32],
+) {
     let mut i = s;
     let mut st = line::START;
     while i < e {
@@ -56,7 +74,16 @@ fn put_line(t: &[u32], s: usize, e: usize, em: u32, width: &[u32], rwidth: &[u32
     }
 }
 
-pub fn put_lines(t: &[u32], n: usize, ends: &[u32], em: u32, width: &[u32], rwidth: &[u32], base: &mut [u32], ruby: &mut [u32]) {
+pub fn put_lines(
+    t: &[u32],
+    n: usize,
+    ends: &[u32],
+    em: u32,
+    width: &[u32],
+    rwidth: &[u32],
+    base: &mut [u32],
+    ruby: &mut [u32],
+) {
     let mut s: usize = 0;
     let mut l: usize = 0;
     while l < n {

@@ -17,26 +17,26 @@ small-2 c = let a = c .before .before .args in rw (c .gap-of2 .ensures) (gap-le 
 gap-of-requires : tie.Need-gap-of-requires
 gap-of-requires c κs = search needs
 
-mul-t11 : tie.Need-mul-t11
-mul-t11 c = search needs
+mul-within : tie.Need-mul-within
+mul-within c = search needs
 
-mul-t12 : tie.Need-mul-t12
-mul-t12 c = search needs
+mul-within-2 : tie.Need-mul-within-2
+mul-within-2 c = omega (arith, small c)
 
-add-t13 : tie.Need-add-t13
-add-t13 c = omega (arith, small c)
+sub-within : tie.Need-sub-within
+sub-within c = omega (arith, small c)
+
+mul-t13 : tie.Need-mul-t13
+mul-t13 c = search needs
 
 mul-t15 : tie.Need-mul-t15
 mul-t15 c = search needs
 
-mul-t16 : tie.Need-mul-t16
-mul-t16 c = omega (arith, small c)
+add-t14 : tie.Need-add-t14
+add-t14 c = omega (arith, small c)
 
-sub-t19 : tie.Need-sub-t19
-sub-t19 c = omega (arith, small c)
-
-add-t18 : tie.Need-add-t18
-add-t18 c = omega (arith, small c)
+add-t16 : tie.Need-add-t16
+add-t16 c = omega (arith, small c)
 
 returns : tie.Need-returns
 unfolding byNumbers
@@ -48,26 +48,26 @@ sub-gap-of c = search needs
 gap-of-requires-2 : tie.Need-gap-of-requires-2
 gap-of-requires-2 c κs = search needs
 
-mul-t19 : tie.Need-mul-t19
-mul-t19 c = search needs
+sub-within-2 : tie.Need-sub-within-2
+sub-within-2 c = search needs
 
-sub-t20 : tie.Need-sub-t20
-sub-t20 c = search needs
+mul-within-3 : tie.Need-mul-within-3
+mul-within-3 c = search needs
 
-mul-t21 : tie.Need-mul-t21
-mul-t21 c = search needs
+mul-within-4 : tie.Need-mul-within-4
+mul-within-4 c = omega (arith, small-2 c)
 
-mul-t22 : tie.Need-mul-t22
-mul-t22 c = omega (arith, small-2 c)
+sub-within-3 : tie.Need-sub-within-3
+sub-within-3 c = omega (arith, small-2 c)
 
-sub-t23 : tie.Need-sub-t23
-sub-t23 c = omega (arith, small-2 c)
+mul-t17 : tie.Need-mul-t17
+mul-t17 c = search needs
 
-add-t24 : tie.Need-add-t24
-add-t24 c = omega (arith, small-2 c)
+add-t19 : tie.Need-add-t19
+add-t19 c = search needs
 
-mul-t25 : tie.Need-mul-t25
-mul-t25 c = search needs
+mul-t18 : tie.Need-mul-t18
+mul-t18 c = search needs
 
 returns-2 : tie.Need-returns-2
 unfolding byNumbers
@@ -78,21 +78,21 @@ by-numbers-spec =
     tie.close
     (tie.spec
     gap-of-requires
-    mul-t11
-    mul-t12
-    add-t13
+    mul-within
+    mul-within-2
+    sub-within
+    mul-t13
     mul-t15
-    mul-t16
-    sub-t19
-    add-t18
+    add-t14
+    add-t16
     returns
     sub-gap-of
     gap-of-requires-2
-    mul-t19
-    sub-t20
-    mul-t21
-    mul-t22
-    sub-t23
-    add-t24
-    mul-t25
+    sub-within-2
+    mul-within-3
+    mul-within-4
+    sub-within-3
+    mul-t17
+    add-t19
+    mul-t18
     returns-2)

@@ -27,15 +27,15 @@ returns-2 : tie.Need-returns-2
 unfolding partBy
 returns-2 c = rw (ne-eqb _ 1 (c .before .before .if1 .left), c .before .if2 .taken) (c .each-over .ensures)
 
-ruby-numbers-requires : tie.Need-ruby-numbers-requires
-ruby-numbers-requires c κs = search needs
+ruby-way-requires : tie.Need-ruby-way-requires
+ruby-way-requires c κs = search needs
 
 by-numbers-requires-2 : tie.Need-by-numbers-requires-2
 by-numbers-requires-2 c κs = let a = c .before .before .before in (block a, a .pre .1, a .pre .3, a .pre .4)
 
 returns-3 : tie.Need-returns-3
 unfolding partBy
-returns-3 c = rw (ne-eqb _ 1 (c .before .before .before .if1 .left), c .before .before .if2 .left, ← c .before .ruby-numbers .ensures) (c .by-numbers2 .ensures)
+returns-3 c = rw (ne-eqb _ 1 (c .before .before .before .if1 .left), c .before .before .if2 .left, ← c .before .ruby-way .ensures) (c .by-numbers2 .ensures)
 
 pub part-by-spec : {M : Type 1} → statement M
 part-by-spec =
@@ -46,6 +46,6 @@ part-by-spec =
     returns
     each-over-requires
     returns-2
-    ruby-numbers-requires
+    ruby-way-requires
     by-numbers-requires-2
     returns-3)
