@@ -40,11 +40,11 @@ pub record Row (t : List ℕ) (n i : ℕ) : Type 0 where
   pub runs : cellAt t i .cut ≡ true → (c : ℕ) → i < c → c ≤ i + cellAt t i .bases → Ran (cellAt t i) (cellAt t (c - 1))
 
 pub record Sound (em : ℕ) (t : List ℕ) (n : ℕ) : Type 0 where
-  pub some : 0 < em
   pub small : em ≤ 4096
   pub few : n ≤ 1024
   pub long : 19 * n ≤ length t
   pub row : (i : ℕ) → i < n → Row t n i
+  pub wide : (i : ℕ) → i < n → cellAt t i .cut ≡ true → 0 < em
 
 -- how long a line sees a word, whatever the depths
 abbrev lengthOf : Word → ℕ
