@@ -107,3 +107,30 @@ module _ (em : ℕ) (t : List ℕ) (n : ℕ) (sound : Sound em t n) (i c : ℕ) 
         short = piece-total;
         near = omega (arith, sound .few);
       }
+
+-- A part of a J is at least as long as its characters of one em.
+
+way-long : (ruby base : Way) (em b n r m : ℕ) → 2 * b ≤ byNumbers ruby base em b n r m .len
+unfolding byNumbers
+way-long ruby base em b n r m = go (decLt b r)
+  where
+    go : Dec (b < r) → 2 * b ≤ byNumbers ruby base em b n r m .len
+    go (yes l) = rw (lt-leb r b l) (omega arith)
+    go (no l) = rw (le-leb r b (omega arith)) (omega arith)
+
+by-long : (em n r m : ℕ) (same : Bool) (first last : ℕ) (western : Bool) → 2 * (em * n) ≤ partBy em n r m same first last western .len
+unfolding partBy eachOver
+by-long em n r m same first last western = go (eqb n 1) same
+  where
+    go : (x y : Bool) →
+        2 * (em * n) ≤ cond x (byNumbers Solid Solid em (em * n) n r m) (cond y (eachOver em (em * n) first last) (byNumbers (rubyWay western) Spread em (em * n) n r m)) .len
+    go true y = way-long Solid Solid em (em * n) n r m
+    go false true = omega arith
+    go false false = way-long (rubyWay western) Spread em (em * n) n r m
+
+pub part-long : (em : ℕ) (t : List ℕ) (i c : ℕ) → 2 * (em * (c - i)) ≤ part em t i c .len
+unfolding part
+part-long em t i c =
+    let a = cellAt t i in
+    let z = cellAt t (c - 1) in
+    by-long em (c - i) (z .wide + z .own - a .wide) (z .ruby + z .rubies - a .ruby) (eqb (a .over) (overWith em z)) (a .own) (z .own) (a .western)
