@@ -357,7 +357,7 @@ fn count_jukugo(base: u32, b: usize, r: usize, u: usize, runs: &[u32]) -> Counte
 }
 
 // Number 5: an element by its kind and counts, those before it having taken b base characters, r ruby characters and u runs. Counts that its kind does not show are not read.
-fn count_element(
+pub fn count_element(
     kind: u32,
     base: u32,
     ruby: u32,
@@ -388,7 +388,7 @@ fn count_element(
 }
 
 // Number 6 of an element: it needs more characters than are left.
-fn runs_out(p: Piece, bases: usize, rubies: usize) -> bool
+pub fn runs_out(p: Piece, bases: usize, rubies: usize) -> bool
     requires { ⌜ (p .base + p .bases < 2 ^ 40) × (p .ruby + p .rubies < 2 ^ 40) ⌝ }
     ensures { λ t. ⌜ t ≡ (ltb bases (p .base + p .bases) || ltb rubies (p .ruby + p .rubies)) ⌝ }
 {
@@ -545,7 +545,7 @@ fn check_element(
 }
 
 // Characters that no element took.
-fn left_over(b: usize, r: usize, bases: usize, rubies: usize) -> bool
+pub fn left_over(b: usize, r: usize, bases: usize, rubies: usize) -> bool
     ensures { λ t. ⌜ t ≡ (ltb b bases || ltb r rubies) ⌝ }
 {
     if b < bases {
@@ -627,7 +627,7 @@ pub fn base_count(
     fewer(class.len(), fewer(width.len(), blanks))
 }
 
-fn ruby_count(rclass: &[u32], rwidth: &[u32]) -> usize
+pub fn ruby_count(rclass: &[u32], rwidth: &[u32]) -> usize
     ensures { λ n. ⌜ n ≡ min (length (now (rclass .entry))) (length (now (rwidth .entry))) ⌝ }
 {
     fewer(rclass.len(), rwidth.len())

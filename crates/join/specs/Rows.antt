@@ -53,19 +53,18 @@ runsBefore x i = cond (isJ (x .form)) (i - x .base) 0
 abbrev pub none : Word
 none = record { front = 0; len = 0; ruby = false; from = 0; upto = 0; inbase = 0; inruby = 0; runs = false }
 
--- the row of base character i of element x
-unfoldable pub rowOf : Job → Piece → ℕ → Cell
-unfolding western word.wordOf depthsOn
-rowOf job x i =
+-- the row of base character i of element x, whose word, end and depths are these
+abbrev pub rowBy : Job → Piece → Word → Bool → ℕ → ℕ → ℕ → Cell
+rowBy job x w ends before after i =
     let k = runsBefore x i in
     let j = isJ (x .form) in
     record {
       bases = x .base + x .bases - i;
       cut = isCut x;
-      ends = eqb (getD (job .flag) (x .base + x .bases - 1) 0) 1;
-      word = cond (isCut x) none (wordOf job x);
-      before = onP (x .form) (depthsAt job (x .base) .before);
-      after = onP (x .form) (depthsAt job (x .base) .after);
+      ends = ends;
+      word = cond (isCut x) none w;
+      before = before;
+      after = after;
       ruby = firstRuby job x k;
       rubies = cond j (runAt job x k) (x .rubies);
       own = cond j (runWidth job x k) 0;
@@ -73,6 +72,15 @@ rowOf job x i =
       over = cond j (longer job x k) 0;
       western = j && western (getD (job .rubyClass) (firstRuby job x k) 0);
     }
+
+-- "A line may end after the last base character of an element whose flag is 1"
+abbrev pub endsBehind : Job → Piece → Bool
+endsBehind job x = eqb (getD (job .flag) (x .base + x .bases - 1) 0) 1
+
+-- the row of base character i of element x: its word is level one's, and ruby lies on it as deep as it may on a P
+unfoldable pub rowOf : Job → Piece → ℕ → Cell
+unfolding western word.wordOf depthsOn
+rowOf job x i = rowBy job x (wordOf job x) (endsBehind job x) (onP (x .form) (depthsAt job (x .base) .before)) (onP (x .form) (depthsAt job (x .base) .after)) i
 
 abbrev pub HasRows : Job → List ℕ → Piece → Type 0
 HasRows job t x = (i : ℕ) → x .base ≤ i → i < x .base + x .bases → cellAt t i ≡ rowOf job x i

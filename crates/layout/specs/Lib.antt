@@ -1,0 +1,2 @@
+-- Rows written, element by element.
+pub mod Lay
