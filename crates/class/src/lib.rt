@@ -1,16 +1,15 @@
 // The class table of document 01: for each class from 0 to 30 whether it is accepted, its kind, the sides on which it may carry a
 // blank, and how deep ruby may lie on that blank. Every check and every rule of clearance consults this table and nothing
-// else; that it says what document 01 says is proved once (specs/Class.antt, proofs/entry_of). All functions here are
-// total: any u32 is asked as it is. It relies on no other crate.
+// else, but for the questions that loops ask, which are sets beside it; that both say what document 01 says is proved
+// once (specs/Class.antt, proofs/entry_of, specs/Sets.antt). All functions here are total: any u32 is asked as it is. It
+// relies on no other crate.
 ghost use mathlib.Core.Path.{_≡_};
-ghost use mathlib.Core.Bool.{_&&_, cond};
-ghost use Prim.Native.Nat.{_+_, _^_, _≤_, _<_};
-ghost use lib.Dec.{ltb};
+ghost use mathlib.Core.Bool.{_&&_};
+ghost use Prim.Native.Nat.{_≤_};
 ghost use Rattle.class.specs.Class.{accepted, western, kanaLike, blankBefore, blankAfter, rowOf, kindOf, depthsOn};
 ghost use Rattle.class.specs.Depth.{blankBy, depthBy};
 ghost use Rattle.class.specs.Entry.{entryOf, rowBy, liesBefore, liesAfter, isWhole};
-ghost use Rattle.class.specs.Laws.{isKana, isWestern};
-ghost use Rattle.class.specs.Sets.{setUpto, isIn, mayHaveBlank};
+ghost use Rattle.class.specs.Sets.{isIn, mayHaveBlank};
 
 pub enum Kind {
     KanaLike,
@@ -231,8 +230,19 @@ pub fn kind_of(class: u32) -> Kind
     e.kind
 }
 
-// What loops over characters ask of a class is asked of sets: the classes that answer yes, a power of two for each. Each set is read off the one table; the
-// compiler works its loop out and leaves a number in its place.
+// What loops over characters ask of a class is asked of sets, a power of two for each class that answers yes: the table would be laid out anew for each character. That
+// a set says what document 01 says is proved of each, as it is of the table (specs/Sets.antt).
+const ACCEPTED_SET: u32 = 0x0f0f_fffe; // 1 to 19 and 24 to 27
+
+const BEFORE_SET: u32 = 0x0000_0022; // 1, 5
+
+const AFTER_SET: u32 = 0x0000_00e4; // 2, 5, 6, 7
+
+const BLANK_SET: u32 = 0x0000_40e6; // these, and 14
+
+const KANA_SET: u32 = 0x000f_fffe; // 1 to 19
+
+const WESTERN_SET: u32 = 0x0b00_0000; // 24, 25, 27
 
 // c is in a set.
 fn is_in(set: u32, c: u32) -> bool
@@ -244,179 +254,42 @@ fn is_in(set: u32, c: u32) -> bool
     (set >> c) % 2 == 1
 }
 
-// A set of classes below c, with c where it belongs to it.
-fn with_class(set: u32, c: u32, belongs: bool) -> u32
-    requires { ⌜ (c < 31) × (set < 2 ^ c) ⌝ }
-    ensures { λ r. ⌜ r ≡ set + cond belongs (2 ^ c) 0 ⌝ }
-{
-    if belongs { set + (1 << c) } else { set }
-}
-
-// What an entry answers.
-fn before_by(e: Entry) -> bool
-    ensures { λ r. ⌜ r ≡ liesBefore (e .sides) ⌝ }
-{
-    let sides = e.sides;
-    lies_before(sides)
-}
-
-fn after_by(e: Entry) -> bool
-    ensures { λ r. ⌜ r ≡ liesAfter (e .sides) ⌝ }
-{
-    let sides = e.sides;
-    lies_after(sides)
-}
-
-fn some_by(e: Entry) -> bool
-    ensures { λ r. ⌜ r ≡ ltb 0 (e .quarters) ⌝ }
-{
-    0 < e.quarters
-}
-
-fn kana_by(e: Entry) -> bool
-    ensures { λ r. ⌜ r ≡ isKana (e .kind) ⌝ }
-{
-    let kind = e.kind;
-    match kind {
-        Kind::KanaLike => true,
-        Kind::Western => false,
-        Kind::Space => false,
-        Kind::Outside => false,
-    }
-}
-
-fn western_by(e: Entry) -> bool
-    ensures { λ r. ⌜ r ≡ isWestern (e .kind) ⌝ }
-{
-    let kind = e.kind;
-    match kind {
-        Kind::KanaLike => false,
-        Kind::Western => true,
-        Kind::Space => false,
-        Kind::Outside => false,
-    }
-}
-
-fn accepted_set() -> u32
-    ensures { λ r. ⌜ r ≡ setUpto accepted 31 ⌝ }
-{
-    let table = TABLE;
-    let mut set: u32 = 0;
-    let mut class: u32 = 0;
-    while class < 31 {
-        let e = table[class as usize];
-        set = with_class(set, class, e.accepted);
-        class += 1;
-    }
-    set
-}
-
-fn before_set() -> u32
-    ensures { λ r. ⌜ r ≡ setUpto blankBefore 31 ⌝ }
-{
-    let table = TABLE;
-    let mut set: u32 = 0;
-    let mut class: u32 = 0;
-    while class < 31 {
-        let e = table[class as usize];
-        set = with_class(set, class, before_by(e));
-        class += 1;
-    }
-    set
-}
-
-fn after_set() -> u32
-    ensures { λ r. ⌜ r ≡ setUpto blankAfter 31 ⌝ }
-{
-    let table = TABLE;
-    let mut set: u32 = 0;
-    let mut class: u32 = 0;
-    while class < 31 {
-        let e = table[class as usize];
-        set = with_class(set, class, after_by(e));
-        class += 1;
-    }
-    set
-}
-
-fn blank_set() -> u32
-    ensures { λ r. ⌜ r ≡ setUpto mayHaveBlank 31 ⌝ }
-{
-    let table = TABLE;
-    let mut set: u32 = 0;
-    let mut class: u32 = 0;
-    while class < 31 {
-        let e = table[class as usize];
-        set = with_class(set, class, some_by(e));
-        class += 1;
-    }
-    set
-}
-
-fn kana_set() -> u32
-    ensures { λ r. ⌜ r ≡ setUpto kanaLike 31 ⌝ }
-{
-    let table = TABLE;
-    let mut set: u32 = 0;
-    let mut class: u32 = 0;
-    while class < 31 {
-        let e = table[class as usize];
-        set = with_class(set, class, kana_by(e));
-        class += 1;
-    }
-    set
-}
-
-fn western_set() -> u32
-    ensures { λ r. ⌜ r ≡ setUpto western 31 ⌝ }
-{
-    let table = TABLE;
-    let mut set: u32 = 0;
-    let mut class: u32 = 0;
-    while class < 31 {
-        let e = table[class as usize];
-        set = with_class(set, class, western_by(e));
-        class += 1;
-    }
-    set
-}
-
 pub fn is_accepted(class: u32) -> bool
     ensures { λ r. ⌜ r ≡ accepted class ⌝ }
 {
-    is_in(accepted_set(), class)
+    is_in(ACCEPTED_SET, class)
 }
 
 // May there be a blank before, or after?
 pub fn may_have_before(class: u32) -> bool
     ensures { λ r. ⌜ r ≡ blankBefore class ⌝ }
 {
-    is_in(before_set(), class)
+    is_in(BEFORE_SET, class)
 }
 
 pub fn may_have_after(class: u32) -> bool
     ensures { λ r. ⌜ r ≡ blankAfter class ⌝ }
 {
-    is_in(after_set(), class)
+    is_in(AFTER_SET, class)
 }
 
 // May there be any, or is the whole width one?
 pub fn may_have_blank(class: u32) -> bool
     ensures { λ r. ⌜ r ≡ mayHaveBlank class ⌝ }
 {
-    is_in(blank_set(), class)
+    is_in(BLANK_SET, class)
 }
 
 pub fn is_kana(class: u32) -> bool
     ensures { λ r. ⌜ r ≡ kanaLike class ⌝ }
 {
-    is_in(kana_set(), class)
+    is_in(KANA_SET, class)
 }
 
 pub fn is_western(class: u32) -> bool
     ensures { λ r. ⌜ r ≡ western class ⌝ }
 {
-    is_in(western_set(), class)
+    is_in(WESTERN_SET, class)
 }
 
 // The blank on a side of a P character, in units.
