@@ -579,6 +579,14 @@ fn check_elements(
     let mut u: usize = 0;
     let mut k: usize = 0;
     while k < n {
+        if kind[k] == 80 {
+            if bases <= b {
+                return Checked::Refused(Refusal::Supply(k as u32));
+            }
+            b += 1;
+            k += 1;
+            continue;
+        }
         match check_element(
             k,
             b,
