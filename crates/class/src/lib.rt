@@ -1,13 +1,15 @@
 // The class table of document 01: for each class from 0 to 30 whether it is accepted, its kind, the sides on which it may carry a
 // blank, and how deep ruby may lie on that blank. Every check and every rule of clearance consults this table and nothing
-// else; that it says what document 01 says is proved once (specs/Class.antt, proofs/entry_of). All functions here are
-// total: any u32 is asked as it is. It relies on no other crate.
+// else, but for the questions that loops ask, which are sets beside it; that both say what document 01 says is proved
+// once (specs/Class.antt, proofs/entry_of, specs/Sets.antt). All functions here are total: any u32 is asked as it is. It
+// relies on no other crate.
 ghost use mathlib.Core.Path.{_≡_};
 ghost use mathlib.Core.Bool.{_&&_};
 ghost use Prim.Native.Nat.{_≤_};
-ghost use Rattle.class.specs.Class.{rowOf, kindOf, depthsOn};
+ghost use Rattle.class.specs.Class.{accepted, western, kanaLike, blankBefore, blankAfter, rowOf, kindOf, depthsOn};
 ghost use Rattle.class.specs.Depth.{blankBy, depthBy};
 ghost use Rattle.class.specs.Entry.{entryOf, rowBy, liesBefore, liesAfter, isWhole};
+ghost use Rattle.class.specs.Sets.{isIn, mayHaveBlank};
 
 pub enum Kind {
     KanaLike,
@@ -228,6 +230,68 @@ pub fn kind_of(class: u32) -> Kind
     e.kind
 }
 
+// What loops over characters ask of a class is asked of sets, a power of two for each class that answers yes: the table would be laid out anew for each character. That
+// a set says what document 01 says is proved of each, as it is of the table (specs/Sets.antt).
+const ACCEPTED_SET: u32 = 0x0f0f_fffe; // 1 to 19 and 24 to 27
+
+const BEFORE_SET: u32 = 0x0000_0022; // 1, 5
+
+const AFTER_SET: u32 = 0x0000_00e4; // 2, 5, 6, 7
+
+const BLANK_SET: u32 = 0x0000_40e6; // these, and 14
+
+const KANA_SET: u32 = 0x000f_fffe; // 1 to 19
+
+const WESTERN_SET: u32 = 0x0b00_0000; // 24, 25, 27
+
+// c is in a set.
+fn is_in(set: u32, c: u32) -> bool
+    ensures { λ r. ⌜ r ≡ isIn set c ⌝ }
+{
+    if 30 < c {
+        return false;
+    }
+    (set >> c) % 2 == 1
+}
+
+pub fn is_accepted(class: u32) -> bool
+    ensures { λ r. ⌜ r ≡ accepted class ⌝ }
+{
+    is_in(ACCEPTED_SET, class)
+}
+
+// May there be a blank before, or after?
+pub fn may_have_before(class: u32) -> bool
+    ensures { λ r. ⌜ r ≡ blankBefore class ⌝ }
+{
+    is_in(BEFORE_SET, class)
+}
+
+pub fn may_have_after(class: u32) -> bool
+    ensures { λ r. ⌜ r ≡ blankAfter class ⌝ }
+{
+    is_in(AFTER_SET, class)
+}
+
+// May there be any, or is the whole width one?
+pub fn may_have_blank(class: u32) -> bool
+    ensures { λ r. ⌜ r ≡ mayHaveBlank class ⌝ }
+{
+    is_in(BLANK_SET, class)
+}
+
+pub fn is_kana(class: u32) -> bool
+    ensures { λ r. ⌜ r ≡ kanaLike class ⌝ }
+{
+    is_in(KANA_SET, class)
+}
+
+pub fn is_western(class: u32) -> bool
+    ensures { λ r. ⌜ r ≡ western class ⌝ }
+{
+    is_in(WESTERN_SET, class)
+}
+
 // The blank on a side of a P character, in units.
 fn blank_by(whole: bool, side: bool, width: u32, blank: u32) -> u32
     ensures { λ r. ⌜ r ≡ blankBy whole side width blank ⌝ }
@@ -269,6 +333,12 @@ fn is_opening(first: bool, whole: bool) -> bool
 pub fn depths_on(first: bool, class: u32, width: u32, before: u32, after: u32, em: u32) -> Depths
     ensures { λ r. ⌜ r ≡ depthsOn first class width before after em ⌝ }
 {
+    if !may_have_blank(class) {
+        return Depths {
+            before: 0,
+            after: 0,
+        };
+    }
     let r = row_of(class);
     if is_opening(first, r.whole) {
         return Depths {

@@ -135,9 +135,7 @@ fn check_sizes(
 fn character_wrong(class: u32, width: u32, flag: u32) -> bool
     ensures { λ r. ⌜ r ≡ characterWrong class width flag ⌝ }
 {
-    let row = class::row_of(class);
-    let accepted = row.accepted;
-    if accepted {
+    if class::is_accepted(class) {
         if is_outside(1, 4096, width) {
             return true;
         }
@@ -146,17 +144,19 @@ fn character_wrong(class: u32, width: u32, flag: u32) -> bool
     true
 }
 
-// Number 4: a field that the class may not have, or blanks that together exceed the width.
+// Number 4: a field that the class may not have, or blanks that together exceed the width. Most characters have none.
 fn blanks_wrong(class: u32, width: u32, before: u32, after: u32) -> bool
     ensures { λ r. ⌜ r ≡ ((ltb 0 before && not (blankBefore class)) || ((ltb 0 after && not (blankAfter class)) || ltb width (before + after))) ⌝ }
 {
-    let row = class::row_of(class);
-    let may_before = row.before;
-    let may_after = row.after;
-    if stray(before, may_before) {
+    if before == 0 {
+        if after == 0 {
+            return false;
+        }
+    }
+    if stray(before, class::may_have_before(class)) {
         return true;
     }
-    if stray(after, may_after) {
+    if stray(after, class::may_have_after(class)) {
         return true;
     }
     (width as u64) < before as u64 + after as u64
@@ -579,6 +579,14 @@ fn check_elements(
     let mut u: usize = 0;
     let mut k: usize = 0;
     while k < n {
+        if kind[k] == 80 {
+            if bases <= b {
+                return Checked::Refused(Refusal::Supply(k as u32));
+            }
+            b += 1;
+            k += 1;
+            continue;
+        }
         match check_element(
             k,
             b,

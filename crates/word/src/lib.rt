@@ -3,7 +3,7 @@
 // half units from the start of its longer string. Nothing but the word comes in (em, form, its own characters), so no neighbour
 // can alter what it decides. It relies on `class` for kinds, on `spread` for one string, on `refusal` and on `basics`.
 ghost use mathlib.Core.Path.{_≡_};
-ghost use mathlib.Core.Bool.{true, false, _&&_, _||_};
+ghost use mathlib.Core.Bool.{true, false, not, _&&_, _||_};
 ghost use Prim.Native.Nat.{_+_, _-_, _^_, _≤_, _<_};
 ghost use lib.ListN.{length, getD};
 ghost use mathlib.Core.List.{[], map};
@@ -14,7 +14,10 @@ ghost use Rattle.word.specs.Alone.{script, rubyWay, baseWay, split};
 ghost use Rattle.word.specs.Word.{plain, wordBy, groupWord, jukugoWord, wordOf, runStarts, baseStarts, rubyStarts};
 ghost use Rattle.word.specs.Answer.{answer};
 ghost use Rattle.word.specs.Sized.{Small, Sized, RunsReady};
+ghost use Rattle.class.specs.Class.{kanaLike};
 ghost use Rattle.word.specs.Kinds.{mixOf, mixedBy, scriptBy, notKanaBy, with};
+ghost use Rattle.word.specs.declared.Answer.the-variants.{Set};
+ghost use Rattle.word.specs.Judge.{judgement};
 ghost use Rattle.word.specs.Runs.{runsOf};
 ghost use Rattle.word.specs.First.{Speaks, Judged};
 
@@ -59,6 +62,12 @@ pub struct Mix {
     pub outside: bool,
 }
 
+// Numbers 7 to 10 of a word: none holds, or the first that does.
+pub enum Judgement {
+    Fine,
+    Wrong(refusal::Refusal),
+}
+
 // The runs of a J: the length in units of the last, where none is longer than one em.
 pub enum Runs {
     Fit(u32),
@@ -97,8 +106,22 @@ fn with_kind(m: Mix, k: class::Kind) -> Mix
     }
 }
 
-// The kinds of a string's characters, in one pass.
-fn mix_of(cs: &[u32]) -> Mix
+// Every character is kana-like.
+fn all_kana(cs: &[u32]) -> bool
+    ensures { λ r. ⌜ not r ≡ any (λ c. not (kanaLike c)) (now (cs .entry)) ⌝ }
+{
+    let mut i: usize = 0;
+    while i < cs.len() {
+        if !class::is_kana(cs[i]) {
+            return false;
+        }
+        i += 1;
+    }
+    true
+}
+
+// The kinds of a string's characters, one by one.
+fn mix_by_kinds(cs: &[u32]) -> Mix
     ensures { λ r. ⌜ r ≡ mixOf (now (cs .entry)) ⌝ }
 {
     let mut m = Mix {
@@ -113,6 +136,21 @@ fn mix_of(cs: &[u32]) -> Mix
         i += 1;
     }
     m
+}
+
+// The kinds of a string's characters. Most strings are kana-like throughout.
+fn mix_of(cs: &[u32]) -> Mix
+    ensures { λ r. ⌜ r ≡ mixOf (now (cs .entry)) ⌝ }
+{
+    if all_kana(cs) {
+        return Mix {
+            kana: 0 < cs.len(),
+            western: false,
+            space: false,
+            outside: false,
+        };
+    }
+    mix_by_kinds(cs)
 }
 
 // Number 9 of one string.
@@ -318,8 +356,23 @@ fn western_over(r: Mix, b: Mix) -> bool
     if over { b.western } else { false }
 }
 
+// A P: its word.
+pub fn plain_answer(b: u32) -> Answer
+    requires { ⌜ b ≤ 131072 ⌝ }
+    ensures { λ a. ⌜ a ≡ Set (plain b) ⌝ }
+{
+    Answer::Set(plain_of(b))
+}
+
 // An M: number 7, or its word.
-fn mono_answer(place: u32, em: u32, bs: &[u32], before: &[u32], after: &[u32], rs: &[u32]) -> Answer
+pub fn mono_answer(
+    place: u32,
+    em: u32,
+    bs: &[u32],
+    before: &[u32],
+    after: &[u32],
+    rs: &[u32],
+) -> Answer
     requires { ⌜ Small (now bs) (now rs) ⌝ }
     ensures { λ a. ⌜ a ≡ answer Form.M place (record { em = em; class = []; width = now (bs .entry); before = now (before .entry); after = now (after .entry); rubyClass = []; rubyWidth = now (rs .entry); run = [] }) ⌝ }
 {
@@ -330,7 +383,7 @@ fn mono_answer(place: u32, em: u32, bs: &[u32], before: &[u32], after: &[u32], r
 }
 
 // A G: numbers 7, 9 and 10, or its word.
-fn group_answer(
+pub fn group_answer(
     place: u32,
     em: u32,
     bc: &[u32],
@@ -361,7 +414,7 @@ fn group_answer(
 }
 
 // A J: numbers 7, 8 and 9, or its word. Once 8 has passed its base is kana-like throughout, so 9 is about its ruby alone.
-fn jukugo_answer(
+pub fn jukugo_answer(
     place: u32,
     em: u32,
     bc: &[u32],
@@ -391,6 +444,85 @@ fn jukugo_answer(
     Answer::Set(jukugo_of(script_of(r), em, bs, runs, rs))
 }
 
+// An M: number 7.
+fn judge_mono(place: u32, before: &[u32], after: &[u32]) -> Judgement
+    ensures { λ j. ⌜ j ≡ judgement Form.M place (record { em = 0; class = []; width = []; before = now (before .entry); after = now (after .entry); rubyClass = []; rubyWidth = []; run = [] }) ⌝ }
+{
+    if blank_inside(before, after) {
+        return Judgement::Wrong(refusal::Refusal::BlankInside(place));
+    }
+    Judgement::Fine
+}
+
+// A G: numbers 7, 9 and 10.
+fn judge_group(place: u32, bc: &[u32], before: &[u32], after: &[u32], rc: &[u32]) -> Judgement
+    ensures { λ j. ⌜ j ≡ judgement Form.G place (record { em = 0; class = now (bc .entry); width = []; before = now (before .entry); after = now (after .entry); rubyClass = now (rc .entry); rubyWidth = []; run = [] }) ⌝ }
+{
+    if blank_inside(before, after) {
+        return Judgement::Wrong(refusal::Refusal::BlankInside(place));
+    }
+    let b = mix_of(bc);
+    if is_mixed(b) {
+        return Judgement::Wrong(refusal::Refusal::Mixed(place));
+    }
+    let r = mix_of(rc);
+    if is_mixed(r) {
+        return Judgement::Wrong(refusal::Refusal::Mixed(place));
+    }
+    if western_over(r, b) {
+        return Judgement::Wrong(refusal::Refusal::WesternOver(place));
+    }
+    Judgement::Fine
+}
+
+// A J: numbers 7, 8 and 9. Once 8 has passed its base is kana-like throughout, so 9 is about its ruby alone.
+fn judge_jukugo(
+    place: u32,
+    em: u32,
+    bc: &[u32],
+    bs: &[u32],
+    before: &[u32],
+    after: &[u32],
+    rc: &[u32],
+) -> Judgement
+    ensures { λ j. ⌜ j ≡ judgement Form.J place (record { em = em; class = now (bc .entry); width = now (bs .entry); before = now (before .entry); after = now (after .entry); rubyClass = now (rc .entry); rubyWidth = []; run = [] }) ⌝ }
+{
+    if blank_inside(before, after) {
+        return Judgement::Wrong(refusal::Refusal::BlankInside(place));
+    }
+    if !all_kana(bc) {
+        return Judgement::Wrong(refusal::Refusal::JukugoBase(place));
+    }
+    if basics::any_but(em, bs) {
+        return Judgement::Wrong(refusal::Refusal::JukugoBase(place));
+    }
+    if is_mixed(mix_of(rc)) {
+        return Judgement::Wrong(refusal::Refusal::Mixed(place));
+    }
+    Judgement::Fine
+}
+
+// Numbers 7 to 10 of an element by its form, without its word: what the door asks.
+pub fn judge(
+    form: Form,
+    place: u32,
+    em: u32,
+    bc: &[u32],
+    bs: &[u32],
+    before: &[u32],
+    after: &[u32],
+    rc: &[u32],
+) -> Judgement
+    ensures { λ j. ⌜ j ≡ judgement form place (record { em = em; class = now (bc .entry); width = now (bs .entry); before = now (before .entry); after = now (after .entry); rubyClass = now (rc .entry); rubyWidth = []; run = [] }) ⌝ }
+{
+    match form {
+        Form::P => Judgement::Fine,
+        Form::M => judge_mono(place, before, after),
+        Form::G => judge_group(place, bc, before, after, rc),
+        Form::J => judge_jukugo(place, em, bc, bs, before, after, rc),
+    }
+}
+
 // An element set within itself, or the first refusal that holds of it. What its form does not have is not read: ruby and blanks of a P, runs but a J's.
 pub fn measure(
     form: Form,
@@ -408,7 +540,7 @@ pub fn measure(
     ensures { λ a. ⌜ a ≡ answer form place (record { em = em; class = now (bc .entry); width = now (bs .entry); before = now (before .entry); after = now (after .entry); rubyClass = now (rc .entry); rubyWidth = now (rs .entry); run = now (runs .entry) }) ⌝ }
 {
     match form {
-        Form::P => Answer::Set(plain_of(basics::sum_of(bs))),
+        Form::P => plain_answer(basics::sum_of(bs)),
         Form::M => mono_answer(place, em, bs, before, after, rs),
         Form::G => group_answer(place, em, bc, bs, before, after, rc, rs),
         Form::J => jukugo_answer(place, em, bc, bs, before, after, rc, rs, runs),

@@ -1,10 +1,18 @@
--- The entry's fields are the rule's, and the depths that they give are the documents'. An entry has at most two quarters.
+-- Where the class may have no blank both depths are 0. Elsewhere the entry's fields are the rule's, at most two quarters, and the depths that they give are the documents'.
 use mathlib.Core.Path.{_∙_, sym}
 use borrow.Author.Needs.{needs}
+use borrow.Author.Tests.{not-true}
 use Rattle.class.specs.Class.{rowOf}
 use Rattle.class.specs.Laws.{quarters-most, none-on, some-on}
+use Rattle.class.specs.Sets.{no-blank}
 use Rattle.class.proofs.depths_on.Statement.{statement}
 use Rattle.class.proofs.depths_on.Tie as tie
+
+may-have-blank-requires : tie.Need-may-have-blank-requires
+may-have-blank-requires c κs = search needs
+
+returns : tie.Need-returns
+returns c = no-blank _ _ _ _ _ _ (sym (c .before .may-have-blank .ensures) ∙ not-true _ (c .if1 .taken))
 
 row-of-requires : tie.Need-row-of-requires
 row-of-requires c κs = search needs
@@ -12,25 +20,25 @@ row-of-requires c κs = search needs
 is-opening-requires : tie.Need-is-opening-requires
 is-opening-requires c κs = search needs
 
-returns : tie.Need-returns
-returns c =
+returns-2 : tie.Need-returns-2
+returns-2 c =
     let row = c .before .before in
-    none-on _ _ _ _ _ _ (rw (← row .row-of .ensures) (sym (c .before .is-opening .ensures) ∙ c .if1 .taken))
+    none-on _ _ _ _ _ _ (rw (← row .row-of .ensures) (sym (c .before .is-opening .ensures) ∙ c .if2 .taken))
 
 depth-by-requires : tie.Need-depth-by-requires
 unfolding rowOf
-depth-by-requires c κs = rw (c .before .before .row-of .ensures) (quarters-most (c .before .before .before .args .class))
+depth-by-requires c κs = rw (c .before .before .row-of .ensures) (quarters-most (c .before .before .before .before .before .args .class))
 
 depth-by-requires-2 : tie.Need-depth-by-requires-2
 unfolding rowOf
-depth-by-requires-2 c κs = rw (c .before .before .before .row-of .ensures) (quarters-most (c .before .before .before .before .args .class))
+depth-by-requires-2 c κs = rw (c .before .before .before .row-of .ensures) (quarters-most (c .before .before .before .before .before .before .args .class))
 
-returns-2 : tie.Need-returns-2
-returns-2 c =
+returns-3 : tie.Need-returns-3
+returns-3 c =
     let opening = c .before .before .before in
     let row = opening .before in
     rw (c .before .depth-by .ensures, c .depth-by2 .ensures, row .row-of .ensures)
-    (some-on _ _ _ _ _ _ (rw (← row .row-of .ensures) (sym (opening .is-opening .ensures) ∙ c .before .before .if1 .left)))
+    (some-on _ _ _ _ _ _ (rw (← row .row-of .ensures) (sym (opening .is-opening .ensures) ∙ c .before .before .if2 .left)))
 
 pub depths-on-spec : {M : Type 1} → statement M
-depths-on-spec = tie.close (tie.spec row-of-requires is-opening-requires returns depth-by-requires depth-by-requires-2 returns-2)
+depths-on-spec = tie.close (tie.spec may-have-blank-requires returns row-of-requires is-opening-requires returns-2 depth-by-requires depth-by-requires-2 returns-3)
