@@ -45,7 +45,7 @@ use Rattle.job.specs.Words.{GoodPiece, promise, rubies-narrow, whole-piece, par
 use Rattle.job.specs.Bounded.{piece-short}
 use Rattle.refusal.specs.declared.Refusal.the-variants.{NoBreak}
 use Rattle.join.specs.Rows.{taken, firstRuby, runAt, runWidth, wideBefore, longer, isCut, upto, runsBefore, none, rowOf, HasRows, Holds}
-use Rattle.join.specs.Part.{first-next, first-more, wide-more, wide-next, longer-next, widths, reads, within, part-word}
+use Rattle.join.specs.Part.{first-next, first-more, wide-more, wide-next, longer-next, longer-few, widths, reads, within, part-word}
 
 -- a P is all block, and a depth is a P's alone
 plain-front : (form : Form) (g : Given) → hasRuby form ≡ false → word.wordOf form g .front ≡ 0
@@ -298,14 +298,6 @@ module _ (job : Job) (passed : Passed job) (t : List ℕ) (table : Holds job t) 
         back : (a b : ℕ) → a ≤ b → b ≡ a + (b - a)
         back a b h = omega arith
 
-    longer-few : (k : ℕ) → longer job x k ≤ k
-    longer-few zero = zero-le
-    longer-few (suc k) = subst (λ m. m ≤ suc k) (longer-next job x k) (go (ltb (job .em) (runWidth job x k)) (longer-few k))
-      where
-        go : (b : Bool) → longer job x k ≤ k → longer job x k + cond b 1 0 ≤ suc k
-        go true h = omega arith
-        go false h = omega arith
-
     ran : isJ (x .form) ≡ true → (i c : ℕ) → x .base ≤ i → i < c → c ≤ x .base + x .bases → Ran (cellAt t i) (cellAt t (c - 1))
     ran j i c h l u =
         let low : x .base ≤ c - 1 = omega arith in
@@ -317,7 +309,7 @@ module _ (job : Job) (passed : Passed job) (t : List ℕ) (table : Holds job t) 
         record {
           more = omega (arith, r, ruby-at x at j i h (omega arith), first-more job x k n, reads job x passed at j k n (omega arith) (omega arith));
           narrow = omega (arith, wide-with x at j (c - 1) low high, wide-small j (suc (c - 1 - x .base)) (omega arith));
-          few = omega (arith, over-at x at j (c - 1) low high, longer-few (c - 1 - x .base), at .good .counts .few);
+          few = omega (arith, over-at x at j (c - 1) low high, longer-few job x (c - 1 - x .base), at .good .counts .few);
           ends = omega (arith, r, first-more job x k n, inside, passed .fewRuby);
         }
       where

@@ -2,7 +2,7 @@
 use mathlib.Core.Path.{_≡_, refl, sym, ap, ap₂, _∙_, subst}
 use mathlib.Core.Bool.{Bool, true, false, cond, not, _&&_, _||_, false≢true}
 use mathlib.Core.List.{List, [], _∷_, _++_, map, map-append}
-use Prim.Native.Nat.{ℕ, zero, suc, _+_, _-_, _*_, _≤_, _<_}
+use Prim.Native.Nat.{ℕ, zero, suc, _+_, _-_, _*_, _≤_, _<_, zero-le}
 use native.Mathlib.Nat.{add-zero, zero-add, add-suc, suc-add, mul-zero, mul-suc}
 use native.Mathlib.Omega.{arith}
 use native.Mathlib.Decide.{decLt}
@@ -135,6 +135,14 @@ module _ (job : Job) (x : Piece) where
       go : (b : Bool) → length (cond b (runWidth job x k ∷ []) []) ≡ cond b 1 0
       go true = refl
       go false = refl
+
+  pub longer-few : (k : ℕ) → longer job x k ≤ k
+  longer-few zero = zero-le
+  longer-few (suc k) = subst (λ m. m ≤ suc k) (longer-next k) (go (ltb (job .em) (runWidth job x k)) (longer-few k))
+    where
+      go : (b : Bool) → longer job x k ≤ k → longer job x k + cond b 1 0 ≤ suc k
+      go true h = omega arith
+      go false h = omega arith
 
   module _ (passed : Passed job) (at : IsElement job x) (jukugo : isJ (x .form) ≡ true) (k n : ℕ) (some : 0 < n) (fits : k + n ≤ x .bases) where
     abbrev q : Piece

@@ -22,7 +22,9 @@ use Rattle.door.specs.declared.Step.the-variants.{Next}
 use Rattle.door.specs.Job.{Job, baseCount, rubyCount, elementCount, entries, element}
 use Rattle.door.specs.Elements.{partsOnly}
 use Rattle.door.specs.Walk.{Stands, elementStep}
-use Rattle.join.specs.Rows.{taken, firstRuby, runAt, runWidth, isCut, none, rowBy, rowOf, HasRows}
+use Rattle.join.specs.Rows.{taken, firstRuby, runAt, runWidth, wideBefore, longer, isCut, none, rowBy, rowOf, HasRows}
+use Rattle.join.specs.Part.{first-next, first-more, wide-next, wide-more, longer-next, longer-few}
+use Rattle.layout.specs.declared.Cursor.{Cursor}
 
 -- Rows from a up to e are those of f, and all others are as they were.
 pub record Filled (f : ℕ → Cell) (a e : ℕ) (was t : List ℕ) : Type 0 where
@@ -90,3 +92,120 @@ pub record HasRuns (job : Job) (x : Piece) (t : List ℕ) : Type 0 where
   pub width : x .ruby + taken job x (x .bases) ≤ length (job .rubyWidth)
   pub narrow : sum (entries (job .rubyWidth) (x .ruby) (taken job x (x .bases))) ≤ 262144
   pub each : All (λ n. 0 < n) (entries (job .run) (x .run) (x .bases))
+
+-- the row of base character i of a J, by where its ruby is
+abbrev pub runRow : Piece → Word → Bool → ℕ → Cursor → ℕ → ℕ → Bool → Cell
+runRow p w ends i at run own west =
+    let cut = ltb 1 (p .bases) in
+    record {
+      bases = p .base + p .bases - i;
+      cut = cut;
+      ends = ends;
+      word = cond cut none w;
+      before = 0;
+      after = 0;
+      ruby = at .ruby;
+      rubies = run;
+      own = own;
+      wide = at .wide;
+      over = at .over;
+      western = west;
+    }
+
+abbrev pub pastRun : Cursor → ℕ → ℕ → ℕ → Cursor
+pastRun at run own em = record { ruby = at .ruby + run; wide = at .wide + own; over = at .over + cond (ltb em own) 1 0 }
+
+-- where the ruby of a J is laid up to its base character k
+abbrev pub cursorAt : Job → Piece → ℕ → Cursor
+cursorAt job x k = record { ruby = firstRuby job x k; wide = wideBefore job x k; over = longer job x k }
+
+pub run-row : (job : Job) (x : Piece) (w : Word) (ends : Bool) (i : ℕ) (at : Cursor) (run own : ℕ) (west : Bool) → isJ (x .form) ≡ true → at ≡ cursorAt job x (i - x .base) →
+    run ≡ runAt job x (i - x .base) → own ≡ runWidth job x (i - x .base) → west ≡ western (getD (job .rubyClass) (at .ruby) 0) → runRow x w ends i at run own west ≡ rowBy job x w ends 0 0 i
+run-row job x w ends i at run own west j a r o v = rw (v, a, r, o, j)
+
+pub past-run : (job : Job) (x : Piece) (k : ℕ) (at : Cursor) (run own : ℕ) → at ≡ cursorAt job x k → run ≡ runAt job x k → own ≡ runWidth job x k →
+    pastRun at run own (job .em) ≡ cursorAt job x (suc k)
+past-run job x k at run own a r o =
+    rw (a, r, o) (same _ _ _ _ _ _ (first-next job x k) (wide-next job x k) (longer-next job x k))
+  where
+    same : (a b c d e f : ℕ) → a ≡ b → c ≡ d → e ≡ f → _≡_ {A = Cursor} (record { ruby = a; wide = c; over = e }) (record { ruby = b; wide = d; over = f })
+    same a b c d e f p q r = cc
+
+-- what the rows of a word with ruby ask for
+pub record ElementReady (job : Job) (x : Piece) (t : List ℕ) : Type 0 where
+  pub held : 19 * (x .base + x .bases) ≤ length t
+  pub small : x .base + x .bases ≤ 4096
+  pub ruby : x .ruby ≤ 4096
+  pub rubies : x .rubies ≤ 4096
+  pub runs : isJ (x .form) ≡ true → HasRuns job x t
+
+-- A J's runs, one by one.
+pub record RunReads (job : Job) (r m : ℕ) : Type 0 where
+  pub few : r + m ≤ 4096
+  pub class : r < length (job .rubyClass)
+  pub width : r + m ≤ length (job .rubyWidth)
+  pub narrow : sum (entries (job .rubyWidth) r (r + m - r)) ≤ 262144
+  pub own : sum (entries (job .rubyWidth) r (r + m - r)) ≡ sum (entries (job .rubyWidth) r m)
+
+all-entry : (p : ℕ → Type 0) (xs : List ℕ) (u n k : ℕ) → All p (entries xs u n) → k < n → p (getD xs (u + k) 0)
+all-entry p xs u zero k a h = absurd (omega arith)
+all-entry p xs u (suc n) zero a h = subst (λ z. p (getD xs z 0)) (sym (add-zero u)) (a .0)
+all-entry p xs u (suc n) (suc k) a h = subst (λ z. p (getD xs z 0)) (move u k) (all-entry p xs (suc u) n k (a .1) (omega arith))
+  where
+    move : (u k : ℕ) → suc u + k ≡ u + suc k
+    move u k = omega arith
+
+module _ (job : Job) (x : Piece) (t : List ℕ) (h : HasRuns job x t) (k : ℕ) (l : k < x .bases) where
+  back : x .bases ≡ suc k + (x .bases - suc k)
+  back = omega arith
+
+  pub some-run : 0 < runAt job x k
+  some-run = all-entry (λ n. 0 < n) (job .run) (x .run) (x .bases) k (h .each) l
+
+  taken-held : firstRuby job x k + runAt job x k ≤ x .ruby + taken job x (x .bases)
+  taken-held = omega (arith, first-next job x k, first-more job x (suc k) (x .bases - suc k), ap (firstRuby job x) back)
+
+  wide-held : wideBefore job x k + runWidth job x k ≤ 262144
+  wide-held = omega (arith, wide-next job x k, wide-more job x (suc k) (x .bases - suc k), ap (wideBefore job x) back, h .narrow)
+
+  run-reads : RunReads job (firstRuby job x k) (runAt job x k)
+  run-reads =
+      record {
+        few = omega (arith, taken-held, h .rubies);
+        class = omega (arith, taken-held, h .class, some-run);
+        width = omega (arith, taken-held, h .width);
+        narrow = omega (arith, same, wide-held);
+        own = same;
+      }
+    where
+      less : (r m : ℕ) → r + m - r ≡ m
+      less r m = omega arith
+
+      same : sum (entries (job .rubyWidth) (firstRuby job x k) (firstRuby job x k + runAt job x k - firstRuby job x k)) ≡ runWidth job x k
+      same = ap (λ m. sum (entries (job .rubyWidth) (firstRuby job x k) m)) (less (firstRuby job x k) (runAt job x k))
+
+  module _ (at : Cursor) (e : at ≡ cursorAt job x k) where
+    pub reads-at : RunReads job (at .ruby) (runAt job x k)
+    reads-at = subst (λ z. RunReads job (z .ruby) (runAt job x k)) (sym e) run-reads
+
+    pub own-at : sum (entries (job .rubyWidth) (at .ruby) (at .ruby + runAt job x k - at .ruby)) ≡ runWidth job x k
+    own-at = reads-at .own ∙ ap (λ z. sum (entries (job .rubyWidth) (z .ruby) (runAt job x k))) e
+
+    pub past-ready : (own : ℕ) → own ≡ runWidth job x k → (at .ruby ≤ 4096) × (at .wide + own ≤ 262144) × (at .over ≤ 1024)
+    past-ready own o =
+        let w = ap (λ z. z .wide) e in
+        let v = ap (λ z. z .over) e in
+        (omega (arith, reads-at .few), omega (arith, w, o, wide-held), omega (arith, v, longer-few job x k, h .few))
+
+-- before the first run nothing is laid
+pub cursor-first : (job : Job) (x : Piece) → _≡_ {A = Cursor} (record { ruby = x .ruby; wide = 0; over = 0 }) (cursorAt job x (x .base - x .base))
+cursor-first job x = go (x .base - x .base) (omega arith)
+  where
+    go : (k : ℕ) → k ≡ 0 → _≡_ {A = Cursor} (record { ruby = x .ruby; wide = 0; over = 0 }) (cursorAt job x k)
+    go k e = rw (e, add-zero (x .ruby))
+
+pub cursor-next : (job : Job) (x : Piece) (i : ℕ) → x .base ≤ i → cursorAt job x (suc (i - x .base)) ≡ cursorAt job x (i + 1 - x .base)
+cursor-next job x i h = ap (cursorAt job x) (next (x .base) i h)
+  where
+    next : (b i : ℕ) → b ≤ i → suc (i - b) ≡ i + 1 - b
+    next b i h = omega arith

@@ -2,17 +2,18 @@
 // element is counted, its characters have to be there, level one's answer is taken apart, and its rows are written. Behind it nobody sees the lists. It
 // relies on `door` for the counts, on `word` for level one, on `class` for depths and kinds, and on `cells` for rows.
 ghost use mathlib.Core.Path.{_≡_};
-ghost use mathlib.Core.Bool.{false};
+ghost use mathlib.Core.Bool.{true, false};
 ghost use mathlib.Core.List.{_++_};
-ghost use Prim.Native.Nat.{_+_, _*_, _≤_, _<_};
+ghost use Prim.Native.Nat.{_+_, _-_, _*_, _≤_, _<_};
+ghost use Rattle.basics.specs.Lists.{sum};
 ghost use lib.ListN.{length};
 ghost use Rattle.word.specs.Given.{isJ};
-ghost use Rattle.door.specs.Job.{jobOf, baseCount, rubyCount, elements};
+ghost use Rattle.door.specs.Job.{jobOf, baseCount, rubyCount, elements, entries};
 ghost use Rattle.door.specs.Refusals.{elementsFaults, leftFaults};
 ghost use Rattle.door.specs.Verdict.{verdict};
 ghost use Rattle.door.specs.declared.Checked.the-variants.{Passed};
 ghost use Rattle.join.specs.Rows.{rowBy, Holds};
-ghost use Rattle.layout.specs.Lay.{wordRow, Filled};
+ghost use Rattle.layout.specs.Lay.{wordRow, runRow, pastRun, runsOnly, Filled, HasRuns, ElementReady};
 use refusal::Refusal;
 
 // No word: a J of two characters or more is measured by its sums, and by parts.
@@ -54,5 +55,155 @@ fn put_word(t: &mut [u32], p: door::Piece, w: word::Word, ends: bool)
             },
         );
         i += 1;
+    }
+}
+
+// How far a J's ruby is laid: its characters, the width of its runs so far, and how many of those are longer than one em.
+pub struct Cursor {
+    pub ruby: usize,
+    pub wide: u32,
+    pub over: u32,
+}
+
+// The width of the run of ruby characters r up to e.
+fn run_width(r: usize, e: usize, rwidth: &[u32]) -> u32
+    requires { ⌜ (r ≤ e) × (e ≤ 4096) × (e ≤ length (now rwidth)) × (sum (entries (now rwidth) r (e - r)) ≤ 262144) ⌝ }
+    ensures { λ w. ⌜ w ≡ sum (entries (now (rwidth .entry)) r (e - r)) ⌝ }
+{
+    basics::sum_of(&rwidth[r..e])
+}
+
+// The row of base character i of a J: its own run has `run` ruby characters of the width `own`.
+fn run_row(
+    p: door::Piece,
+    w: word::Word,
+    ends: bool,
+    i: usize,
+    at: Cursor,
+    run: u32,
+    own: u32,
+    western: bool,
+) -> cells::Cell
+    requires { ⌜ (i ≤ p .base + p .bases) × (p .base + p .bases ≤ 4096) × (at .ruby ≤ 4096) ⌝ }
+    ensures { λ r. ⌜ r ≡ runRow p w ends i at run own western ⌝ }
+{
+    let bases = (p.base + p.bases - i) as u32;
+    let ruby = at.ruby as u32;
+    if 1 < p.bases {
+        return cells::Cell {
+            bases,
+            cut: true,
+            ends,
+            word: NONE,
+            before: 0,
+            after: 0,
+            ruby,
+            rubies: run,
+            own,
+            wide: at.wide,
+            over: at.over,
+            western,
+        };
+    }
+    cells::Cell {
+        bases,
+        cut: false,
+        ends,
+        word: w,
+        before: 0,
+        after: 0,
+        ruby,
+        rubies: run,
+        own,
+        wide: at.wide,
+        over: at.over,
+        western,
+    }
+}
+
+// One run more.
+fn past_run(at: Cursor, run: u32, own: u32, em: u32) -> Cursor
+    requires { ⌜ (at .ruby ≤ 4096) × (at .wide + own ≤ 262144) × (at .over ≤ 1024) ⌝ }
+    ensures { λ r. ⌜ r ≡ pastRun at run own em ⌝ }
+{
+    let ruby = at.ruby + run as usize;
+    let wide = at.wide + own;
+    if em < own {
+        return Cursor {
+            ruby,
+            wide,
+            over: at.over + 1,
+        };
+    }
+    Cursor {
+        ruby,
+        wide,
+        over: at.over,
+    }
+}
+
+// The rows of a J.
+fn put_runs(
+    t: &mut [u32],
+    p: door::Piece,
+    w: word::Word,
+    ends: bool,
+    em: u32,
+    rclass: &[u32],
+    rwidth: &[u32],
+    runs: &[u32],
+)
+    requires { ⌜ (isJ (p .form) ≡ true) × HasRuns (runsOnly em (now rclass) (now rwidth) (now runs)) p (now t) ⌝ }
+    ensures { λ _. ⌜ Filled (rowBy (runsOnly em (now (rclass .entry)) (now (rwidth .entry)) (now (runs .entry))) p w ends 0 0) (p .base) (p .base + p .bases) (now (t .entry)) (now (t .exit)) ⌝ }
+{
+    let n = p.base + p.bases;
+    let mut at = Cursor {
+        ruby: p.ruby,
+        wide: 0,
+        over: 0,
+    };
+    let mut i = p.base;
+    while i < n {
+        let run = runs[p.run + (i - p.base)];
+        let r = at.ruby;
+        let own = run_width(r, r + run as usize, rwidth);
+        let western = class::is_western(rclass[r]);
+        let row = run_row(p, w, ends, i, at, run, own, western);
+        cells::put_cell(t, i, row);
+        at = past_run(at, run, own, em);
+        i += 1;
+    }
+}
+
+fn is_jukugo(p: door::Piece) -> bool
+    ensures { λ r. ⌜ r ≡ isJ (p .form) ⌝ }
+{
+    let form = p.form;
+    match form {
+        word::Form::P => false,
+        word::Form::M => false,
+        word::Form::G => false,
+        word::Form::J => true,
+    }
+}
+
+// The rows of a word with ruby.
+fn put_element(
+    t: &mut [u32],
+    p: door::Piece,
+    w: word::Word,
+    ends: bool,
+    em: u32,
+    rclass: &[u32],
+    rwidth: &[u32],
+    runs: &[u32],
+)
+    requires { ⌜ ElementReady (runsOnly em (now rclass) (now rwidth) (now runs)) p (now t) ⌝ }
+    ensures { λ _. ⌜ Filled (rowBy (runsOnly em (now (rclass .entry)) (now (rwidth .entry)) (now (runs .entry))) p w ends 0 0) (p .base) (p .base + p .bases) (now (t .entry)) (now (t .exit)) ⌝ }
+{
+    if is_jukugo(p) {
+        put_runs(t, p, w, ends, em, rclass, rwidth, runs);
+    } else {
+        put_word(t, p, w, ends);
     }
 }
