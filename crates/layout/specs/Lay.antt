@@ -10,9 +10,10 @@ use native.Mathlib.Decide.{decLt}
 use lib.Dec.{eqb, ltb}
 use lib.ListN.{length, getD}
 use Rattle.basics.specs.Lists.{sum, All}
-use Rattle.class.specs.Class.{western}
+use Rattle.class.specs.Class.{western, depthsOn}
+use Rattle.word.specs.Word.{plain}
 use Rattle.word.specs.declared.Word.{Word}
-use Rattle.word.specs.Given.{isJ}
+use Rattle.word.specs.Given.{hasRuby, isJ}
 use Rattle.cells.specs.declared.Cell.{Cell}
 use Rattle.cells.specs.Cells.{cellAt}
 use Rattle.cells.specs.Put.{Puts}
@@ -71,6 +72,10 @@ wordRow p w ends before after i =
 
 pub word-row : (job : Job) (x : Piece) (w : Word) (ends : Bool) (before after i : ℕ) → isJ (x .form) ≡ false → wordRow x w ends before after i ≡ rowBy job x w ends before after i
 word-row job x w ends before after i j = rw (j, add-zero (x .ruby))
+
+-- by another name
+pub filled-as : (f g : ℕ → Cell) (a e : ℕ) (was t : List ℕ) → ((i : ℕ) → f i ≡ g i) → Filled f a e was t → Filled g a e was t
+filled-as f g a e was t h q = record { long = q .long; here = λ i l m. q .here i l m ∙ h i; other = q .other }
 
 -- rows up to the end are all rows
 pub upto-end : (f : ℕ → Cell) {a i e : ℕ} {was t : List ℕ} → i ≡ e → Filled f a i was t → Filled f a e was t
@@ -209,3 +214,55 @@ cursor-next job x i h = ap (cursorAt job x) (next (x .base) i h)
   where
     next : (b i : ℕ) → b ≤ i → suc (i - b) ≡ i + 1 - b
     next b i h = omega arith
+
+-- A P.
+
+pub record PlainReady (b r : ℕ) (cs ws bs ss fs t : List ℕ) : Type 0 where
+  pub few : b < 4096
+  pub fewRuby : r ≤ 4096
+  pub class : b < length cs
+  pub width : b < length ws
+  pub before : b < length bs
+  pub after : b < length ss
+  pub flag : b < length fs
+  pub narrow : getD ws b 0 ≤ 4096
+  pub held : 19 * b + 19 ≤ length t
+
+-- the row of base character b, a P before which r ruby characters were taken
+abbrev pub plainRow : ℕ → ℕ → ℕ → List ℕ → List ℕ → List ℕ → List ℕ → List ℕ → Cell
+plainRow b r em class width before after flag =
+    let d = depthsOn (eqb b 0) (getD class b 0) (getD width b 0) (getD before b 0) (getD after b 0) em in
+    record {
+      bases = 1;
+      cut = false;
+      ends = eqb (getD flag b 0) 1;
+      word = plain (getD width b 0);
+      before = d .before;
+      after = d .after;
+      ruby = r;
+      rubies = 0;
+      own = 0;
+      wide = 0;
+      over = 0;
+      western = false;
+    }
+
+-- Elements in turn.
+
+-- where the walk stands: the flags too are there, and the table has room
+pub record Standing (bases rubies : ℕ) (job : Job) (k b r u : ℕ) (t : List ℕ) : Type 0 where
+  pub stands : Stands bases rubies job k b r u
+  pub flags : bases ≤ length (job .flag)
+  pub room : 19 * bases ≤ length t
+  pub ruby : hasRuby (element job k b r u .form) ≡ true
+
+-- the rows of an element are written, and no other
+pub record Laid (job : Job) (x : Piece) (was t : List ℕ) : Type 0 where
+  pub long : length t ≡ length was
+  pub rows : HasRows job t x
+  pub other : (j : ℕ) → (j < x .base) ⊎ (x .base + x .bases ≤ j) → cellAt t j ≡ cellAt was j
+
+-- one element: the walk's own step, and where it goes on the element's rows
+pub record Stepped (bases rubies : ℕ) (job : Job) (k b r u : ℕ) (was t : List ℕ) (s : Step) : Type 0 where
+  pub step : s ≡ elementStep bases rubies job k b r u
+  pub laid : (p : Piece) → s ≡ Next p → Laid job (element job k b r u) was t

@@ -1,2 +1,3 @@
 -- Rows written, element by element.
 pub mod Lay
+pub mod Element

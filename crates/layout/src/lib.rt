@@ -12,8 +12,9 @@ ghost use Rattle.door.specs.Job.{jobOf, baseCount, rubyCount, elements, entries
 ghost use Rattle.door.specs.Refusals.{elementsFaults, leftFaults};
 ghost use Rattle.door.specs.Verdict.{verdict};
 ghost use Rattle.door.specs.declared.Checked.the-variants.{Passed};
+ghost use Rattle.cells.specs.Put.{Puts};
 ghost use Rattle.join.specs.Rows.{rowBy, Holds};
-ghost use Rattle.layout.specs.Lay.{wordRow, runRow, pastRun, runsOnly, Filled, HasRuns, ElementReady};
+ghost use Rattle.layout.specs.Lay.{wordRow, runRow, pastRun, runsOnly, Filled, HasRuns, ElementReady, PlainReady, plainRow, Standing, Stepped};
 use refusal::Refusal;
 
 // No word: a J of two characters or more is measured by its sums, and by parts.
@@ -206,4 +207,102 @@ fn put_element(
     } else {
         put_word(t, p, w, ends);
     }
+}
+
+// The row of a P, base character b, before which r ruby characters were taken.
+fn put_plain(
+    t: &mut [u32],
+    b: usize,
+    r: usize,
+    em: u32,
+    class: &[u32],
+    width: &[u32],
+    before: &[u32],
+    after: &[u32],
+    flag: &[u32],
+)
+    requires { ⌜ PlainReady b r (now class) (now width) (now before) (now after) (now flag) (now t) ⌝ }
+    ensures { λ _. ⌜ Puts (now (t .entry)) b (plainRow b r em (now (class .entry)) (now (width .entry)) (now (before .entry)) (now (after .entry)) (now (flag .entry))) (now (t .exit)) ⌝ }
+{
+    let answer = word::plain_answer(width[b]);
+    let word::Answer::Set(w) = answer else {
+        return; // unreachable: level one has no row for a P
+    };
+    let d = class::depths_on(b == 0, class[b], width[b], before[b], after[b], em);
+    cells::put_cell(
+        t,
+        b,
+        cells::Cell {
+            bases: 1,
+            cut: false,
+            ends: flag[b] == 1,
+            word: w,
+            before: d.before,
+            after: d.after,
+            ruby: r as u32,
+            rubies: 0,
+            own: 0,
+            wide: 0,
+            over: 0,
+            western: false,
+        },
+    );
+}
+
+// Element k, a word with ruby, those before it having taken b base characters, r ruby characters and u runs, of `bases` and `rubies` in all: numbers 5, 6, and 7 to 10 as
+// level one gives them, or its rows.
+fn lay_word(
+    t: &mut [u32],
+    k: usize,
+    b: usize,
+    r: usize,
+    u: usize,
+    bases: usize,
+    rubies: usize,
+    em: u32,
+    class: &[u32],
+    width: &[u32],
+    before: &[u32],
+    after: &[u32],
+    flag: &[u32],
+    rclass: &[u32],
+    rwidth: &[u32],
+    kind: &[u32],
+    ebase: &[u32],
+    eruby: &[u32],
+    runs: &[u32],
+) -> door::Step
+    requires { let job = jobOf em 0 (now class) (now width) (now before) (now after) (now flag) (now rclass) (now rwidth) (now kind) (now ebase) (now eruby) (now runs) in ⌜ Standing bases rubies job k b r u (now t) ⌝ }
+    ensures { λ s. let job = jobOf em 0 (now (class .entry)) (now (width .entry)) (now (before .entry)) (now (after .entry)) (now (flag .entry)) (now (rclass .entry)) (now (rwidth .entry)) (now (kind .entry)) (now (ebase .entry)) (now (eruby .entry)) (now (runs .entry)) in ⌜ Stepped bases rubies job k b r u (now (t .entry)) (now (t .exit)) s ⌝ }
+{
+    let place = k as u32;
+    let counted = door::count_element(kind[k], ebase[k], eruby[k], b, r, u, runs);
+    let door::Counted::Is(p) = counted else {
+        return door::Step::Stop(Refusal::Element(place));
+    };
+    if door::runs_out(p, bases, rubies) {
+        return door::Step::Stop(Refusal::Supply(place));
+    }
+    let answer = door::measure_piece(
+        place,
+        p,
+        em,
+        class,
+        width,
+        before,
+        after,
+        rclass,
+        rwidth,
+        runs,
+    );
+    let word::Answer::Set(w) = answer else {
+        let word::Answer::Refused(why) = answer else {
+            return door::Step::Stop(Refusal::Element(place)); // unreachable: an answer is one of the two
+        };
+        return door::Step::Stop(why);
+    };
+    let e = p.base + p.bases - 1;
+    let ends = flag[e] == 1;
+    put_element(t, p, w, ends, em, rclass, rwidth, runs);
+    door::Step::Next(p)
 }
