@@ -184,7 +184,7 @@ stands bases rubies job n k b r u h held along =
 
 -- a P: it takes one base character, which has to be left, and level one has no row for it
 module _ (bases rubies : ℕ) (job : Job) (k b r u : ℕ) (plain : getD (job .kind) k 0 ≡ 80) where
-  piece : element job k b r u ≡ record { form = P; base = b; bases = 1; ruby = r; rubies = 0; run = u }
+  pub piece : element job k b r u ≡ record { form = P; base = b; bases = 1; ruby = r; rubies = 0; run = u }
   unfolding element
   piece = rw plain
 

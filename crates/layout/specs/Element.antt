@@ -4,7 +4,7 @@ use mathlib.Core.Bool.{Bool, true, false, cond, _&&_, _||_, true≢false, false�
 use mathlib.Core.List.{List, [], _∷_}
 use Prim.Native.Nat.{ℕ, _+_, _-_, _*_, _≤_, _<_, _^_}
 use native.Mathlib.Omega.{arith}
-use borrow.Author.Tests.{ltb-false}
+use borrow.Author.Tests.{ltb-false, eqb-true}
 use lib.Dec.{eqb, ltb}
 use lib.ListN.{length, getD}
 use Rattle.basics.specs.Lists.{sum}
@@ -20,10 +20,11 @@ use Rattle.word.specs.Answer.{answer}
 use Rattle.word.specs.Word as word
 use Rattle.word.specs.Promise as promise
 use Rattle.door.specs.declared.Piece.{Piece}
-use Rattle.door.specs.declared.Counted.the-variants.{Is}
+use Rattle.door.specs.declared.Counted.{Counted}
+use Rattle.door.specs.declared.Counted.the-variants.{Is, Out}
 use Rattle.door.specs.declared.Step.the-variants.{Next, Stop}
-use Rattle.door.specs.Job.{Job, entries, element, given, takesRuns}
-use Rattle.door.specs.Elements.{partsOnly, Reads, own-reads}
+use Rattle.door.specs.Job.{Job, entries, known, formOf, element, given, takesRuns}
+use Rattle.door.specs.Elements.{countedAs, countedBy, partsOnly, Reads, own-reads}
 use Rattle.door.specs.Walk as walk
 use Rattle.job.specs.Line.{wordOf, onP, depthsAt}
 use Rattle.join.specs.Rows.{rowBy, rowOf, endsBehind, HasRows}
@@ -46,6 +47,25 @@ runs-all M n h = absurd (false≢true h)
 runs-all G n h = absurd (false≢true h)
 runs-all J n h = refl
 
+-- a kind that is known and no P has ruby
+known-ruby : (n : ℕ) → known n ≡ true → (n ≡ 80 → ⊥) → hasRuby (formOf n) ≡ true
+known-ruby n = go (eqb n 77) (eqb n 71) (eqb n 74) (eqb n 80) refl
+  where
+    go : (m g j p : Bool) → eqb n 80 ≡ p → (p || (m || (g || (j || false)))) ≡ true → (n ≡ 80 → ⊥) → hasRuby (cond m M (cond g G (cond j J P))) ≡ true
+    go true g j p e k h = refl
+    go false true j p e k h = refl
+    go false false true p e k h = refl
+    go false false false true e k h = absurd (h (eqb-true n 80 e))
+    go false false false false e k h = absurd (false≢true k)
+
+counted-known : (kind base ruby : ℕ) (runs : List ℕ) (b r u : ℕ) {p : Piece} → countedBy kind base ruby runs b r u ≡ Is p → known kind ≡ true
+unfolding countedBy
+counted-known kind base ruby runs b r u e = go (known kind) (countedAs (formOf kind) base ruby runs b r u) e
+  where
+    go : (t : Bool) (c : Counted) {p : Piece} → cond t c Out ≡ Is p → t ≡ true
+    go true c e = refl
+    go false c e = absurd (let z : _≡_ {A = ℕ} 0 1 = cc in omega arith)
+
 -- the job's own numbers and lists
 abbrev pub runsIn : Job → Job
 runsIn job = runsOnly (job .em) (job .rubyClass) (job .rubyWidth) (job .run)
@@ -61,10 +81,14 @@ module _ (bases rubies : ℕ) (job : Job) (k b r u : ℕ) (was : List ℕ) (h : 
   unfolding element
   run-is = refl
 
-  pub stopped : (t : List ℕ) {q : Refusal} → Stop q ≡ walk.elementStep bases rubies job k b r u → Stepped bases rubies job k b r u was t (Stop q)
-  stopped t e = record { step = e; laid = λ p f. absurd (stop-next f) }
+  pub stopped : {q : Refusal} → Stop q ≡ walk.elementStep bases rubies job k b r u → Stepped bases rubies job k b r u was was (Stop q)
+  stopped e = record { long = refl; step = e; laid = λ p f. absurd (stop-next f) }
 
   module _ (p : Piece) (is : walk.counting bases rubies job k b r u ≡ Is p) where
+    ruby : hasRuby (x .form) ≡ true
+    unfolding element
+    ruby = known-ruby (getD (job .kind) k 0) (counted-known _ _ _ _ b r u is) (h .ruby)
+
     pub same : p ≡ x
     same = walk.is-it bases rubies job k b r u is
 
@@ -77,8 +101,8 @@ module _ (bases rubies : ℕ) (job : Job) (k b r u : ℕ) (was : List ℕ) (h : 
     short-same : short ≡ (ltb bases (x .base + x .bases) || ltb rubies (x .ruby + x .rubies))
     short-same = rw same
 
-    pub short-stops : (t : List ℕ) → short ≡ true → Stepped bases rubies job k b r u was t (Stop (Supply k))
-    short-stops t e = stopped t (walk.short-stops bases rubies job k b r u is (sym short-same ∙ e))
+    pub short-stops : short ≡ true → Stepped bases rubies job k b r u was was (Stop (Supply k))
+    short-stops e = stopped (walk.short-stops bases rubies job k b r u is (sym short-same ∙ e))
 
     module _ (supplied : short ≡ false) where
       supply : (ltb bases (x .base + x .bases) || ltb rubies (x .ruby + x .rubies)) ≡ false
@@ -128,14 +152,14 @@ module _ (bases rubies : ℕ) (job : Job) (k b r u : ℕ) (was : List ℕ) (h : 
                 each = f .each jx;
               })
 
-      pub refused-stops : (t : List ℕ) {q : Refusal} → answer (p .form) k (given (partsIn job) p) ≡ answered.Refused q → Stepped bases rubies job k b r u was t (Stop q)
-      refused-stops t {q} e = stopped t (walk.refused-stops bases rubies job k b r u is supply (subst (λ z. answer (z .form) k (given job z) ≡ answered.Refused q) same e))
+      pub refused-stops : {q : Refusal} → answer (p .form) k (given (partsIn job) p) ≡ answered.Refused q → Stepped bases rubies job k b r u was was (Stop q)
+      refused-stops {q} e = stopped (walk.refused-stops bases rubies job k b r u is supply (subst (λ z. answer (z .form) k (given job z) ≡ answered.Refused q) same e))
 
       -- its rows
       pub goes-on : (t : List ℕ) (w : Word) → answer (p .form) k (given (partsIn job) p) ≡ answered.Set w → (ends : Bool) → ends ≡ eqb (getD (job .flag) (p .base + p .bases - 1) 0) 1 →
           Filled (rowBy (runsIn job) p w ends 0 0) (p .base) (p .base + p .bases) was t → Stepped bases rubies job k b r u was t (Next p)
       unfolding rowOf
-      goes-on t w e ends f q = record { step = ap Next same ∙ walk.set-goes-on bases rubies job k b r u is supply given-x; laid = λ _ _. laid }
+      goes-on t w e ends f q = record { long = q .long; step = ap Next same ∙ walk.set-goes-on bases rubies job k b r u is supply given-x; laid = λ _ _. laid }
         where
           given-x : answer (x .form) k (given job x) ≡ answered.Set w
           given-x = subst (λ z. answer (z .form) k (given job z) ≡ answered.Set w) same e
@@ -147,7 +171,7 @@ module _ (bases rubies : ℕ) (job : Job) (k b r u : ℕ) (was : List ℕ) (h : 
           row i =
               ap (λ v. rowBy job x v ends 0 0 i) (promise.passed (x .form) k (given job x) given-x .word)
               ∙ ap (λ v. rowBy job x (wordOf job x) v 0 0 i) (f ∙ ap (λ z. eqb (getD (job .flag) (z .base + z .bases - 1) 0) 1) same)
-              ∙ ap₂ (λ c d. rowBy job x (wordOf job x) (endsBehind job x) c d i) (sym (on-none (x .form) _ (h .ruby))) (sym (on-none (x .form) _ (h .ruby)))
+              ∙ ap₂ (λ c d. rowBy job x (wordOf job x) (endsBehind job x) c d i) (sym (on-none (x .form) _ ruby)) (sym (on-none (x .form) _ ruby))
 
           laid : Laid job x was t
           laid = record { long = filled .long; rows = λ i l m. filled .here i l m ∙ row i; other = filled .other }

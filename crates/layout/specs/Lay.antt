@@ -13,7 +13,7 @@ use Rattle.basics.specs.Lists.{sum, All}
 use Rattle.class.specs.Class.{western, depthsOn}
 use Rattle.word.specs.Word.{plain}
 use Rattle.word.specs.declared.Word.{Word}
-use Rattle.word.specs.Given.{hasRuby, isJ}
+use Rattle.word.specs.Given.{isJ}
 use Rattle.cells.specs.declared.Cell.{Cell}
 use Rattle.cells.specs.Cells.{cellAt}
 use Rattle.cells.specs.Put.{Puts}
@@ -249,12 +249,12 @@ plainRow b r em class width before after flag =
 
 -- Elements in turn.
 
--- where the walk stands: the flags too are there, and the table has room
+-- where the walk stands: at no P, the flags too are there, and the table has room
 pub record Standing (bases rubies : ℕ) (job : Job) (k b r u : ℕ) (t : List ℕ) : Type 0 where
   pub stands : Stands bases rubies job k b r u
   pub flags : bases ≤ length (job .flag)
   pub room : 19 * bases ≤ length t
-  pub ruby : hasRuby (element job k b r u .form) ≡ true
+  pub ruby : getD (job .kind) k 0 ≡ 80 → ⊥
 
 -- the rows of an element are written, and no other
 pub record Laid (job : Job) (x : Piece) (was t : List ℕ) : Type 0 where
@@ -264,5 +264,6 @@ pub record Laid (job : Job) (x : Piece) (was t : List ℕ) : Type 0 where
 
 -- one element: the walk's own step, and where it goes on the element's rows
 pub record Stepped (bases rubies : ℕ) (job : Job) (k b r u : ℕ) (was t : List ℕ) (s : Step) : Type 0 where
+  pub long : length t ≡ length was
   pub step : s ≡ elementStep bases rubies job k b r u
   pub laid : (p : Piece) → s ≡ Next p → Laid job (element job k b r u) was t

@@ -1,3 +1,4 @@
 -- Rows written, element by element.
 pub mod Lay
 pub mod Element
+pub mod Walk

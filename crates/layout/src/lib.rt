@@ -15,6 +15,7 @@ ghost use Rattle.door.specs.declared.Checked.the-variants.{Passed};
 ghost use Rattle.cells.specs.Put.{Puts};
 ghost use Rattle.join.specs.Rows.{rowBy, Holds};
 ghost use Rattle.layout.specs.Lay.{wordRow, runRow, pastRun, runsOnly, Filled, HasRuns, ElementReady, PlainReady, plainRow, Standing, Stepped};
+ghost use Rattle.layout.specs.Walk.{Ready};
 use refusal::Refusal;
 
 // No word: a J of two characters or more is measured by its sums, and by parts.
@@ -305,4 +306,76 @@ fn lay_word(
     let ends = flag[e] == 1;
     put_element(t, p, w, ends, em, rclass, rwidth, runs);
     door::Step::Next(p)
+}
+
+// The rows of a job's elements, or the first of their refusals; characters have passed numbers 3 and 4.
+pub fn layout(
+    t: &mut [u32],
+    em: u32,
+    class: &[u32],
+    width: &[u32],
+    before: &[u32],
+    after: &[u32],
+    flag: &[u32],
+    rclass: &[u32],
+    rwidth: &[u32],
+    kind: &[u32],
+    ebase: &[u32],
+    eruby: &[u32],
+    runs: &[u32],
+) -> door::Checked
+    requires { let job = jobOf em 0 (now class) (now width) (now before) (now after) (now flag) (now rclass) (now rwidth) (now kind) (now ebase) (now eruby) (now runs) in ⌜ Ready job (now t) ⌝ }
+    ensures { λ c. let job = jobOf em 0 (now (class .entry)) (now (width .entry)) (now (before .entry)) (now (after .entry)) (now (flag .entry)) (now (rclass .entry)) (now (rwidth .entry)) (now (kind .entry)) (now (ebase .entry)) (now (eruby .entry)) (now (runs .entry)) in ⌜ (c ≡ verdict (elementsFaults job 0 (elements job) ++ leftFaults job)) × (c ≡ Passed → Holds job (now (t .exit))) ⌝ }
+{
+    let elements = door::element_count(kind, ebase, eruby);
+    let bases = door::base_count(class, width, before, after, flag);
+    let rubies = door::ruby_count(rclass, rwidth);
+    let mut k: usize = 0;
+    let mut b: usize = 0;
+    let mut r: usize = 0;
+    let mut u: usize = 0;
+    while k < elements {
+        if kind[k] == 80 {
+            if bases <= b {
+                return door::Checked::Refused(Refusal::Supply(k as u32));
+            }
+            put_plain(t, b, r, em, class, width, before, after, flag);
+            b += 1;
+            k += 1;
+            continue;
+        }
+        match lay_word(
+            t,
+            k,
+            b,
+            r,
+            u,
+            bases,
+            rubies,
+            em,
+            class,
+            width,
+            before,
+            after,
+            flag,
+            rclass,
+            rwidth,
+            kind,
+            ebase,
+            eruby,
+            runs,
+        ) {
+            door::Step::Stop(why) => return door::Checked::Refused(why),
+            door::Step::Next(p) => {
+                b += p.bases;
+                r += p.rubies;
+                u = door::runs_end(p);
+                k += 1;
+            }
+        }
+    }
+    if door::left_over(b, r, bases, rubies) {
+        return door::Checked::Refused(Refusal::Supply(elements as u32));
+    }
+    door::Checked::Passed
 }

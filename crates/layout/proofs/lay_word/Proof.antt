@@ -77,7 +77,7 @@ returns c =
     let n = c .before .before in
     let a = start n in
     let x = a .args in
-    one.stopped (x .bases) (x .rubies) (job a) (x .k) (x .b) (x .r) (x .u) (x .t .now) (a .pre) (x .t .now)
+    one.stopped (x .bases) (x .rubies) (job a) (x .k) (x .b) (x .r) (x .u) (x .t .now) (a .pre)
     (walk.out-stops (x .bases) (x .rubies) (job a) (x .k) (x .b) (x .r) (x .u) (sym (n .count-element .ensures) ∙ c .enum-told .given .1))
 
 runs-out-requires : tie.Need-runs-out-requires
@@ -92,7 +92,7 @@ returns-2 c =
     let k = c .before .before in
     let a = start (k .before .before .before) in
     let x = a .args in
-    one.short-stops (x .bases) (x .rubies) (job a) (x .k) (x .b) (x .r) (x .u) (x .t .now) (a .pre) (k .before .counted .given .0 .0) (is k) (x .t .now)
+    one.short-stops (x .bases) (x .rubies) (job a) (x .k) (x .b) (x .r) (x .u) (x .t .now) (a .pre) (k .before .counted .given .0 .0) (is k)
     (sym (c .before .runs-out .ensures) ∙ c .if1 .taken)
 
 measure-piece-requires : tie.Need-measure-piece-requires
@@ -126,7 +126,7 @@ returns-4 c =
     let k = e .before .before in
     let a = start (k .before .before .before) in
     let x = a .args in
-    one.refused-stops (x .bases) (x .rubies) (job a) (x .k) (x .b) (x .r) (x .u) (x .t .now) (a .pre) (k .before .counted .given .0 .0) (is k) (supplied e) (x .t .now)
+    one.refused-stops (x .bases) (x .rubies) (job a) (x .k) (x .b) (x .r) (x .u) (x .t .now) (a .pre) (k .before .counted .given .0 .0) (is k) (supplied e)
     (sym (m .measure-piece .ensures) ∙ c .before .before .before .before .answer2 .given .1 ∙ c .before .answer3 .given .1)
 
 -- the last of its characters
