@@ -16,10 +16,11 @@ ghost use Rattle.refusal.specs.declared.Refusal.the-variants.{Character};
 ghost use Rattle.door.specs.Verdict.{verdict};
 ghost use Rattle.door.specs.Values.{sizeRows, characterWrong, baseRows, runsFrom, basesOnly, rubiesOnly, BaseHolds, RubyHolds};
 ghost use Rattle.word.specs.declared.Form.the-variants as form;
-ghost use Rattle.door.specs.Elements.{countedAs, countedBy, partsOnly, Reads, WordReads};
+ghost use Rattle.door.specs.Elements.{countedAs, countedBy, partsOnly, Reads, JudgeReads, WordReads};
 ghost use Rattle.door.specs.Walk.{Stands, elementStep};
 ghost use Rattle.door.specs.Loop.{Holds, allRows};
 ghost use Rattle.word.specs.Answer.{answer};
+ghost use Rattle.word.specs.Judge.{judgement};
 ghost use Rattle.word.specs.Word.{wordOf};
 ghost use Rattle.word.specs.Given.{hasRuby};
 use refusal::Refusal;
@@ -449,6 +450,37 @@ pub fn measure_piece(
     )
 }
 
+// Numbers 7 to 10 of a piece.
+fn judge_piece(
+    k: u32,
+    p: Piece,
+    em: u32,
+    class: &[u32],
+    width: &[u32],
+    before: &[u32],
+    after: &[u32],
+    rclass: &[u32],
+) -> word::Judgement
+    requires { ⌜ JudgeReads (partsOnly em (now class) (now width) (now before) (now after) (now rclass) [] [] [] [] []) p ⌝ }
+    ensures { λ j. let job = partsOnly em (now (class .entry)) (now (width .entry)) (now (before .entry)) (now (after .entry)) (now (rclass .entry)) [] [] [] [] [] in ⌜ j ≡ judgement (p .form) k (given job p) ⌝ }
+{
+    let form = p.form;
+    let b = p.base;
+    let e = p.base + p.bases;
+    let r = p.ruby;
+    let s = p.ruby + p.rubies;
+    word::judge(
+        form,
+        k,
+        em,
+        &class[b..e],
+        &width[b..e],
+        &before[b..e],
+        &after[b..e],
+        &rclass[r..s],
+    )
+}
+
 // The word of a piece that was judged, without asking for numbers 7 to 10 again.
 pub fn piece_word(
     p: Piece,
@@ -524,23 +556,9 @@ fn check_element(
     if runs_out(p, bases, rubies) {
         return Step::Stop(Refusal::Supply(place));
     }
-    if is_plain(p) {
-        return Step::Next(p);
-    }
-    match measure_piece(
-        place,
-        p,
-        em,
-        class,
-        width,
-        before,
-        after,
-        rclass,
-        rwidth,
-        runs,
-    ) {
-        word::Answer::Set(_) => Step::Next(p),
-        word::Answer::Refused(why) => Step::Stop(why),
+    match judge_piece(place, p, em, class, width, before, after, rclass) {
+        word::Judgement::Fine => Step::Next(p),
+        word::Judgement::Wrong(why) => Step::Stop(why),
     }
 }
 
