@@ -14,6 +14,7 @@ use Rattle.word.specs.declared.Answer.the-variants as word
 use Rattle.word.specs.Given.{Given, hasRuby, isJ}
 use Rattle.word.specs.Answer.{blankInside, jukugoBase, mixedIn, westernOver, answer}
 use Rattle.word.specs.Word.{wordOf}
+use Rattle.word.specs.Judge.{judgement}
 use Rattle.word.specs.Sized.{Sized}
 use Rattle.word.specs.First.{Judged}
 use Rattle.door.specs.declared.Piece.{Piece}
@@ -153,6 +154,37 @@ sized-lent job p width ruby run sized =
 
 pub lent-sized : (job : Job) (p : Piece) → Reads job p → Sized (p .form) (lent job p .width) (lent job p .rubyWidth) (lent job p .run)
 lent-sized job p h = sized-lent job p (h .width) (h .rubyWidth) (h .run) (h .sized)
+
+-- A piece to be judged: what numbers 7 to 10 read of it.
+pub record JudgeReads (job : Job) (p : Piece) : Type 0 where
+  pub class : p .base + p .bases ≤ length (job .class)
+  pub width : p .base + p .bases ≤ length (job .width)
+  pub before : p .base + p .bases ≤ length (job .before)
+  pub after : p .base + p .bases ≤ length (job .after)
+  pub rubyClass : p .ruby + p .rubies ≤ length (job .rubyClass)
+
+pub judge-reads : (job : Job) (p : Piece) → Reads job p → JudgeReads (partsOnly (job .em) (job .class) (job .width) (job .before) (job .after) (job .rubyClass) [] [] [] [] []) p
+judge-reads job p h = record { class = h .class; width = h .width; before = h .before; after = h .after; rubyClass = h .rubyClass }
+
+pub lent-judgement : (k : ℕ) (job : Job) (p : Piece) → JudgeReads job p →
+    let w = lent job p in
+    judgement (p .form) k (record { em = job .em; class = w .class; width = w .width; before = w .before; after = w .after; rubyClass = w .rubyClass; rubyWidth = []; run = [] })
+    ≡ judgement (p .form) k (given job p)
+unfolding judgement
+lent-judgement k job p h =
+    rw (
+      part-of (job .class) (p .base) (p .bases) (h .class),
+      part-of (job .width) (p .base) (p .bases) (h .width),
+      part-of (job .before) (p .base) (p .bases) (h .before),
+      part-of (job .after) (p .base) (p .bases) (h .after),
+      part-of (job .rubyClass) (p .ruby) (p .rubies) (h .rubyClass),
+    )
+
+-- of a job only what they read matters
+pub judged-own : (job : Job) (k : ℕ) (p : Piece) →
+    judgement (p .form) k (given (partsOnly (job .em) (job .class) (job .width) (job .before) (job .after) (job .rubyClass) [] [] [] [] []) p) ≡ judgement (p .form) k (given job p)
+unfolding judgement
+judged-own job k p = refl
 
 -- a P has none of the rows of level one
 pub plain-answer : (form : Form) (k : ℕ) (w : Given) → hasRuby form ≡ false → answer form k w ≡ word.Set (wordOf form w)

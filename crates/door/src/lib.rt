@@ -16,13 +16,43 @@ ghost use Rattle.refusal.specs.declared.Refusal.the-variants.{Character};
 ghost use Rattle.door.specs.Verdict.{verdict};
 ghost use Rattle.door.specs.Values.{sizeRows, characterWrong, baseRows, runsFrom, basesOnly, rubiesOnly, BaseHolds, RubyHolds};
 ghost use Rattle.word.specs.declared.Form.the-variants as form;
-ghost use Rattle.door.specs.Elements.{countedAs, countedBy, partsOnly, Reads, WordReads};
+ghost use Rattle.door.specs.Elements.{countedAs, countedBy, partsOnly, Reads, JudgeReads, WordReads};
 ghost use Rattle.door.specs.Walk.{Stands, elementStep};
 ghost use Rattle.door.specs.Loop.{Holds, allRows};
 ghost use Rattle.word.specs.Answer.{answer};
+ghost use Rattle.word.specs.Judge.{judgement};
 ghost use Rattle.word.specs.Word.{wordOf};
 ghost use Rattle.word.specs.Given.{hasRuby};
 use refusal::Refusal;
+
+// The kinds of element, as their letters on the sheet.
+pub const PLAIN: u32 = 80;
+
+pub const MONO: u32 = 77;
+
+pub const GROUP: u32 = 71;
+
+pub const JUKUGO: u32 = 74;
+
+// The most that a job may have (numbers 1 and 2), that a character may be wide (3) and that an element may take (5).
+pub const MOST_EM: u32 = 4096;
+
+pub const MOST_MEASURE: u32 = 4000000;
+
+pub const MOST_BASES: usize = 1024;
+
+pub const MOST_RUBIES: usize = 2048;
+
+pub const MOST_ELEMENTS: usize = 1024;
+
+pub const MOST_WIDTH: u32 = 4096;
+
+pub const ELEMENT_BASES: u32 = 32;
+
+pub const ELEMENT_RUBIES: u32 = 64;
+
+// "ruby ones 1,024 + index": the place of the first ruby character in a refusal.
+pub const FIRST_RUBY: u32 = 1024;
 
 // An element, or the part of a J that stands in one line: its first base and ruby character in the job, how many it has of each, and the first of its runs.
 pub struct Piece {
@@ -81,7 +111,7 @@ fn em_wrong(em: u32) -> bool
     if em % 2 == 1 {
         return true;
     }
-    is_outside(2, 4096, em)
+    is_outside(2, MOST_EM, em)
 }
 
 // Number 12: some result list is below its count.
@@ -113,16 +143,16 @@ fn check_sizes(
     if em_wrong(em) {
         return Checked::Refused(Refusal::Range(0));
     }
-    if is_outside(1, 4000000, measure) {
+    if is_outside(1, MOST_MEASURE, measure) {
         return Checked::Refused(Refusal::Range(1));
     }
-    if 1024 < bases {
+    if MOST_BASES < bases {
         return Checked::Refused(Refusal::Count(0));
     }
-    if 2048 < rubies {
+    if MOST_RUBIES < rubies {
         return Checked::Refused(Refusal::Count(1));
     }
-    if 1024 < elements {
+    if MOST_ELEMENTS < elements {
         return Checked::Refused(Refusal::Count(2));
     }
     if too_short(base, ruby, lines, bases, rubies) {
@@ -136,7 +166,7 @@ fn character_wrong(class: u32, width: u32, flag: u32) -> bool
     ensures { λ r. ⌜ r ≡ characterWrong class width flag ⌝ }
 {
     if class::is_accepted(class) {
-        if is_outside(1, 4096, width) {
+        if is_outside(1, MOST_WIDTH, width) {
             return true;
         }
         return 1 < flag;
@@ -221,7 +251,7 @@ fn check_reading(i: u32, class: u32, width: u32) -> Checked
     ensures { λ r. ⌜ r ≡ verdict (Character (1024 + i) when (not (accepted class) || outside 1 4096 width)) ⌝ }
 {
     if character_wrong(class, width, 0) {
-        return Checked::Refused(Refusal::Character(1024 + i));
+        return Checked::Refused(Refusal::Character(FIRST_RUBY + i));
     }
     Checked::Passed
 }
@@ -245,28 +275,28 @@ fn check_rubies(n: usize, class: &[u32], width: &[u32]) -> Checked
 fn is_known(kind: u32) -> bool
     ensures { λ r. ⌜ r ≡ known kind ⌝ }
 {
-    if kind == 80 {
+    if kind == PLAIN {
         return true;
     }
-    if kind == 77 {
+    if kind == MONO {
         return true;
     }
-    if kind == 71 {
+    if kind == GROUP {
         return true;
     }
-    kind == 74
+    kind == JUKUGO
 }
 
 pub fn form_of(kind: u32) -> word::Form
     ensures { λ r. ⌜ r ≡ formOf kind ⌝ }
 {
-    if kind == 77 {
+    if kind == MONO {
         return word::Form::M;
     }
-    if kind == 71 {
+    if kind == GROUP {
         return word::Form::G;
     }
-    if kind == 74 {
+    if kind == JUKUGO {
         return word::Form::J;
     }
     word::Form::P
@@ -294,7 +324,7 @@ fn runs_from(u: usize, n: usize, runs: &[u32]) -> Runs
         taken += run as usize;
         j += 1;
     }
-    if 64 < taken {
+    if (ELEMENT_RUBIES as usize) < taken {
         return Runs::Wrong;
     }
     Runs::Sum(taken)
@@ -304,7 +334,7 @@ fn runs_from(u: usize, n: usize, runs: &[u32]) -> Runs
 fn count_mono(ruby: u32, b: usize, r: usize, u: usize) -> Counted
     ensures { λ c. ⌜ c ≡ countedAs form.M 1 ruby [] b r u ⌝ }
 {
-    if is_outside(1, 64, ruby) {
+    if is_outside(1, ELEMENT_RUBIES, ruby) {
         return Counted::Out;
     }
     Counted::Is(Piece {
@@ -320,10 +350,10 @@ fn count_mono(ruby: u32, b: usize, r: usize, u: usize) -> Counted
 fn count_group(base: u32, ruby: u32, b: usize, r: usize, u: usize) -> Counted
     ensures { λ c. ⌜ c ≡ countedAs form.G base ruby [] b r u ⌝ }
 {
-    if is_outside(1, 32, base) {
+    if is_outside(1, ELEMENT_BASES, base) {
         return Counted::Out;
     }
-    if is_outside(1, 64, ruby) {
+    if is_outside(1, ELEMENT_RUBIES, ruby) {
         return Counted::Out;
     }
     Counted::Is(Piece {
@@ -340,7 +370,7 @@ fn count_jukugo(base: u32, b: usize, r: usize, u: usize, runs: &[u32]) -> Counte
     requires { ⌜ u ≤ 1024 ⌝ }
     ensures { λ c. ⌜ c ≡ countedAs form.J base 0 (now (runs .entry)) b r u ⌝ }
 {
-    if is_outside(1, 32, base) {
+    if is_outside(1, ELEMENT_BASES, base) {
         return Counted::Out;
     }
     match runs_from(u, base as usize, runs) {
@@ -449,6 +479,37 @@ pub fn measure_piece(
     )
 }
 
+// Numbers 7 to 10 of a piece.
+fn judge_piece(
+    k: u32,
+    p: Piece,
+    em: u32,
+    class: &[u32],
+    width: &[u32],
+    before: &[u32],
+    after: &[u32],
+    rclass: &[u32],
+) -> word::Judgement
+    requires { ⌜ JudgeReads (partsOnly em (now class) (now width) (now before) (now after) (now rclass) [] [] [] [] []) p ⌝ }
+    ensures { λ j. let job = partsOnly em (now (class .entry)) (now (width .entry)) (now (before .entry)) (now (after .entry)) (now (rclass .entry)) [] [] [] [] [] in ⌜ j ≡ judgement (p .form) k (given job p) ⌝ }
+{
+    let form = p.form;
+    let b = p.base;
+    let e = p.base + p.bases;
+    let r = p.ruby;
+    let s = p.ruby + p.rubies;
+    word::judge(
+        form,
+        k,
+        em,
+        &class[b..e],
+        &width[b..e],
+        &before[b..e],
+        &after[b..e],
+        &rclass[r..s],
+    )
+}
+
 // The word of a piece that was judged, without asking for numbers 7 to 10 again.
 pub fn piece_word(
     p: Piece,
@@ -524,23 +585,9 @@ fn check_element(
     if runs_out(p, bases, rubies) {
         return Step::Stop(Refusal::Supply(place));
     }
-    if is_plain(p) {
-        return Step::Next(p);
-    }
-    match measure_piece(
-        place,
-        p,
-        em,
-        class,
-        width,
-        before,
-        after,
-        rclass,
-        rwidth,
-        runs,
-    ) {
-        word::Answer::Set(_) => Step::Next(p),
-        word::Answer::Refused(why) => Step::Stop(why),
+    match judge_piece(place, p, em, class, width, before, after, rclass) {
+        word::Judgement::Fine => Step::Next(p),
+        word::Judgement::Wrong(why) => Step::Stop(why),
     }
 }
 
@@ -579,7 +626,7 @@ fn check_elements(
     let mut u: usize = 0;
     let mut k: usize = 0;
     while k < n {
-        if kind[k] == 80 {
+        if kind[k] == PLAIN {
             if bases <= b {
                 return Checked::Refused(Refusal::Supply(k as u32));
             }

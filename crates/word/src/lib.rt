@@ -12,6 +12,7 @@ ghost use Rattle.spread.specs.Gap.{starts};
 ghost use Rattle.spread.specs.Running.{Ready};
 ghost use Rattle.word.specs.Alone.{script, rubyWay, baseWay, split};
 ghost use Rattle.word.specs.Word.{plain, wordBy, groupWord, jukugoWord, wordOf, runStarts, baseStarts, rubyStarts};
+ghost use Rattle.word.specs.Numbers.{wordFrom, Measured};
 ghost use Rattle.word.specs.Answer.{answer};
 ghost use Rattle.word.specs.Sized.{Small, Sized, RunsReady};
 ghost use Rattle.class.specs.Class.{kanaLike};
@@ -237,16 +238,21 @@ fn plain_of(b: u32) -> Word
     }
 }
 
-// The word of two strings, by the way of each where it is the shorter.
-fn word_by(ruby: spread::Way, base: spread::Way, em: u32, bs: &[u32], rs: &[u32]) -> Word
-    requires { ⌜ Small (now bs) (now rs) ⌝ }
-    ensures { λ r. ⌜ r ≡ wordBy ruby base em (now (bs .entry)) (now (rs .entry)) ⌝ }
+// The word of two strings of b and r units and n and m characters, by the way of each where it is the shorter.
+pub fn word_from(
+    ruby: spread::Way,
+    base: spread::Way,
+    em: u32,
+    b: u32,
+    n: u32,
+    r: u32,
+    m: u32,
+) -> Word
+    requires { ⌜ Measured b n r m ⌝ }
+    ensures { λ w. ⌜ w ≡ wordFrom ruby base em b n r m ⌝ }
 {
-    let b = basics::sum_of(bs);
-    let r = basics::sum_of(rs);
     if r <= b {
-        let n = rs.len() as u32;
-        let g = spread::gap_of(ruby, em, b - r, n);
+        let g = spread::gap_of(ruby, em, b - r, m);
         let within = 2 * (b - r) - 2 * g;
         return Word {
             front: 0,
@@ -259,7 +265,6 @@ fn word_by(ruby: spread::Way, base: spread::Way, em: u32, bs: &[u32], rs: &[u32]
             runs: false,
         };
     }
-    let n = bs.len() as u32;
     let g = spread::gap_of(base, em, r - b, n);
     let within = 2 * (r - b) - 2 * g;
     Word {
@@ -272,6 +277,18 @@ fn word_by(ruby: spread::Way, base: spread::Way, em: u32, bs: &[u32], rs: &[u32]
         inruby: 0,
         runs: false,
     }
+}
+
+// The word of two strings by their lists.
+fn word_by(ruby: spread::Way, base: spread::Way, em: u32, bs: &[u32], rs: &[u32]) -> Word
+    requires { ⌜ Small (now bs) (now rs) ⌝ }
+    ensures { λ r. ⌜ r ≡ wordBy ruby base em (now (bs .entry)) (now (rs .entry)) ⌝ }
+{
+    let b = basics::sum_of(bs);
+    let r = basics::sum_of(rs);
+    let n = bs.len() as u32;
+    let m = rs.len() as u32;
+    word_from(ruby, base, em, b, n, r, m)
 }
 
 fn group_of(r: Script, b: Script, em: u32, bs: &[u32], rs: &[u32]) -> Word

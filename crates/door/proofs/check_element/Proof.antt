@@ -1,35 +1,48 @@
--- Number 5, then 6, then what level one answers: each is its row, and past them all stands the piece. A piece that passes 5 and 6 lies within the lists, so level one may be asked; a P needs not be, since level one has no row for it.
-use mathlib.Core.Path.{_≡_, sym, _∙_}
+-- Number 5, then 6, then 7 to 10: each is its row, and past them all stands the piece. A piece that passes 5 and 6 lies within the lists, so it may be judged.
+use mathlib.Core.Path.{_≡_, sym, ap, _∙_}
 use mathlib.Core.Bool.{_||_}
 use lib.Dec.{ltb}
 use Prim.Native.Nat.{_+_}
 use Rattle.door.specs.declared.Piece.{Piece}
 use Rattle.door.specs.declared.Counted.the-variants.{Is}
-use Rattle.door.specs.Job.{element, given}
-use Rattle.word.specs.Answer.{answer}
-use Rattle.word.specs.Given.{hasRuby}
-use Rattle.door.specs.Elements.{partsOnly, own-reads, plain-answer}
-use borrow.Author.Tests.{not-true}
+use Rattle.door.specs.Job.{Job, element, given}
+use Rattle.word.specs.Judge.{judgement, fine-set, wrong-refused}
+use Rattle.door.specs.Elements.{partsOnly, judge-reads, judged-own}
 use Rattle.door.specs.Walk as walk
 use borrow.Author.Needs.{needs}
 use Rattle.door.proofs.check_element.Statement.{statement}
 use Rattle.door.proofs.check_element.Tie as tie
 
+-- the job that the lists are
+abbrev jobOf : tie.Start → Job
+jobOf s =
+    partsOnly (s .args .em) (s .args .class .now) (s .args .width .now) (s .args .before .now) (s .args .after .now) (s .args .rclass .now) (s .args .rwidth .now)
+    (s .args .kind .now) (s .args .ebase .now) (s .args .eruby .now) (s .args .runs .now)
+
+abbrev from : tie.After-known-told → tie.Start
+from c = c .before .before .before .before .before .before .before .before .before .before .before .before .before .before .before .before .before
+
 -- the element, and that it is the piece that was counted
 abbrev the : tie.After-known-told → Piece
-the c = element (partsOnly (c .before .before .before .before .before .before .before .before .before .before .before .before .before .before .before .before .before .args .em) (c .before .before .before .before .before .before .before .before .before .before .before .before .before .before .before .before .before .args .class .now) (c .before .before .before .before .before .before .before .before .before .before .before .before .before .before .before .before .before .args .width .now) (c .before .before .before .before .before .before .before .before .before .before .before .before .before .before .before .before .before .args .before .now) (c .before .before .before .before .before .before .before .before .before .before .before .before .before .before .before .before .before .args .after .now) (c .before .before .before .before .before .before .before .before .before .before .before .before .before .before .before .before .before .args .rclass .now) (c .before .before .before .before .before .before .before .before .before .before .before .before .before .before .before .before .before .args .rwidth .now) (c .before .before .before .before .before .before .before .before .before .before .before .before .before .before .before .before .before .args .kind .now) (c .before .before .before .before .before .before .before .before .before .before .before .before .before .before .before .before .before .args .ebase .now) (c .before .before .before .before .before .before .before .before .before .before .before .before .before .before .before .before .before .args .eruby .now) (c .before .before .before .before .before .before .before .before .before .before .before .before .before .before .before .before .before .args .runs .now)) (c .before .before .before .before .before .before .before .before .before .before .before .before .before .before .before .before .before .args .k) (c .before .before .before .before .before .before .before .before .before .before .before .before .before .before .before .before .before .args .b) (c .before .before .before .before .before .before .before .before .before .before .before .before .before .before .before .before .before .args .r) (c .before .before .before .before .before .before .before .before .before .before .before .before .before .before .before .before .before .args .u)
+the c = let s = from c in element (jobOf s) (s .args .k) (s .args .b) (s .args .r) (s .args .u)
 
-is : (c : tie.After-known-told) → walk.counting (c .before .before .before .before .before .before .before .before .before .before .before .before .before .before .before .before .before .args .bases) (c .before .before .before .before .before .before .before .before .before .before .before .before .before .before .before .before .before .args .rubies) (partsOnly (c .before .before .before .before .before .before .before .before .before .before .before .before .before .before .before .before .before .args .em) (c .before .before .before .before .before .before .before .before .before .before .before .before .before .before .before .before .before .args .class .now) (c .before .before .before .before .before .before .before .before .before .before .before .before .before .before .before .before .before .args .width .now) (c .before .before .before .before .before .before .before .before .before .before .before .before .before .before .before .before .before .args .before .now) (c .before .before .before .before .before .before .before .before .before .before .before .before .before .before .before .before .before .args .after .now) (c .before .before .before .before .before .before .before .before .before .before .before .before .before .before .before .before .before .args .rclass .now) (c .before .before .before .before .before .before .before .before .before .before .before .before .before .before .before .before .before .args .rwidth .now) (c .before .before .before .before .before .before .before .before .before .before .before .before .before .before .before .before .before .args .kind .now) (c .before .before .before .before .before .before .before .before .before .before .before .before .before .before .before .before .before .args .ebase .now) (c .before .before .before .before .before .before .before .before .before .before .before .before .before .before .before .before .before .args .eruby .now) (c .before .before .before .before .before .before .before .before .before .before .before .before .before .before .before .before .before .args .runs .now)) (c .before .before .before .before .before .before .before .before .before .before .before .before .before .before .before .before .before .args .k) (c .before .before .before .before .before .before .before .before .before .before .before .before .before .before .before .before .before .args .b) (c .before .before .before .before .before .before .before .before .before .before .before .before .before .before .before .before .before .args .r) (c .before .before .before .before .before .before .before .before .before .before .before .before .before .before .before .before .before .args .u) ≡ Is (c .before .counted .given .0 .0)
+is : (c : tie.After-known-told) → let s = from c in
+    walk.counting (s .args .bases) (s .args .rubies) (jobOf s) (s .args .k) (s .args .b) (s .args .r) (s .args .u) ≡ Is (c .before .counted .given .0 .0)
 is c = sym (c .before .before .before .count-element .ensures) ∙ c .before .counted .given .1
 
 same : (c : tie.After-known-told) → c .before .counted .given .0 .0 ≡ the c
-same c = walk.is-it (c .before .before .before .before .before .before .before .before .before .before .before .before .before .before .before .before .before .args .bases) (c .before .before .before .before .before .before .before .before .before .before .before .before .before .before .before .before .before .args .rubies) (partsOnly (c .before .before .before .before .before .before .before .before .before .before .before .before .before .before .before .before .before .args .em) (c .before .before .before .before .before .before .before .before .before .before .before .before .before .before .before .before .before .args .class .now) (c .before .before .before .before .before .before .before .before .before .before .before .before .before .before .before .before .before .args .width .now) (c .before .before .before .before .before .before .before .before .before .before .before .before .before .before .before .before .before .args .before .now) (c .before .before .before .before .before .before .before .before .before .before .before .before .before .before .before .before .before .args .after .now) (c .before .before .before .before .before .before .before .before .before .before .before .before .before .before .before .before .before .args .rclass .now) (c .before .before .before .before .before .before .before .before .before .before .before .before .before .before .before .before .before .args .rwidth .now) (c .before .before .before .before .before .before .before .before .before .before .before .before .before .before .before .before .before .args .kind .now) (c .before .before .before .before .before .before .before .before .before .before .before .before .before .before .before .before .before .args .ebase .now) (c .before .before .before .before .before .before .before .before .before .before .before .before .before .before .before .before .before .args .eruby .now) (c .before .before .before .before .before .before .before .before .before .before .before .before .before .before .before .before .before .args .runs .now)) (c .before .before .before .before .before .before .before .before .before .before .before .before .before .before .before .before .before .args .k) (c .before .before .before .before .before .before .before .before .before .before .before .before .before .before .before .before .before .args .b) (c .before .before .before .before .before .before .before .before .before .before .before .before .before .before .before .before .before .args .r) (c .before .before .before .before .before .before .before .before .before .before .before .before .before .before .before .before .before .args .u) (is c)
+same c = let s = from c in walk.is-it (s .args .bases) (s .args .rubies) (jobOf s) (s .args .k) (s .args .b) (s .args .r) (s .args .u) (is c)
 
-supply : (c : tie.After-runs-out) → (ltb (c .before .before .before .before .before .before .before .before .before .before .before .before .before .before .before .before .before .before .args .bases) (the (c .before) .base + the (c .before) .bases) || ltb (c .before .before .before .before .before .before .before .before .before .before .before .before .before .before .before .before .before .before .args .rubies) (the (c .before) .ruby + the (c .before) .rubies)) ≡ c .runs-out .result
+supply : (c : tie.After-runs-out) → let s = from (c .before) in let x = the (c .before) in
+    (ltb (s .args .bases) (x .base + x .bases) || ltb (s .args .rubies) (x .ruby + x .rubies)) ≡ c .runs-out .result
 supply c = rw (← same (c .before)) (sym (c .runs-out .ensures))
 
-answers : (c : tie.After-measure-piece) → c .measure-piece .result ≡ answer (the (c .before .before .before .before .before) .form) (c .before .before .before .before .before .before .before .before .before .before .before .before .before .before .before .before .before .before .before .before .before .before .args .k) (given (partsOnly (c .before .before .before .before .before .before .before .before .before .before .before .before .before .before .before .before .before .before .before .before .before .before .args .em) (c .before .before .before .before .before .before .before .before .before .before .before .before .before .before .before .before .before .before .before .before .before .before .args .class .now) (c .before .before .before .before .before .before .before .before .before .before .before .before .before .before .before .before .before .before .before .before .before .before .args .width .now) (c .before .before .before .before .before .before .before .before .before .before .before .before .before .before .before .before .before .before .before .before .before .before .args .before .now) (c .before .before .before .before .before .before .before .before .before .before .before .before .before .before .before .before .before .before .before .before .before .before .args .after .now) (c .before .before .before .before .before .before .before .before .before .before .before .before .before .before .before .before .before .before .before .before .before .before .args .rclass .now) (c .before .before .before .before .before .before .before .before .before .before .before .before .before .before .before .before .before .before .before .before .before .before .args .rwidth .now) (c .before .before .before .before .before .before .before .before .before .before .before .before .before .before .before .before .before .before .before .before .before .before .args .kind .now) (c .before .before .before .before .before .before .before .before .before .before .before .before .before .before .before .before .before .before .before .before .before .before .args .ebase .now) (c .before .before .before .before .before .before .before .before .before .before .before .before .before .before .before .before .before .before .before .before .before .before .args .eruby .now) (c .before .before .before .before .before .before .before .before .before .before .before .before .before .before .before .before .before .before .before .before .before .before .args .runs .now)) (the (c .before .before .before .before .before)))
-answers c = c .measure-piece .ensures ∙ rw (same (c .before .before .before .before .before))
+judges : (c : tie.After-judge-piece) → let at = c .before .before .before in let s = from at in
+    c .judge-piece .result ≡ judgement (the at .form) (s .args .k) (given (jobOf s) (the at))
+judges c =
+    let at = c .before .before .before in
+    let s = from at in
+    c .judge-piece .ensures ∙ judged-own (jobOf s) (s .args .k) (at .before .counted .given .0 .0) ∙ ap (λ (p : Piece). judgement (p .form) (s .args .k) (given (jobOf s) p)) (same at)
 
 cast-place : tie.Need-cast-place
 cast-place c = search needs
@@ -62,22 +75,29 @@ enum-told : tie.Need-enum-told
 enum-told c = search needs
 
 returns : tie.Need-returns
-returns c = walk.out-stops (c .before .before .before .before .before .before .before .before .before .before .before .before .before .before .before .before .args .bases) (c .before .before .before .before .before .before .before .before .before .before .before .before .before .before .before .before .args .rubies) (partsOnly (c .before .before .before .before .before .before .before .before .before .before .before .before .before .before .before .before .args .em) (c .before .before .before .before .before .before .before .before .before .before .before .before .before .before .before .before .args .class .now) (c .before .before .before .before .before .before .before .before .before .before .before .before .before .before .before .before .args .width .now) (c .before .before .before .before .before .before .before .before .before .before .before .before .before .before .before .before .args .before .now) (c .before .before .before .before .before .before .before .before .before .before .before .before .before .before .before .before .args .after .now) (c .before .before .before .before .before .before .before .before .before .before .before .before .before .before .before .before .args .rclass .now) (c .before .before .before .before .before .before .before .before .before .before .before .before .before .before .before .before .args .rwidth .now) (c .before .before .before .before .before .before .before .before .before .before .before .before .before .before .before .before .args .kind .now) (c .before .before .before .before .before .before .before .before .before .before .before .before .before .before .before .before .args .ebase .now) (c .before .before .before .before .before .before .before .before .before .before .before .before .before .before .before .before .args .eruby .now) (c .before .before .before .before .before .before .before .before .before .before .before .before .before .before .before .before .args .runs .now)) (c .before .before .before .before .before .before .before .before .before .before .before .before .before .before .before .before .args .k) (c .before .before .before .before .before .before .before .before .before .before .before .before .before .before .before .before .args .b) (c .before .before .before .before .before .before .before .before .before .before .before .before .before .before .before .before .args .r) (c .before .before .before .before .before .before .before .before .before .before .before .before .before .before .before .before .args .u) (sym (c .before .before .count-element .ensures) ∙ c .enum-told .given .1)
+returns c =
+    let s = c .before .before .before .before .before .before .before .before .before .before .before .before .before .before .before .before in
+    walk.out-stops (s .args .bases) (s .args .rubies) (jobOf s) (s .args .k) (s .args .b) (s .args .r) (s .args .u)
+    (sym (c .before .before .count-element .ensures) ∙ c .enum-told .given .1)
 
 runs-out-requires : tie.Need-runs-out-requires
-runs-out-requires c κs = rw (same c) (walk.small (c .before .before .before .before .before .before .before .before .before .before .before .before .before .before .before .before .before .args .bases) (c .before .before .before .before .before .before .before .before .before .before .before .before .before .before .before .before .before .args .rubies) (partsOnly (c .before .before .before .before .before .before .before .before .before .before .before .before .before .before .before .before .before .args .em) (c .before .before .before .before .before .before .before .before .before .before .before .before .before .before .before .before .before .args .class .now) (c .before .before .before .before .before .before .before .before .before .before .before .before .before .before .before .before .before .args .width .now) (c .before .before .before .before .before .before .before .before .before .before .before .before .before .before .before .before .before .args .before .now) (c .before .before .before .before .before .before .before .before .before .before .before .before .before .before .before .before .before .args .after .now) (c .before .before .before .before .before .before .before .before .before .before .before .before .before .before .before .before .before .args .rclass .now) (c .before .before .before .before .before .before .before .before .before .before .before .before .before .before .before .before .before .args .rwidth .now) (c .before .before .before .before .before .before .before .before .before .before .before .before .before .before .before .before .before .args .kind .now) (c .before .before .before .before .before .before .before .before .before .before .before .before .before .before .before .before .before .args .ebase .now) (c .before .before .before .before .before .before .before .before .before .before .before .before .before .before .before .before .before .args .eruby .now) (c .before .before .before .before .before .before .before .before .before .before .before .before .before .before .before .before .before .args .runs .now)) (c .before .before .before .before .before .before .before .before .before .before .before .before .before .before .before .before .before .args .k) (c .before .before .before .before .before .before .before .before .before .before .before .before .before .before .before .before .before .args .b) (c .before .before .before .before .before .before .before .before .before .before .before .before .before .before .before .before .before .args .r) (c .before .before .before .before .before .before .before .before .before .before .before .before .before .before .before .before .before .args .u) (is c) (c .before .before .before .before .before .before .before .before .before .before .before .before .before .before .before .before .before .pre) .0, walk.small (c .before .before .before .before .before .before .before .before .before .before .before .before .before .before .before .before .before .args .bases) (c .before .before .before .before .before .before .before .before .before .before .before .before .before .before .before .before .before .args .rubies) (partsOnly (c .before .before .before .before .before .before .before .before .before .before .before .before .before .before .before .before .before .args .em) (c .before .before .before .before .before .before .before .before .before .before .before .before .before .before .before .before .before .args .class .now) (c .before .before .before .before .before .before .before .before .before .before .before .before .before .before .before .before .before .args .width .now) (c .before .before .before .before .before .before .before .before .before .before .before .before .before .before .before .before .before .args .before .now) (c .before .before .before .before .before .before .before .before .before .before .before .before .before .before .before .before .before .args .after .now) (c .before .before .before .before .before .before .before .before .before .before .before .before .before .before .before .before .before .args .rclass .now) (c .before .before .before .before .before .before .before .before .before .before .before .before .before .before .before .before .before .args .rwidth .now) (c .before .before .before .before .before .before .before .before .before .before .before .before .before .before .before .before .before .args .kind .now) (c .before .before .before .before .before .before .before .before .before .before .before .before .before .before .before .before .before .args .ebase .now) (c .before .before .before .before .before .before .before .before .before .before .before .before .before .before .before .before .before .args .eruby .now) (c .before .before .before .before .before .before .before .before .before .before .before .before .before .before .before .before .before .args .runs .now)) (c .before .before .before .before .before .before .before .before .before .before .before .before .before .before .before .before .before .args .k) (c .before .before .before .before .before .before .before .before .before .before .before .before .before .before .before .before .before .args .b) (c .before .before .before .before .before .before .before .before .before .before .before .before .before .before .before .before .before .args .r) (c .before .before .before .before .before .before .before .before .before .before .before .before .before .before .before .before .before .args .u) (is c) (c .before .before .before .before .before .before .before .before .before .before .before .before .before .before .before .before .before .pre) .1)
+runs-out-requires c κs =
+    let s = from c in
+    let small = walk.small (s .args .bases) (s .args .rubies) (jobOf s) (s .args .k) (s .args .b) (s .args .r) (s .args .u) (is c) (s .pre) in
+    rw (same c) (small .0, small .1)
 
 returns-2 : tie.Need-returns-2
-returns-2 c = walk.short-stops (c .before .before .before .before .before .before .before .before .before .before .before .before .before .before .before .before .before .before .before .args .bases) (c .before .before .before .before .before .before .before .before .before .before .before .before .before .before .before .before .before .before .before .args .rubies) (partsOnly (c .before .before .before .before .before .before .before .before .before .before .before .before .before .before .before .before .before .before .before .args .em) (c .before .before .before .before .before .before .before .before .before .before .before .before .before .before .before .before .before .before .before .args .class .now) (c .before .before .before .before .before .before .before .before .before .before .before .before .before .before .before .before .before .before .before .args .width .now) (c .before .before .before .before .before .before .before .before .before .before .before .before .before .before .before .before .before .before .before .args .before .now) (c .before .before .before .before .before .before .before .before .before .before .before .before .before .before .before .before .before .before .before .args .after .now) (c .before .before .before .before .before .before .before .before .before .before .before .before .before .before .before .before .before .before .before .args .rclass .now) (c .before .before .before .before .before .before .before .before .before .before .before .before .before .before .before .before .before .before .before .args .rwidth .now) (c .before .before .before .before .before .before .before .before .before .before .before .before .before .before .before .before .before .before .before .args .kind .now) (c .before .before .before .before .before .before .before .before .before .before .before .before .before .before .before .before .before .before .before .args .ebase .now) (c .before .before .before .before .before .before .before .before .before .before .before .before .before .before .before .before .before .before .before .args .eruby .now) (c .before .before .before .before .before .before .before .before .before .before .before .before .before .before .before .before .before .before .before .args .runs .now)) (c .before .before .before .before .before .before .before .before .before .before .before .before .before .before .before .before .before .before .before .args .k) (c .before .before .before .before .before .before .before .before .before .before .before .before .before .before .before .before .before .before .before .args .b) (c .before .before .before .before .before .before .before .before .before .before .before .before .before .before .before .before .before .before .before .args .r) (c .before .before .before .before .before .before .before .before .before .before .before .before .before .before .before .before .before .before .before .args .u) (is (c .before .before)) (supply (c .before) ∙ c .if1 .taken)
+returns-2 c =
+    let s = from (c .before .before) in
+    walk.short-stops (s .args .bases) (s .args .rubies) (jobOf s) (s .args .k) (s .args .b) (s .args .r) (s .args .u) (is (c .before .before)) (supply (c .before) ∙ c .if1 .taken)
 
-is-plain-requires : tie.Need-is-plain-requires
-is-plain-requires c κs = search needs
-
-returns-3 : tie.Need-returns-3
-returns-3 c = rw (same (c .before .before .before .before)) (walk.set-goes-on (c .before .before .before .before .before .before .before .before .before .before .before .before .before .before .before .before .before .before .before .before .before .args .bases) (c .before .before .before .before .before .before .before .before .before .before .before .before .before .before .before .before .before .before .before .before .before .args .rubies) (partsOnly (c .before .before .before .before .before .before .before .before .before .before .before .before .before .before .before .before .before .before .before .before .before .args .em) (c .before .before .before .before .before .before .before .before .before .before .before .before .before .before .before .before .before .before .before .before .before .args .class .now) (c .before .before .before .before .before .before .before .before .before .before .before .before .before .before .before .before .before .before .before .before .before .args .width .now) (c .before .before .before .before .before .before .before .before .before .before .before .before .before .before .before .before .before .before .before .before .before .args .before .now) (c .before .before .before .before .before .before .before .before .before .before .before .before .before .before .before .before .before .before .before .before .before .args .after .now) (c .before .before .before .before .before .before .before .before .before .before .before .before .before .before .before .before .before .before .before .before .before .args .rclass .now) (c .before .before .before .before .before .before .before .before .before .before .before .before .before .before .before .before .before .before .before .before .before .args .rwidth .now) (c .before .before .before .before .before .before .before .before .before .before .before .before .before .before .before .before .before .before .before .before .before .args .kind .now) (c .before .before .before .before .before .before .before .before .before .before .before .before .before .before .before .before .before .before .before .before .before .args .ebase .now) (c .before .before .before .before .before .before .before .before .before .before .before .before .before .before .before .before .before .before .before .before .before .args .eruby .now) (c .before .before .before .before .before .before .before .before .before .before .before .before .before .before .before .before .before .before .before .before .before .args .runs .now)) (c .before .before .before .before .before .before .before .before .before .before .before .before .before .before .before .before .before .before .before .before .before .args .k) (c .before .before .before .before .before .before .before .before .before .before .before .before .before .before .before .before .before .before .before .before .before .args .b) (c .before .before .before .before .before .before .before .before .before .before .before .before .before .before .before .before .before .before .before .before .before .args .r) (c .before .before .before .before .before .before .before .before .before .before .before .before .before .before .before .before .before .before .before .before .before .args .u) (is (c .before .before .before .before)) (supply (c .before .before .before) ∙ c .before .before .if1 .left) (plain-answer (the (c .before .before .before .before) .form) _ _ (not-true (hasRuby (the (c .before .before .before .before) .form)) (rw (← same (c .before .before .before .before)) (sym (c .before .is-plain .ensures) ∙ c .if2 .taken)))))
-
-measure-piece-requires : tie.Need-measure-piece-requires
-measure-piece-requires c κs = rw (same (c .before .before .before .before)) (walk.small (c .before .before .before .before .before .before .before .before .before .before .before .before .before .before .before .before .before .before .before .before .before .args .bases) (c .before .before .before .before .before .before .before .before .before .before .before .before .before .before .before .before .before .before .before .before .before .args .rubies) (partsOnly (c .before .before .before .before .before .before .before .before .before .before .before .before .before .before .before .before .before .before .before .before .before .args .em) (c .before .before .before .before .before .before .before .before .before .before .before .before .before .before .before .before .before .before .before .before .before .args .class .now) (c .before .before .before .before .before .before .before .before .before .before .before .before .before .before .before .before .before .before .before .before .before .args .width .now) (c .before .before .before .before .before .before .before .before .before .before .before .before .before .before .before .before .before .before .before .before .before .args .before .now) (c .before .before .before .before .before .before .before .before .before .before .before .before .before .before .before .before .before .before .before .before .before .args .after .now) (c .before .before .before .before .before .before .before .before .before .before .before .before .before .before .before .before .before .before .before .before .before .args .rclass .now) (c .before .before .before .before .before .before .before .before .before .before .before .before .before .before .before .before .before .before .before .before .before .args .rwidth .now) (c .before .before .before .before .before .before .before .before .before .before .before .before .before .before .before .before .before .before .before .before .before .args .kind .now) (c .before .before .before .before .before .before .before .before .before .before .before .before .before .before .before .before .before .before .before .before .before .args .ebase .now) (c .before .before .before .before .before .before .before .before .before .before .before .before .before .before .before .before .before .before .before .before .before .args .eruby .now) (c .before .before .before .before .before .before .before .before .before .before .before .before .before .before .before .before .before .before .before .before .before .args .runs .now)) (c .before .before .before .before .before .before .before .before .before .before .before .before .before .before .before .before .before .before .before .before .before .args .k) (c .before .before .before .before .before .before .before .before .before .before .before .before .before .before .before .before .before .before .before .before .before .args .b) (c .before .before .before .before .before .before .before .before .before .before .before .before .before .before .before .before .before .before .before .before .before .args .r) (c .before .before .before .before .before .before .before .before .before .before .before .before .before .before .before .before .before .before .before .before .before .args .u) (is (c .before .before .before .before)) (c .before .before .before .before .before .before .before .before .before .before .before .before .before .before .before .before .before .before .before .before .before .pre) .2, own-reads _ _ (walk.reads (c .before .before .before .before .before .before .before .before .before .before .before .before .before .before .before .before .before .before .before .before .before .args .bases) (c .before .before .before .before .before .before .before .before .before .before .before .before .before .before .before .before .before .before .before .before .before .args .rubies) (partsOnly (c .before .before .before .before .before .before .before .before .before .before .before .before .before .before .before .before .before .before .before .before .before .args .em) (c .before .before .before .before .before .before .before .before .before .before .before .before .before .before .before .before .before .before .before .before .before .args .class .now) (c .before .before .before .before .before .before .before .before .before .before .before .before .before .before .before .before .before .before .before .before .before .args .width .now) (c .before .before .before .before .before .before .before .before .before .before .before .before .before .before .before .before .before .before .before .before .before .args .before .now) (c .before .before .before .before .before .before .before .before .before .before .before .before .before .before .before .before .before .before .before .before .before .args .after .now) (c .before .before .before .before .before .before .before .before .before .before .before .before .before .before .before .before .before .before .before .before .before .args .rclass .now) (c .before .before .before .before .before .before .before .before .before .before .before .before .before .before .before .before .before .before .before .before .before .args .rwidth .now) (c .before .before .before .before .before .before .before .before .before .before .before .before .before .before .before .before .before .before .before .before .before .args .kind .now) (c .before .before .before .before .before .before .before .before .before .before .before .before .before .before .before .before .before .before .before .before .before .args .ebase .now) (c .before .before .before .before .before .before .before .before .before .before .before .before .before .before .before .before .before .before .before .before .before .args .eruby .now) (c .before .before .before .before .before .before .before .before .before .before .before .before .before .before .before .before .before .before .before .before .before .args .runs .now)) (c .before .before .before .before .before .before .before .before .before .before .before .before .before .before .before .before .before .before .before .before .before .args .k) (c .before .before .before .before .before .before .before .before .before .before .before .before .before .before .before .before .before .before .before .before .before .args .b) (c .before .before .before .before .before .before .before .before .before .before .before .before .before .before .before .before .before .before .before .before .before .args .r) (c .before .before .before .before .before .before .before .before .before .before .before .before .before .before .before .before .before .before .before .before .before .args .u) (is (c .before .before .before .before)) (c .before .before .before .before .before .before .before .before .before .before .before .before .before .before .before .before .before .before .before .before .before .pre) (supply (c .before .before .before) ∙ c .before .before .if1 .left)))
+judge-piece-requires : tie.Need-judge-piece-requires
+judge-piece-requires c κs =
+    let at = c .before .before in
+    let s = from at in
+    rw (same at)
+    (judge-reads (jobOf s) (the at)
+    (walk.reads (s .args .bases) (s .args .rubies) (jobOf s) (s .args .k) (s .args .b) (s .args .r) (s .args .u) (is at) (s .pre) (supply (c .before) ∙ c .if1 .left)))
 
 enum-told-2 : tie.Need-enum-told-2
 enum-told-2 c = search needs
@@ -85,11 +105,22 @@ enum-told-2 c = search needs
 enum-known-why : tie.Need-enum-known-why
 enum-known-why c = search needs
 
-returns-4 : tie.Need-returns-4
-returns-4 c = rw (same (c .before .before .before .before .before .before .before)) (walk.set-goes-on (c .before .before .before .before .before .before .before .before .before .before .before .before .before .before .before .before .before .before .before .before .before .before .before .before .args .bases) (c .before .before .before .before .before .before .before .before .before .before .before .before .before .before .before .before .before .before .before .before .before .before .before .before .args .rubies) (partsOnly (c .before .before .before .before .before .before .before .before .before .before .before .before .before .before .before .before .before .before .before .before .before .before .before .before .args .em) (c .before .before .before .before .before .before .before .before .before .before .before .before .before .before .before .before .before .before .before .before .before .before .before .before .args .class .now) (c .before .before .before .before .before .before .before .before .before .before .before .before .before .before .before .before .before .before .before .before .before .before .before .before .args .width .now) (c .before .before .before .before .before .before .before .before .before .before .before .before .before .before .before .before .before .before .before .before .before .before .before .before .args .before .now) (c .before .before .before .before .before .before .before .before .before .before .before .before .before .before .before .before .before .before .before .before .before .before .before .before .args .after .now) (c .before .before .before .before .before .before .before .before .before .before .before .before .before .before .before .before .before .before .before .before .before .before .before .before .args .rclass .now) (c .before .before .before .before .before .before .before .before .before .before .before .before .before .before .before .before .before .before .before .before .before .before .before .before .args .rwidth .now) (c .before .before .before .before .before .before .before .before .before .before .before .before .before .before .before .before .before .before .before .before .before .before .before .before .args .kind .now) (c .before .before .before .before .before .before .before .before .before .before .before .before .before .before .before .before .before .before .before .before .before .before .before .before .args .ebase .now) (c .before .before .before .before .before .before .before .before .before .before .before .before .before .before .before .before .before .before .before .before .before .before .before .before .args .eruby .now) (c .before .before .before .before .before .before .before .before .before .before .before .before .before .before .before .before .before .before .before .before .before .before .before .before .args .runs .now)) (c .before .before .before .before .before .before .before .before .before .before .before .before .before .before .before .before .before .before .before .before .before .before .before .before .args .k) (c .before .before .before .before .before .before .before .before .before .before .before .before .before .before .before .before .before .before .before .before .before .before .before .before .args .b) (c .before .before .before .before .before .before .before .before .before .before .before .before .before .before .before .before .before .before .before .before .before .before .before .before .args .r) (c .before .before .before .before .before .before .before .before .before .before .before .before .before .before .before .before .before .before .before .before .before .before .before .before .args .u) (is (c .before .before .before .before .before .before .before)) (supply (c .before .before .before .before .before .before) ∙ c .before .before .before .before .before .if1 .left) (sym (answers (c .before .before)) ∙ c .enum-told2 .given .1))
+returns-3 : tie.Need-returns-3
+returns-3 c =
+    let left = c .before .before .before in
+    let at = left .before .before in
+    let s = from at in
+    rw (same at)
+    (walk.set-goes-on (s .args .bases) (s .args .rubies) (jobOf s) (s .args .k) (s .args .b) (s .args .r) (s .args .u) (is at) (supply (left .before) ∙ left .if1 .left)
+    (fine-set (the at .form) (s .args .k) (given (jobOf s) (the at)) (sym (judges (c .before .before)) ∙ c .enum-told2 .given .1)))
 
-returns-5 : tie.Need-returns-5
-returns-5 c = walk.refused-stops (c .before .before .before .before .before .before .before .before .before .before .before .before .before .before .before .before .before .before .before .before .before .before .before .before .before .args .bases) (c .before .before .before .before .before .before .before .before .before .before .before .before .before .before .before .before .before .before .before .before .before .before .before .before .before .args .rubies) (partsOnly (c .before .before .before .before .before .before .before .before .before .before .before .before .before .before .before .before .before .before .before .before .before .before .before .before .before .args .em) (c .before .before .before .before .before .before .before .before .before .before .before .before .before .before .before .before .before .before .before .before .before .before .before .before .before .args .class .now) (c .before .before .before .before .before .before .before .before .before .before .before .before .before .before .before .before .before .before .before .before .before .before .before .before .before .args .width .now) (c .before .before .before .before .before .before .before .before .before .before .before .before .before .before .before .before .before .before .before .before .before .before .before .before .before .args .before .now) (c .before .before .before .before .before .before .before .before .before .before .before .before .before .before .before .before .before .before .before .before .before .before .before .before .before .args .after .now) (c .before .before .before .before .before .before .before .before .before .before .before .before .before .before .before .before .before .before .before .before .before .before .before .before .before .args .rclass .now) (c .before .before .before .before .before .before .before .before .before .before .before .before .before .before .before .before .before .before .before .before .before .before .before .before .before .args .rwidth .now) (c .before .before .before .before .before .before .before .before .before .before .before .before .before .before .before .before .before .before .before .before .before .before .before .before .before .args .kind .now) (c .before .before .before .before .before .before .before .before .before .before .before .before .before .before .before .before .before .before .before .before .before .before .before .before .before .args .ebase .now) (c .before .before .before .before .before .before .before .before .before .before .before .before .before .before .before .before .before .before .before .before .before .before .before .before .before .args .eruby .now) (c .before .before .before .before .before .before .before .before .before .before .before .before .before .before .before .before .before .before .before .before .before .before .before .before .before .args .runs .now)) (c .before .before .before .before .before .before .before .before .before .before .before .before .before .before .before .before .before .before .before .before .before .before .before .before .before .args .k) (c .before .before .before .before .before .before .before .before .before .before .before .before .before .before .before .before .before .before .before .before .before .before .before .before .before .args .b) (c .before .before .before .before .before .before .before .before .before .before .before .before .before .before .before .before .before .before .before .before .before .before .before .before .before .args .r) (c .before .before .before .before .before .before .before .before .before .before .before .before .before .before .before .before .before .before .before .before .before .before .before .before .before .args .u) (is (c .before .before .before .before .before .before .before .before)) (supply (c .before .before .before .before .before .before .before) ∙ c .before .before .before .before .before .before .if1 .left) (sym (answers (c .before .before .before)) ∙ c .before .why .given .1)
+returns-4 : tie.Need-returns-4
+returns-4 c =
+    let left = c .before .before .before .before in
+    let at = left .before .before in
+    let s = from at in
+    walk.refused-stops (s .args .bases) (s .args .rubies) (jobOf s) (s .args .k) (s .args .b) (s .args .r) (s .args .u) (is at) (supply (left .before) ∙ left .if1 .left)
+    (wrong-refused (the at .form) (s .args .k) (given (jobOf s) (the at)) (sym (judges (c .before .before .before)) ∙ c .before .why .given .1))
 
 pub check-element-spec : {M : Type 1} → statement M
 check-element-spec =
@@ -108,10 +139,8 @@ check-element-spec =
     returns
     runs-out-requires
     returns-2
-    is-plain-requires
-    returns-3
-    measure-piece-requires
+    judge-piece-requires
     enum-told-2
     enum-known-why
-    returns-4
-    returns-5)
+    returns-3
+    returns-4)
