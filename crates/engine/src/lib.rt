@@ -74,3 +74,133 @@ pub fn fill_job(
     let n = door::base_count(class, width, before, after, flag);
     filling::fill_lines(t, n, ends, extents, em, 2 * measure)
 }
+
+// The job set by a table and lists of this size.
+fn set_by(
+    t: &mut [u32],
+    ends: &mut [u32],
+    extents: &mut [u32],
+    em: u32,
+    measure: u32,
+    class: &[u32],
+    width: &[u32],
+    before: &[u32],
+    after: &[u32],
+    flag: &[u32],
+    rclass: &[u32],
+    rwidth: &[u32],
+    kind: &[u32],
+    ebase: &[u32],
+    eruby: &[u32],
+    runs: &[u32],
+    base: &mut [u32],
+    ruby: &mut [u32],
+    lines: &mut [u32],
+) -> job::Answer
+    requires { let job = jobOf em measure (now class) (now width) (now before) (now after) (now flag) (now rclass) (now rwidth) (now kind) (now ebase) (now eruby) (now runs) in ⌜ Room job (now t) (now ends) (now extents) ⌝ }
+    ensures { λ r. let job = jobOf em measure (now (class .entry)) (now (width .entry)) (now (before .entry)) (now (after .entry)) (now (flag .entry)) (now (rclass .entry)) (now (rwidth .entry)) (now (kind .entry)) (now (ebase .entry)) (now (eruby .entry)) (now (runs .entry)) in ⌜ _≡_ {A = Outcome} (record { answer = r; base = now (base .exit); ruby = now (ruby .exit); lines = now (lines .exit) }) (outcome job (now (base .entry)) (now (ruby .entry)) (now (lines .entry))) ⌝ }
+{
+    match fill_job(
+        t,
+        ends,
+        extents,
+        em,
+        measure,
+        class,
+        width,
+        before,
+        after,
+        flag,
+        rclass,
+        rwidth,
+        kind,
+        ebase,
+        eruby,
+        runs,
+        base.len(),
+        ruby.len(),
+        lines.len(),
+    ) {
+        filling::Lines::Refused(why) => job::Answer::Refused(why),
+        filling::Lines::Filled(n) => {
+            positions::put_lines(t, n, ends, em, width, rwidth, base, ruby);
+            positions::put_ends(n, ends, lines);
+            job::Answer::Set(n)
+        }
+    }
+}
+
+// Sets a job. `class`, `width`, `before`, `after` and `flag` are the base characters' fields, `rclass` and `rwidth` the ruby characters'; `kind` (a letter's byte: 80 P, 77 M, 71 G,
+// 74 J), `ebase` and `eruby` the elements'; `runs` the J runs. The positions go to `base` and `ruby`, in half units from the line's start, and the running counts of base
+// characters at the lines' ends to `lines`. A small job has a small table, since a table is cleared before it is used.
+pub fn set_job(
+    em: u32,
+    measure: u32,
+    class: &[u32],
+    width: &[u32],
+    before: &[u32],
+    after: &[u32],
+    flag: &[u32],
+    rclass: &[u32],
+    rwidth: &[u32],
+    kind: &[u32],
+    ebase: &[u32],
+    eruby: &[u32],
+    runs: &[u32],
+    base: &mut [u32],
+    ruby: &mut [u32],
+    lines: &mut [u32],
+) -> job::Answer
+    ensures { λ r. ⌜ _≡_ {A = Outcome} (record { answer = r; base = now (base .exit); ruby = now (ruby .exit); lines = now (lines .exit) }) (outcome (jobOf em measure (now (class .entry)) (now (width .entry)) (now (before .entry)) (now (after .entry)) (now (flag .entry)) (now (rclass .entry)) (now (rwidth .entry)) (now (kind .entry)) (now (ebase .entry)) (now (eruby .entry)) (now (runs .entry))) (now (base .entry)) (now (ruby .entry)) (now (lines .entry))) ⌝ }
+{
+    if door::base_count(class, width, before, after, flag) <= 128 {
+        let mut t = [0; 2432];
+        let mut ends = [0; 128];
+        let mut extents = [0; 128];
+        return set_by(
+            &mut t,
+            &mut ends,
+            &mut extents,
+            em,
+            measure,
+            class,
+            width,
+            before,
+            after,
+            flag,
+            rclass,
+            rwidth,
+            kind,
+            ebase,
+            eruby,
+            runs,
+            base,
+            ruby,
+            lines,
+        );
+    }
+    let mut t = [0; 19456];
+    let mut ends = [0; 1024];
+    let mut extents = [0; 1024];
+    set_by(
+        &mut t,
+        &mut ends,
+        &mut extents,
+        em,
+        measure,
+        class,
+        width,
+        before,
+        after,
+        flag,
+        rclass,
+        rwidth,
+        kind,
+        ebase,
+        eruby,
+        runs,
+        base,
+        ruby,
+        lines,
+    )
+}

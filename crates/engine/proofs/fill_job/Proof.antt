@@ -115,9 +115,11 @@ fill-lines-requires c κs =
     let e = b .before in
     let l = e .before .before .before .before in
     let a = start (l .before .before .before .before) in
-    let few = passed e .fewBase in
-    (subst (Sound (a .args .em) (l .layout .last .0)) (sym (bases b)) (sound (job a) (passed e) (l .layout .last .0) (table e)),
-    omega (arith, bases b, a .pre .ends few), omega (arith, bases b, a .pre .extents few))
+    let few = passed e .fewBase in (
+      subst (Sound (a .args .em) (l .layout .last .0)) (sym (bases b)) (sound (job a) (passed e) (l .layout .last .0) (table e)),
+      omega (arith, bases b, a .pre .ends few),
+      omega (arith, bases b, a .pre .extents few),
+    )
 
 same-length-2 : tie.Need-same-length-2
 same-length-2 c = search needs

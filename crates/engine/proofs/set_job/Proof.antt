@@ -1,0 +1,90 @@
+-- Each table has room for the jobs that it is used for; what is set is the job's outcome either way.
+use mathlib.Core.Path.{_≡_, subst}
+use Prim.Native.Nat.{_*_, _≤_}
+use borrow.Author.Needs.{needs}
+use native.Mathlib.Omega.{arith}
+use Rattle.door.specs.Job.{Job, jobOf, baseCount}
+use Rattle.engine.proofs.set_job.Statement.{statement}
+use Rattle.engine.proofs.set_job.Tie as tie
+
+abbrev job : tie.Start → Job
+job a =
+    let x = a .args in
+    jobOf (x .em) (x .measure) (x .class .now) (x .width .now) (x .before .now) (x .after .now) (x .flag .now) (x .rclass .now) (x .rwidth .now) (x .kind .now) (x .ebase .now) (x .eruby .now) (x .runs .now)
+
+small : (c : tie.After-set-by-arg3) → baseCount (job (c .before .before .before .before .before .before .before .before .before .before .before .before .before .before .before .before .before .before .before .before .before .before)) ≤ 128
+unfolding baseCount
+small c = subst (λ n. n ≤ 128) (c .before .before .before .before .before .before .before .base-count .ensures) (c .before .before .before .before .before .before .if1 .taken)
+
+base-count-requires : tie.Need-base-count-requires
+base-count-requires c κs = search needs
+
+slice-aggregate-set-by : tie.Need-slice-aggregate-set-by
+slice-aggregate-set-by c = search needs
+
+slice-aggregate-set-by-2 : tie.Need-slice-aggregate-set-by-2
+slice-aggregate-set-by-2 c = search needs
+
+slice-aggregate-set-by-3 : tie.Need-slice-aggregate-set-by-3
+slice-aggregate-set-by-3 c = search needs
+
+set-by-requires : tie.Need-set-by-requires
+set-by-requires c κs = record { rows = λ _. omega (arith, small c); ends = λ _. small c; extents = λ _. small c }
+
+same-length : tie.Need-same-length
+same-length c = search needs
+
+same-length-2 : tie.Need-same-length-2
+same-length-2 c = search needs
+
+same-length-3 : tie.Need-same-length-3
+same-length-3 c = search needs
+
+returns : tie.Need-returns
+returns c = search needs
+
+slice-aggregate-set-by-4 : tie.Need-slice-aggregate-set-by-4
+slice-aggregate-set-by-4 c = search needs
+
+slice-aggregate-set-by-5 : tie.Need-slice-aggregate-set-by-5
+slice-aggregate-set-by-5 c = search needs
+
+slice-aggregate-set-by-6 : tie.Need-slice-aggregate-set-by-6
+slice-aggregate-set-by-6 c = search needs
+
+set-by-requires-2 : tie.Need-set-by-requires-2
+set-by-requires-2 c κs = search needs
+
+same-length-4 : tie.Need-same-length-4
+same-length-4 c = search needs
+
+same-length-5 : tie.Need-same-length-5
+same-length-5 c = search needs
+
+same-length-6 : tie.Need-same-length-6
+same-length-6 c = search needs
+
+returns-2 : tie.Need-returns-2
+returns-2 c = search needs
+
+pub set-job-spec : {M : Type 1} → statement M
+set-job-spec =
+    tie.close
+    (tie.spec
+    base-count-requires
+    slice-aggregate-set-by
+    slice-aggregate-set-by-2
+    slice-aggregate-set-by-3
+    set-by-requires
+    same-length
+    same-length-2
+    same-length-3
+    returns
+    slice-aggregate-set-by-4
+    slice-aggregate-set-by-5
+    slice-aggregate-set-by-6
+    set-by-requires-2
+    same-length-4
+    same-length-5
+    same-length-6
+    returns-2)
