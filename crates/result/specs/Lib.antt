@@ -5,6 +5,7 @@ pub mod Rows
 pub mod ByRows
 pub mod Lines
 pub mod Short
+pub mod Set
 pub mod Accepted
 pub mod Determined
 pub mod Refused

@@ -174,4 +174,3 @@ module _ {t : List ℕ} {n : ℕ} {ends extents base ruby was : List ℕ} {start
       where
         one : (l : ℕ) → suc l ≡ l + 1
         one l = omega arith
-

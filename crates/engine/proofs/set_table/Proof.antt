@@ -91,9 +91,11 @@ returns-2 c =
     let p = e .before .before .before .before .before .before .before in
     let n = p .before .before .before .before .before .before in
     let f = n .before .before .before .before .before .before .before .before in
-    let x = start f .args in
-    (whole.sets (job (start f)) (x .base .now) (x .ruby .now) (x .lines .now) (x .extents .now) (f .fill-job .last .0) (f .fill-job .last .1 .0) (f .fill-job .last .1 .1 .0) (n .n .given .0 .0)
-    (told f (n .n .given .1)) _ _ _ (p .put-lines .ensures) (e .put-ends .ensures), told f (n .n .given .1))
+    let x = start f .args in (
+      whole.sets (job (start f)) (x .base .now) (x .ruby .now) (x .lines .now) (x .extents .now) (f .fill-job .last .0) (f .fill-job .last .1 .0) (f .fill-job .last .1 .1 .0) (n .n .given .0 .0)
+          (told f (n .n .given .1)) _ _ _ (p .put-lines .ensures) (e .put-ends .ensures),
+      told f (n .n .given .1),
+    )
 
 pub set-table-spec : {M : Type 1} → statement M
 set-table-spec =
