@@ -1,6 +1,7 @@
+-- What a declined line needs, by the job and by the rows of its table.
 pub mod Needed
 pub mod Cases
-pub mod Upto
+pub mod Shortest
 pub mod Pass
 pub mod Theorems
 pub mod Measure
