@@ -4,5 +4,6 @@ pub mod Cases
 pub mod Shortest
 pub mod Pass
 pub mod Theorems
+pub mod Join
 pub mod Measure
 pub mod Determined
