@@ -1,10 +1,9 @@
 pub mod Theorems
 pub mod First
-pub mod Tell
 pub mod Rows
+pub mod Tell
+pub mod Table
 pub mod Line
 pub mod Lines
-pub mod Cases
-pub mod Accepted
-pub mod Outcome
-pub mod Determined
+pub mod Walk
+pub mod Join
