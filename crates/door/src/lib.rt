@@ -19,6 +19,7 @@ ghost use Rattle.word.specs.declared.Form.the-variants as form;
 ghost use Rattle.door.specs.Elements.{countedAs, countedBy, partsOnly, Reads, JudgeReads, WordReads};
 ghost use Rattle.door.specs.Walk.{Stands, elementStep};
 ghost use Rattle.door.specs.Loop.{Holds, allRows};
+ghost use Rattle.door.specs.Whole.{ahead};
 ghost use Rattle.word.specs.Answer.{answer};
 ghost use Rattle.word.specs.Judge.{judgement};
 ghost use Rattle.word.specs.Word.{wordOf};
@@ -692,6 +693,40 @@ pub fn element_count(kind: &[u32], ebase: &[u32], eruby: &[u32]) -> usize
     ensures { λ n. ⌜ n ≡ min (length (now (kind .entry))) (min (length (now (ebase .entry))) (length (now (eruby .entry)))) ⌝ }
 {
     fewer(kind.len(), fewer(ebase.len(), eruby.len()))
+}
+
+// What is judged before any element: numbers 1, 2 and 12, then the characters. `base`, `ruby` and `lines` are the lengths of the result lists.
+pub fn check_characters(
+    em: u32,
+    measure: u32,
+    class: &[u32],
+    width: &[u32],
+    before: &[u32],
+    after: &[u32],
+    flag: &[u32],
+    rclass: &[u32],
+    rwidth: &[u32],
+    kind: &[u32],
+    ebase: &[u32],
+    eruby: &[u32],
+    base: usize,
+    ruby: usize,
+    lines: usize,
+) -> Checked
+    ensures { λ c. let job = jobOf em measure (now (class .entry)) (now (width .entry)) (now (before .entry)) (now (after .entry)) (now (flag .entry)) (now (rclass .entry)) (now (rwidth .entry)) (now (kind .entry)) (now (ebase .entry)) (now (eruby .entry)) [] in ⌜ c ≡ verdict (ahead job base ruby lines) ⌝ }
+{
+    let bases = base_count(class, width, before, after, flag);
+    let rubies = ruby_count(rclass, rwidth);
+    let elements = element_count(kind, ebase, eruby);
+    let sizes = check_sizes(em, measure, bases, rubies, elements, base, ruby, lines);
+    let Checked::Passed = sizes else {
+        return sizes;
+    };
+    let characters = check_bases(bases, class, width, before, after, flag);
+    let Checked::Passed = characters else {
+        return characters;
+    };
+    check_rubies(rubies, rclass, rwidth)
 }
 
 // The job's own faults, in the order of the refusal list. `base`, `ruby` and `lines` are the lengths of the result lists.

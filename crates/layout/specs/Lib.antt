@@ -2,3 +2,4 @@
 pub mod Lay
 pub mod Element
 pub mod Walk
+pub mod Measure

@@ -100,9 +100,10 @@ measure-piece-requires c κs =
     let k = c .before .before in
     let a = start (k .before .before .before) in
     let x = a .args in
-    let p = k .before .counted .given .0 .0 in
-    (one.small (x .bases) (x .rubies) (job a) (x .k) (x .b) (x .r) (x .u) (x .t .now) (a .pre) p (is k) .2,
-    one.own (x .bases) (x .rubies) (job a) (x .k) (x .b) (x .r) (x .u) (x .t .now) (a .pre) p (is k) (supplied c))
+    let p = k .before .counted .given .0 .0 in (
+      one.small (x .bases) (x .rubies) (job a) (x .k) (x .b) (x .r) (x .u) (x .t .now) (a .pre) p (is k) .2,
+      one.own (x .bases) (x .rubies) (job a) (x .k) (x .b) (x .r) (x .u) (x .t .now) (a .pre) p (is k) (supplied c),
+    )
 
 enum-known-answer : tie.Need-enum-known-answer
 enum-known-answer c = search needs

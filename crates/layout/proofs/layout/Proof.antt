@@ -1,17 +1,19 @@
 -- The rows of the elements so far are written, and what is left of the walk decides. An element that is refused ends it; past the last the leftovers decide.
-use mathlib.Core.Path.{_≡_, refl, sym, ap, _∙_, subst}
-use mathlib.Core.Bool.{Bool, true, false}
-use mathlib.Core.List.{_++_}
+use mathlib.Core.Path.{_≡_, refl, sym, ap, ap₂, _∙_, subst}
+use mathlib.Core.Bool.{Bool, true, false, _||_}
+use mathlib.Core.List.{List, _++_}
 use Prim.Native.Nat.{ℕ, _+_, _-_, _≤_, _<_}
+use lib.Dec.{ltb}
 use borrow.Author.Needs.{needs}
 use native.Mathlib.Omega.{arith}
 use Rattle.refusal.specs.declared.Refusal.{Refusal}
+use Rattle.refusal.specs.declared.Refusal.the-variants.{Supply}
 use Rattle.door.specs.declared.Checked.{Checked}
 use Rattle.door.specs.declared.Checked.the-variants.{Passed, Refused}
 use Rattle.door.specs.declared.Piece.{Piece}
 use Rattle.door.specs.declared.Step.the-variants.{Next, Stop}
 use Rattle.door.specs.Job.{Job, jobOf, baseCount, rubyCount, elementCount, elements, takesRuns}
-use Rattle.door.specs.Refusals.{elementsFaults, leftFaults}
+use Rattle.door.specs.Refusals.{_when_, elementsFaults, leftFaults}
 use Rattle.door.specs.Verdict.{verdict}
 use Rattle.door.specs.Walk.{Stands, elementStep}
 use Rattle.door.specs.Loop as loop
@@ -153,9 +155,10 @@ returns : tie.Need-returns Inv-loop μ-loop
 returns c =
     let i = c .before .before .before in
     let l = i .before in
-    let j = job (start l) in
-    (refuses i _ (loop.plain-stops (baseCount j) (rubyCount j) j (l .loop .k) (l .loop .b) (l .loop .r) (l .loop .u) (c .before .if1 .taken) (omega (arith, c .if2 .taken, bases-are l))),
-    λ e. absurd (refused-passed e))
+    let j = job (start l) in (
+      refuses i _ (loop.plain-stops (baseCount j) (rubyCount j) j (l .loop .k) (l .loop .b) (l .loop .r) (l .loop .u) (c .before .if1 .taken) (omega (arith, c .if2 .taken, bases-are l))),
+      λ e. absurd (refused-passed e),
+    )
 
 put-plain-requires : tie.Need-put-plain-requires Inv-loop μ-loop
 put-plain-requires c κs =
@@ -216,40 +219,88 @@ enum-known-p : tie.Need-enum-known-p Inv-loop μ-loop
 enum-known-p c = search needs
 
 add-b-2 : tie.Need-add-b-2 Inv-loop μ-loop
-add-b-2 c = ?
+add-b-2 c = omega (arith, on (c .before) .taken, at (c .before .before .before .before .before .before .before .before .before .before) .few)
 
 add-r : tie.Need-add-r Inv-loop μ-loop
-add-r c = ?
+add-r c = omega (arith, on (c .before .before) .takenRuby, at (c .before .before .before .before .before .before .before .before .before .before .before) .fewRuby)
 
 runs-end-requires : tie.Need-runs-end-requires Inv-loop μ-loop
-runs-end-requires c κs = ?
+runs-end-requires c κs =
+    let p = c .before .before in
+    let i = p .before .before .before .before .before .before .before .before .before in
+    let l = i .before in
+    let j = job (start l) in
+    loop.next-small (baseCount j) (rubyCount j) j (elementCount j) (l .loop .k) (l .loop .b) (l .loop .r) (l .loop .u) (before-end i) (l .loop .inv .along) (at i) (went p)
 
 add-k-2 : tie.Need-add-k-2 Inv-loop μ-loop
-add-k-2 c = ?
+add-k-2 c = omega (arith, at (c .before .before .before .before .before .before .before .before .before .before .before .before) .index)
 
 loop-less-2 : tie.Need-loop-less-2 Inv-loop μ-loop
-loop-less-2 c = ?
+loop-less-2 c = omega (arith, (c .before .before .before .before .before .before .before .before .before .before .before .before) .loop-test .taken)
 
 loop-again-2 : tie.Need-loop-again-2 Inv-loop μ-loop
-loop-again-2 c = ?
+loop-again-2 c =
+    let p = c .before .before .before in
+    let w = p .before .before .before .before .before in
+    let i = w .before .before .before .before in
+    let l = i .before in
+    let j = job (start l) in
+    let same = loop.same (baseCount j) (rubyCount j) j (elementCount j) (l .loop .k) (l .loop .b) (l .loop .r) (l .loop .u) (before-end i) (l .loop .inv .along) (at i) (went p) in
+    let run = loop.run-same (baseCount j) (rubyCount j) j (elementCount j) (l .loop .k) (l .loop .b) (l .loop .r) (l .loop .u) (before-end i) (l .loop .inv .along) (at i) (went p) in
+    let x = p .before .p .given .0 .0 in
+    next (c .runs-end .ensures ∙ ap (λ n. n + takesRuns (x .form) (x .bases)) run)
+    (subst (λ z. Walking j (start l .args .t .now) (w .lay-word .last .0) (l .loop .k + 1) (l .loop .b + z .bases) (l .loop .r + z .rubies) (l .loop .u + takesRuns (z .form) (z .bases))) (sym same)
+    (walk.walking-next j (start l .args .t .now) (l .loop .t) (l .loop .k) (l .loop .b) (l .loop .r) (l .loop .u) (l .loop .inv) (before-end i) (w .lay-word .last .0)
+    (stepped w .laid x (p .before .p .given .1))
+    (subst (λ z. Along (baseCount j) (rubyCount j) j (elementCount j) (l .loop .k + 1) (l .loop .b + z .bases) (l .loop .r + z .rubies) (l .loop .u + takesRuns (z .form) (z .bases))) same (on p))))
+  where
+    next : {j : Job} {was t : List ℕ} {k b r u v : ℕ} → u ≡ v → Walking j was t k b r v → Walking j was t k b r u
+    next {j} {was} {t} {k} {b} {r} {u} {v} e q = subst (λ n. Walking j was t k b r n) (sym e) q
+
+-- what is left over decides
+ended : (c : tie.After-left-over Inv-loop μ-loop) →
+    let j = job (start (c .before .before)) in
+    verdict (Supply (elementCount j) when c .left-over .result) ≡ verdict (elementsFaults j 0 (elements j) ++ leftFaults j)
+ended c =
+    let e = c .before in
+    let l = e .before in
+    let j = job (start l) in
+    ap (λ z. verdict (Supply (elementCount j) when z)) (c .left-over .ensures ∙ ap₂ (λ x y. ltb (l .loop .b) x || ltb (l .loop .r) y) (bases-are l) (rubies-are l))
+    ∙ loop.ends (baseCount j) (rubyCount j) j (elementCount j) (l .loop .k) (l .loop .b) (l .loop .r) (l .loop .u) (omega (arith, e .loop-test .left, elements-are l)) (l .loop .inv .along)
+    ∙ ap verdict (walk.own-all j)
 
 left-over-requires : tie.Need-left-over-requires Inv-loop μ-loop
 left-over-requires c κs = search needs
 
 cast-t37 : tie.Need-cast-t37 Inv-loop μ-loop
-cast-t37 c = ?
+cast-t37 c =
+    let l = c .before .before .before in
+    omega (arith, elements-are l, l .loop .inv .ready .fewElements)
 
 same-length-3 : tie.Need-same-length-3 Inv-loop μ-loop
-same-length-3 c = ?
+same-length-3 c = c .before .before .before .loop .inv .long
 
 returns-3 : tie.Need-returns-3 Inv-loop μ-loop
-returns-3 c = ?
+returns-3 c =
+    let lo = c .before in
+    let l = lo .before .before in
+    let j = job (start l) in (
+      ap (λ n. Refused (Supply n)) (elements-are l) ∙ subst (λ z. verdict (Supply (elementCount j) when z) ≡ verdict (elementsFaults j 0 (elements j) ++ leftFaults j)) (c .if3 .taken) (ended lo),
+      λ e. absurd (refused-passed e),
+    )
 
 same-length-4 : tie.Need-same-length-4 Inv-loop μ-loop
-same-length-4 c = ?
+same-length-4 c = c .before .before .before .loop .inv .long
 
 returns-4 : tie.Need-returns-4 Inv-loop μ-loop
-returns-4 c = ?
+returns-4 c =
+    let lo = c .before in
+    let e = lo .before in
+    let l = e .before in
+    let j = job (start l) in (
+      subst (λ z. verdict (Supply (elementCount j) when z) ≡ verdict (elementsFaults j 0 (elements j) ++ leftFaults j)) (c .if3 .left) (ended lo),
+      λ _. walk.walking-end j (start l .args .t .now) (l .loop .t) (l .loop .k) (l .loop .b) (l .loop .r) (l .loop .u) (l .loop .inv) (omega (arith, e .loop-test .left, elements-are l)),
+    )
 
 pub layout-spec : {M : Type 1} → statement M
 layout-spec =

@@ -140,11 +140,13 @@ loop-again c =
     let x = a .args in
     let q = l .loop .inv in
     let row = run-row (job a) (x .p) (x .w) (x .ends) (l .loop .i) (l .loop .at) (runAt (job a) (x .p) (l .loop .i - x .p .base)) (w .run-width .result) (west .is-western .result)
-        (a .pre .0) (q .2) refl (wide w) (west .is-western .ensures) in
-    (omega (arith, q .0), omega (arith, i .loop-test .taken),
-    c .past-run .ensures ∙ past-run (job a) (x .p) (l .loop .i - x .p .base) (l .loop .at) _ (w .run-width .result) (q .2) refl (wide w) ∙ cursor-next (job a) (x .p) (l .loop .i) (q .0),
-    filled-more (rowBy (job a) (x .p) (x .w) (x .ends) 0 0) (x .p .base) (l .loop .i) (x .t .now) (l .loop .t) (put .put-cell .last .0) (q .0) (q .3)
-    (subst (λ r. Puts (l .loop .t) (l .loop .i) r (put .put-cell .last .0)) (made .run-row .ensures ∙ row) (put .put-cell .ensures)))
+    (a .pre .0) (q .2) refl (wide w) (west .is-western .ensures) in (
+      omega (arith, q .0),
+      omega (arith, i .loop-test .taken),
+      c .past-run .ensures ∙ past-run (job a) (x .p) (l .loop .i - x .p .base) (l .loop .at) _ (w .run-width .result) (q .2) refl (wide w) ∙ cursor-next (job a) (x .p) (l .loop .i) (q .0),
+      filled-more (rowBy (job a) (x .p) (x .w) (x .ends) 0 0) (x .p .base) (l .loop .i) (x .t .now) (l .loop .t) (put .put-cell .last .0) (q .0) (q .3)
+          (subst (λ r. Puts (l .loop .t) (l .loop .i) r (put .put-cell .last .0)) (made .run-row .ensures ∙ row) (put .put-cell .ensures)),
+    )
 
 same-length : tie.Need-same-length Inv-loop μ-loop
 same-length c = c .before .loop .inv .3 .long
