@@ -1,5 +1,5 @@
 -- The index of a line's first element in the job, which the account needs to name elements by their index.
-use mathlib.Core.Path.{_≡_, refl, ap, ap₂, _∙_, subst}
+use mathlib.Core.Path.{_≡_, refl, sym, ap, ap₂, _∙_, subst}
 use mathlib.Core.Bool.{Bool}
 use mathlib.Core.List.{List, [], _∷_, _++_, append-nil}
 use Prim.Native.Nat.{ℕ, _+_, _≤_, _<_}
@@ -11,7 +11,7 @@ use Rattle.basics.specs.Lists.{keep, All}
 use Rattle.basics.specs.Laws.{all-map}
 use Rattle.door.specs.declared.Piece.{Piece}
 use Rattle.door.specs.Job.{Job, baseCount, elements}
-use Rattle.door.specs.Passed.{Passed, BaseTiled}
+use Rattle.door.specs.Passed.{GoodElement, Passed, BaseTiled}
 use Rattle.job.specs.Laws.{keep-append}
 use Rattle.job.specs.Pieces.{tiled-ends, tiled-starts, tiled-split}
 
@@ -56,3 +56,8 @@ module _ (job : Job) (door : Passed job) (front : List Piece) (x : Piece) (rest 
 pub first-end : (job : Job) → Passed job → firstIn job (baseCount job) ≡ length (elements job)
 unfolding firstIn
 first-end job door = ap length (keeps-all (baseCount job) (elements job) (tiled-ends (λ p. p .base) (λ p. p .bases) 0 (baseCount job) (elements job) (door .tiled)))
+
+-- and before the first one none
+pub first-none : (job : Job) → Passed job → 0 ≡ firstIn job 0
+unfolding firstIn
+first-none job door = ap length (sym (keeps-none 0 (elements job) (all-map (GoodElement job) (λ y. 0 < y .base + y .bases) (elements job) (λ y g. omega (arith, g .counts .some)) (door .each))))

@@ -213,8 +213,8 @@ module _ (job : Job) (door : Passed job) (t : List ℕ) (table : Holds job t) (s
           let none = tell.count-none job s (x .base) empty in
           let first = first-in job door (v .front) x (v .rest) (v .split) s (v .from) (v .ahead) in
           let j = on (v .front) x (v .rest) (v .split) s (over s (x .base) (v .from)) (v .ahead) l (omega (arith, none, first)) (e - s - 1)
-              (λ h k. walks (v .front ++ (x ∷ [])) (v .rest) (v .split ∙ sym (append-snoc (v .front) x (v .rest))) (x .base + x .bases) (v .tiled)
-              (omega (arith, v .ahead)) h u (k ∙ sym (length-append (v .front) (x ∷ []))) (e - s - 1) (omega (arith, v .ahead))) in
+          (λ h k. walks (v .front ++ (x ∷ [])) (v .rest) (v .split ∙ sym (append-snoc (v .front) x (v .rest))) (x .base + x .bases) (v .tiled)
+          (omega (arith, v .ahead)) h u (k ∙ sym (length-append (v .front) (x ∷ []))) (e - s - 1) (omega (arith, v .ahead))) in
           record {
             rows =
                 ap₂ (λ n c. rowsFrom (job .em) t (firstIn job s) n c start nothing s e) (one s e l) (sym none)

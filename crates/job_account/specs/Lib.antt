@@ -7,3 +7,6 @@ pub mod Line
 pub mod Lines
 pub mod Walk
 pub mod Join
+pub mod Cases
+pub mod Accepted
+pub mod Outcome

@@ -1,6 +1,6 @@
 // Why each gap of a job's lines is as wide as it is: the account of each piece of each line of an accepted job (specs/Theorems.antt), by the rows of the job's table. It walks
-// a line's pieces as the filling and the writing do, and asks `account` for what holds each where it stands. It relies on `door` for a job without faults of its own, on `layout`
-// for the table, on `filling` for the lines' ends and extents, on `cells` for pieces and places, and on `job` for what all this means.
+// a line's pieces as the filling and the writing do, and asks `account` for what holds each where it stands. It relies on `engine` for the table of a job without faults and for
+// its lines' ends and extents, on `cells` for pieces and places, and on `job` for what all this means.
 ghost use mathlib.Core.Path.{_≡_};
 ghost use Prim.Native.Nat.{_+_, _*_, _/_, _^_, _≤_, _<_, min};
 ghost use lib.ListN.{length, take};
@@ -12,6 +12,7 @@ ghost use Rattle.job_account.specs.Rows.{otherFrom, row};
 ghost use Rattle.job_account.specs.Table.{toldAt, lineRows, behind, first, rowsBy, countsBy};
 ghost use Rattle.job_account.specs.Line.{LineReady};
 ghost use Rattle.job_account.specs.Walk.{LinesReady};
+ghost use Rattle.job_account.specs.Outcome.{Telling, telling};
 
 // The account of a piece and where its block starts, with the line's state and what stands once it is set.
 pub struct Told {
@@ -36,7 +37,8 @@ pub fn tell_piece(
 {
     let a = cells::cell_at(t, i);
     let step = cells::advance(t, i, c, em, st);
-    let e = cells::element_of(step.word, a.before, a.after);
+    let w: word::Word = step.word;
+    let e = cells::element_of(w, a.before, a.after);
     let at = step.at;
     let next = step.st;
     let told = account::account_of(j, b, e, at);
@@ -119,14 +121,7 @@ pub fn tell_line(t: &[u32], s: usize, e: usize, em: u32, from: Place, out: &mut 
 
 // The accounts of n lines that end where the front of `ends` says: in `rows` six numbers for each piece, in `told` for each line the count of pieces up to its end. Entries
 // that are not used stay as they were.
-pub fn tell_lines(
-    t: &[u32],
-    n: usize,
-    ends: &[u32],
-    em: u32,
-    rows: &mut [u32],
-    told: &mut [u32],
-)
+pub fn tell_lines(t: &[u32], n: usize, ends: &[u32], em: u32, rows: &mut [u32], told: &mut [u32])
     requires { ⌜ LinesReady em (now t) n (now ends) (now rows) (now told) ⌝ }
     ensures { λ _. let u = now (t .entry) in let es = take n (now (ends .entry)) in ⌜ (now (rows .exit) ≡ sets (now (rows .entry)) 0 (rowsBy em u first 0 es)) × (now (told .exit) ≡ sets (now (told .entry)) 0 (countsBy u first 0 es)) ⌝ }
 {
@@ -161,3 +156,59 @@ fn room_of(rows: usize, told: usize, extents: usize) -> usize
     door::fewer(rows / 6, door::fewer(told, extents))
 }
 
+// The account of a job: the checks and refusals of the setting, and for an accepted job in `rows` and `told` what `tell_lines` has of its lines, and in `extents` how long each
+// of them is. Nothing is asked of the caller; a list that is too short is refused as a result list is (12), and no list is altered by a refusal. The answer is
+// the number of lines.
+pub fn account_job(
+    em: u32,
+    measure: u32,
+    class: &[u32],
+    width: &[u32],
+    before: &[u32],
+    after: &[u32],
+    flag: &[u32],
+    rclass: &[u32],
+    rwidth: &[u32],
+    kind: &[u32],
+    ebase: &[u32],
+    eruby: &[u32],
+    runs: &[u32],
+    rows: &mut [u32],
+    told: &mut [u32],
+    extents: &mut [u32],
+) -> job::Answer
+    ensures { λ r. ⌜ _≡_ {A = Telling} (record { answer = r; rows = now (rows .exit); told = now (told .exit); extents = now (extents .exit) }) (telling (jobOf em measure (now (class .entry)) (now (width .entry)) (now (before .entry)) (now (after .entry)) (now (flag .entry)) (now (rclass .entry)) (now (rwidth .entry)) (now (kind .entry)) (now (ebase .entry)) (now (eruby .entry)) (now (runs .entry))) (now (rows .entry)) (now (told .entry)) (now (extents .entry))) ⌝ }
+{
+    let room = room_of(rows.len(), told.len(), extents.len());
+    let mut t = [0; 19456];
+    let mut ends = [0; 1024];
+    let mut found = [0; 1024];
+    match engine::fill_job(
+        &mut t,
+        &mut ends,
+        &mut found,
+        em,
+        measure,
+        class,
+        width,
+        before,
+        after,
+        flag,
+        rclass,
+        rwidth,
+        kind,
+        ebase,
+        eruby,
+        runs,
+        1024,
+        2048,
+        room,
+    ) {
+        filling::Lines::Refused(why) => job::Answer::Refused(why),
+        filling::Lines::Filled(n) => {
+            tell_lines(&t, n, &ends, em, rows, told);
+            put_extents(n, &found, extents);
+            job::Answer::Set(n)
+        }
+    }
+}

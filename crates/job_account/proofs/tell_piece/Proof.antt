@@ -28,7 +28,7 @@ pass-requires c κs = search needs
 returns : tie.Need-returns
 returns c =
     let n = c .before .before .before in
-    let d = n .before .before in
+    let d = n .before .before .before in
     let a = d .before .before .before .args in
     let is : n .before .element-of .result ≡ piece (a .em) (a .t .now) (a .i) (a .c) = n .before .element-of .ensures ∙ rw (d .advance .ensures, d .before .cell-at .ensures) in
     same (c .before .before .account-of .ensures ∙ rw (is, d .advance .ensures))

@@ -1,0 +1,44 @@
+-- The job of document 01's example sheet, with its accounts computed: six numbers for each piece, and for each line the count of pieces up to its end and the extent.
+use mathlib.Core.Path.{_≡_, refl}
+use mathlib.Core.List.{List, [], _∷_}
+use Prim.Native.Nat.{ℕ}
+use Rattle.line.specs.Setting.{origin, settleFrom}
+use Rattle.door.specs.Job.{Job}
+use Rattle.job.specs.Line.{lineOf, origins, ends}
+use Rattle.account.specs.Reasons.{beside, neighbour, rubies, reason}
+use Rattle.job_account.specs.Lines.{accounts, counts, extents}
+
+-- `M 3`, `P`, `J 2 1 2` in a measure of 35
+abbrev example : Job
+example =
+    record {
+      em = 10;
+      measure = 35;
+      class = 19 ∷ 15 ∷ 19 ∷ 19 ∷ [];
+      width = 10 ∷ 10 ∷ 10 ∷ 10 ∷ [];
+      before = 0 ∷ 0 ∷ 0 ∷ 0 ∷ [];
+      after = 0 ∷ 0 ∷ 0 ∷ 0 ∷ [];
+      flag = 1 ∷ 1 ∷ 1 ∷ 1 ∷ [];
+      rubyClass = 15 ∷ 15 ∷ 15 ∷ 15 ∷ 15 ∷ 15 ∷ [];
+      rubyWidth = 5 ∷ 5 ∷ 5 ∷ 5 ∷ 5 ∷ 5 ∷ [];
+      kind = 77 ∷ 80 ∷ 74 ∷ [];
+      elementBase = 1 ∷ 1 ∷ 2 ∷ [];
+      elementRuby = 3 ∷ 0 ∷ 0 ∷ [];
+      run = 1 ∷ 2 ∷ [];
+    }
+
+abbrev told : List ℕ
+told =
+    -- the first word's ruby stands at the line's start
+    0 ∷ 5 ∷ 5 ∷ 6 ∷ 0 ∷ 0
+    -- the P has no blank before, so that ruby keeps off it
+    ∷ 1 ∷ 30 ∷ 5 ∷ 3 ∷ 0 ∷ 0
+    -- the J's first character touches the P
+    ∷ 2 ∷ 50 ∷ 0 ∷ 2 ∷ 1 ∷ 0
+    -- its second begins the next line
+    ∷ 2 ∷ 0 ∷ 0 ∷ 1 ∷ 0 ∷ 0
+    ∷ []
+
+pub right : (accounts example ≡ told) × (counts example ≡ (3 ∷ 4 ∷ [])) × (extents example ≡ (70 ∷ 20 ∷ []))
+unfolding accounts counts extents ends lineOf origins settleFrom origin beside neighbour rubies reason
+right = (refl, refl, refl)

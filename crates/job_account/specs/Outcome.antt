@@ -1,0 +1,131 @@
+-- The account of a job in lists: the answer, and the lists after it. The checks and the refusals are those of the setting.
+use mathlib.Core.Path.{_≡_, refl, sym, ap, _∙_}
+use mathlib.Core.List.{List, [], _∷_, _++_}
+use mathlib.Core.Option.{Option, none, some}
+use Prim.Native.Nat.{ℕ, _+_, _*_, _/_, _≤_, _<_, min}
+use native.Mathlib.Omega.{arith}
+use lib.ListN.{length, take, drop, length-take, length-append}
+use lib.Seq.{sets}
+use Rattle.refusal.specs.declared.Refusal.{Refusal}
+use Rattle.door.specs.Job.{Job, baseCount}
+use Rattle.door.specs.Verdict.{verdict}
+use Rattle.job.specs.declared.Answer.{Answer}
+use Rattle.job.specs.declared.Answer.the-variants.{Set, Refused}
+use Rattle.job.specs.Line.{ends}
+use Rattle.job.specs.Refusals.{faults, fault}
+use Rattle.job.specs.Promise.{Chain, Filled}
+use Rattle.job.specs.Filled.{chain-few}
+use Rattle.job.specs.Declined.{filled}
+use Rattle.filling.specs.Lines.{extentsOf, length-extents}
+use Rattle.join.specs.Join.{sound}
+use Rattle.engine.specs.Fault as fault
+use Rattle.engine.specs.Filled.{Full}
+use Rattle.job_account.specs.First.{first-none}
+use Rattle.job_account.specs.Table.{first, rowsBy, countsBy}
+use Rattle.job_account.specs.Lines.{accounts, counts, extents, LinesTold}
+use Rattle.job_account.specs.Walk.{Chained, LinesReady}
+use Rattle.job_account.specs.Join as join
+
+pub record Telling : Type 0 where
+  pub answer : Answer
+  pub rows : List ℕ
+  pub told : List ℕ
+  pub extents : List ℕ
+
+-- for how many base characters the lists have room: a piece takes six numbers, a line one and one, and each has a base character of its own
+abbrev pub room : List ℕ → List ℕ → List ℕ → ℕ
+room rows told wide = min (length rows / 6) (min (length told) (length wide))
+
+-- "None of them is altered by a refusal"; on success entries past those used stay as they were
+unfoldable pub tellingBy : Job → List ℕ → List ℕ → List ℕ → Option Refusal → Telling
+unfolding ends accounts counts extents
+tellingBy job rows told wide (some r) = record { answer = Refused r; rows = rows; told = told; extents = wide }
+tellingBy job rows told wide none =
+    record { answer = Set (length (ends job)); rows = sets rows 0 (accounts job); told = sets told 0 (counts job); extents = sets wide 0 (extents job) }
+
+-- "a result list too short" is number 12 here too, in its turn; positions are not asked for, so those lists are as long as can be
+unfoldable pub telling : Job → List ℕ → List ℕ → List ℕ → Telling
+unfolding tellingBy fault
+telling job rows told wide = tellingBy job rows told wide (fault job 1024 2048 (room rows told wide))
+
+-- lines of the job are lines of its table
+chained : (job : Job) (s : ℕ) (es : List ℕ) (d : ℕ) → Chain job s es d → Chained (baseCount job) s es
+chained job s [] d c = tt
+chained job s (e ∷ es) d c = let a = c .0 .at in (a .ahead, a .within, chained job e es d (c .1))
+
+take-front : (xs ys : List ℕ) → take (length xs) (xs ++ ys) ≡ xs
+take-front [] ys = refl
+take-front (x ∷ xs) ys = ap (λ (l : List ℕ). x ∷ l) (take-front xs ys)
+
+module _ (job : Job) (rows told wide : List ℕ) (m : ℕ) (is : m ≡ room rows told wide) where
+  -- the first refusal of all
+  pub refused : {q : Refusal} → fault job 1024 2048 m ≡ some q → _≡_ {A = Telling} (record { answer = Refused q; rows = rows; told = told; extents = wide }) (telling job rows told wide)
+  unfolding telling tellingBy
+  refused e = rw (← is, e)
+
+  -- a table that holds the job, and its n lines
+  module _ (wasFar t found far : List ℕ) (n : ℕ) (full : Full job 1024 2048 m wasFar t found far n) where
+    all : Filled job (ends job)
+    all = filled job (full .passed) (full .none)
+
+    few : n ≤ baseCount job
+    few = omega (arith, full .many, chain-few job 0 (baseCount job) (ends job) all)
+
+    -- the lists have room
+    long : (6 * baseCount job ≤ length rows) × (baseCount job ≤ length told) × (baseCount job ≤ length wide)
+    long =
+        let k = fault.long job 1024 2048 m (ap verdict (full .own)) .1 in
+        many (length rows) (length told) (length wide) (omega (arith, is, k))
+      where
+        many : (a b c : ℕ) → baseCount job ≤ min (a / 6) (min b c) → (6 * baseCount job ≤ a) × (baseCount job ≤ b) × (baseCount job ≤ c)
+        many a b c h = (omega arith, omega arith, omega arith)
+
+    pub ready : LinesReady (job .em) t n found rows told
+    ready =
+        record {
+          m = baseCount job;
+          sound = sound job (full .passed) t (full .holds);
+          held = omega (arith, full .many, ap length (full .is), length-take n found);
+          few = omega (arith, few, full .passed .fewBase);
+          lines = rw (full .is) (chained job 0 (ends job) (baseCount job) all);
+          room = long .0;
+          roomTold = omega (arith, few, long .1);
+        }
+
+    -- the extents that the filling found
+    abbrev far-are : List ℕ
+    far-are = extentsOf (job .em) t 0 (ends job)
+
+    many-are : n ≡ length (extentsOf (job .em) t 0 (ends job))
+    many-are = full .many ∙ sym (length-extents (job .em) t 0 (ends job))
+
+    pub room-extents : (n ≤ 1024) × (n ≤ length far) × (n ≤ length wide)
+    room-extents = (
+      omega (arith, few, full .passed .fewBase),
+      omega (arith, many-are, ap length (full .told), length-append far-are (drop (length far-are) wasFar)),
+      omega (arith, few, long .2),
+    )
+
+    front : take n far ≡ extentsOf (job .em) t 0 (ends job)
+    front = rw (many-are, full .told) (take-front far-are (drop (length far-are) wasFar))
+
+    -- all is told as the job's meaning has it
+    module _ (rows2 told2 wide2 : List ℕ)
+        (lines : (rows2 ≡ sets rows 0 (rowsBy (job .em) t first 0 (take n found))) × (told2 ≡ sets told 0 (countsBy t first 0 (take n found))))
+        (extent : wide2 ≡ sets wide 0 (take n far)) where
+      pub lines-told : LinesTold job rows told wide rows2 told2 wide2
+      unfolding accounts counts extents
+      lines-told =
+          record {
+            rows = lines .0 ∙ ap (sets rows 0) (ap (rowsBy (job .em) t first 0) (full .is) ∙ join.rows-join job (full .passed) t (full .holds) first 0 (ends job) (baseCount job) (first-none job (full .passed)) all);
+            counts = lines .1 ∙ ap (sets told 0) (ap (countsBy t first 0) (full .is) ∙ join.counts-join job (full .passed) t (full .holds) first 0 (ends job) (baseCount job) all);
+            extents = extent ∙ ap (sets wide 0) (front ∙ join.extents-join job (full .passed) t (full .holds) 0 (ends job) (baseCount job) all);
+          }
+
+      no-fault : fault job 1024 2048 m ≡ none
+      unfolding fault faults
+      no-fault = rw (full .own, full .none)
+
+      pub tells : _≡_ {A = Telling} (record { answer = Set n; rows = rows2; told = told2; extents = wide2 }) (telling job rows told wide)
+      unfolding telling tellingBy
+      tells = rw (← is, no-fault, full .many, lines-told .rows, lines-told .counts, lines-told .extents)
