@@ -1,33 +1,30 @@
 -- Where table and job meet: for a job that passed the door and a table that holds it, what is told by rows is the account of the job's lines. Element by element, what is told of
 -- the line before it and what its piece and those behind it add make up the whole.
 use mathlib.Core.Path.{_≡_, refl, sym, ap, ap₂, _∙_, subst}
-use mathlib.Core.Bool.{Bool, true, false, cond}
 use mathlib.Core.List.{List, [], _∷_, _++_, append-nil, append-assoc}
-use Prim.Native.Nat.{ℕ, zero, suc, _+_, _-_, _*_, _≤_, _<_, min, max}
+use Prim.Native.Nat.{ℕ, zero, suc, _+_, _-_, _≤_, _<_, min, max}
 use native.Mathlib.Omega.{arith}
 use native.Mathlib.Decide.{decLt}
 use borrow.Author.Tests.{lt-ltb, le-leb, lt-leb}
-use lib.ListN.{length, length-append, length-map}
+use lib.ListN.{length, length-append}
 use lib.Seq.{append-snoc}
-use Rattle.line.specs.declared.State.{State}
-use Rattle.line.specs.Setting.{start, origin, furthest}
-use Rattle.cells.specs.Cells.{cellAt, piece, next, stop, stateAt}
+use Rattle.line.specs.Setting.{start, furthest}
+use Rattle.cells.specs.Cells.{cellAt, piece, stop}
 use Rattle.door.specs.declared.Piece.{Piece}
 use Rattle.door.specs.Job.{Job, baseCount, elements}
 use Rattle.door.specs.Passed.{Passed, BaseTiled}
-use Rattle.job.specs.Line.{pieces, seen, lineOf, origins, extentOf, byLine}
+use Rattle.job.specs.Line.{pieces, seen, byLine}
 use Rattle.job.specs.Pieces.{IsElement, is-element, into, none-before}
 use Rattle.job.specs.Walk.{stateOf, state-more, state-none, extent-of}
 use Rattle.job.specs.Promise.{Chain}
-use Rattle.account.specs.declared.Before.{Before}
-use Rattle.account.specs.Step.{standing, nothing}
+use Rattle.account.specs.Step.{nothing}
 use Rattle.filling.specs.Lines.{extentsOf}
 use Rattle.join.specs.Rows.{upto, Holds}
 use Rattle.join.specs.Join as join
 use Rattle.job_account.specs.declared.Told.{Told}
 use Rattle.job_account.specs.declared.Place.{Place}
 use Rattle.job_account.specs.First.{firstIn, first-in, first-end}
-use Rattle.job_account.specs.Rows.{row, startIn, rowIn, rowsUpto, rowsIn}
+use Rattle.job_account.specs.Rows.{row, startIn, rowIn, rowsIn}
 use Rattle.job_account.specs.Theorems.{accountIn}
 use Rattle.job_account.specs.Tell.{countIn, standingIn}
 use Rattle.job_account.specs.Tell as tell

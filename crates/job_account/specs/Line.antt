@@ -1,11 +1,10 @@
 -- One line: what is written of its accounts so far and what is left to write make up the whole.
 use mathlib.Core.Path.{_≡_, refl, sym, ap, _∙_, subst}
 use mathlib.Core.Bool.{Bool, true, false, cond, _&&_}
-use mathlib.Core.List.{List, [], _∷_, _++_}
-use Prim.Native.Nat.{ℕ, zero, suc, _+_, _-_, _*_, _^_, _≤_, _<_, max, zero-le}
+use mathlib.Core.List.{List, [], _++_}
+use Prim.Native.Nat.{ℕ, zero, suc, _+_, _-_, _*_, _^_, _≤_, _<_, zero-le}
 use native.Mathlib.Nat.{add-zero}
 use native.Mathlib.Omega.{arith}
-use native.Mathlib.Decide.{decLt}
 use borrow.Author.Tests.{lt-ltb, le-ltb, le-leb, lt-leb}
 use lib.Dec.{eqb, leb, ltb}
 use lib.ListN.{length}
@@ -15,7 +14,7 @@ use Rattle.line.specs.declared.Element.{Element}
 use Rattle.line.specs.declared.State.{State}
 use Rattle.line.specs.Rules.{blockOf, rubyOf}
 use Rattle.line.specs.Setting.{start, origin, furthest}
-use Rattle.cells.specs.Cells.{cellAt, piece, next, stop, Advances}
+use Rattle.cells.specs.Cells.{cellAt, piece, stop, Advances}
 use Rattle.cells.specs.Sound.{Sound, advances}
 use Rattle.cells.specs.Walk.{next-near}
 use Rattle.account.specs.declared.Before.{Before}

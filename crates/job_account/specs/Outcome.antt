@@ -2,7 +2,7 @@
 use mathlib.Core.Path.{_≡_, refl, sym, ap, _∙_}
 use mathlib.Core.List.{List, [], _∷_, _++_}
 use mathlib.Core.Option.{Option, none, some}
-use Prim.Native.Nat.{ℕ, _+_, _*_, _/_, _≤_, _<_, min}
+use Prim.Native.Nat.{ℕ, _*_, _/_, _≤_, min}
 use native.Mathlib.Omega.{arith}
 use lib.ListN.{length, take, drop, length-take, length-append}
 use lib.Seq.{sets}
@@ -93,21 +93,21 @@ module _ (job : Job) (rows told wide : List ℕ) (m : ℕ) (is : m ≡ room rows
         }
 
     -- the extents that the filling found
-    abbrev far-are : List ℕ
-    far-are = extentsOf (job .em) t 0 (ends job)
+    abbrev lengths : List ℕ
+    lengths = extentsOf (job .em) t 0 (ends job)
 
-    many-are : n ≡ length (extentsOf (job .em) t 0 (ends job))
-    many-are = full .many ∙ sym (length-extents (job .em) t 0 (ends job))
+    many-lengths : n ≡ length (extentsOf (job .em) t 0 (ends job))
+    many-lengths = full .many ∙ sym (length-extents (job .em) t 0 (ends job))
 
     pub room-extents : (n ≤ 1024) × (n ≤ length far) × (n ≤ length wide)
     room-extents = (
       omega (arith, few, full .passed .fewBase),
-      omega (arith, many-are, ap length (full .told), length-append far-are (drop (length far-are) wasFar)),
+      omega (arith, many-lengths, ap length (full .told), length-append lengths (drop (length lengths) wasFar)),
       omega (arith, few, long .2),
     )
 
     front : take n far ≡ extentsOf (job .em) t 0 (ends job)
-    front = rw (many-are, full .told) (take-front far-are (drop (length far-are) wasFar))
+    front = rw (many-lengths, full .told) (take-front lengths (drop (length lengths) wasFar))
 
     -- all is told as the job's meaning has it
     module _ (rows2 told2 wide2 : List ℕ)
@@ -117,7 +117,10 @@ module _ (job : Job) (rows told wide : List ℕ) (m : ℕ) (is : m ≡ room rows
       unfolding accounts counts extents
       lines-told =
           record {
-            rows = lines .0 ∙ ap (sets rows 0) (ap (rowsBy (job .em) t first 0) (full .is) ∙ join.rows-join job (full .passed) t (full .holds) first 0 (ends job) (baseCount job) (first-none job (full .passed)) all);
+            rows =
+                lines .0
+                ∙ ap (sets rows 0) (ap (rowsBy (job .em) t first 0) (full .is)
+                ∙ join.rows-join job (full .passed) t (full .holds) first 0 (ends job) (baseCount job) (first-none job (full .passed)) all);
             counts = lines .1 ∙ ap (sets told 0) (ap (countsBy t first 0) (full .is) ∙ join.counts-join job (full .passed) t (full .holds) first 0 (ends job) (baseCount job) all);
             extents = extent ∙ ap (sets wide 0) (front ∙ join.extents-join job (full .passed) t (full .holds) 0 (ends job) (baseCount job) all);
           }

@@ -15,10 +15,9 @@ use Rattle.cells.specs.Cells.{cellAt, stop}
 use Rattle.cells.specs.Sound.{Sound}
 use Rattle.account.specs.declared.Before.{Before}
 use Rattle.account.specs.Step.{nothing}
-use Rattle.job_account.specs.declared.Told.{Told}
 use Rattle.job_account.specs.declared.Place.{Place}
 use Rattle.job_account.specs.Rows.{row}
-use Rattle.job_account.specs.Table.{toldAt, rowsFrom, lineRows, piecesFrom, piecesIn, endedIn, first, behind, rowsBy, countsBy}
+use Rattle.job_account.specs.Table.{toldAt, rowsFrom, lineRows, piecesFrom, piecesIn, first, behind, rowsBy, countsBy}
 use Rattle.job_account.specs.Line.{LineReady, pieces-few, ended-few}
 
 -- lines from s on, one after the other in m rows

@@ -1,9 +1,8 @@
 -- What was found, by its two cases: the first refusal of all, where no list has been lent to anything yet, or a table and lines, whose account is told.
-use mathlib.Core.Path.{_≡_, sym, _∙_, subst}
+use mathlib.Core.Path.{_≡_, subst}
 use mathlib.Core.List.{List}
 use Prim.Native.Nat.{ℕ}
 use borrow.Author.Needs.{needs}
-use native.Mathlib.Omega.{arith}
 use Rattle.door.specs.Job.{Job, jobOf}
 use Rattle.filling.specs.declared.Lines.{Lines}
 use Rattle.engine.specs.Filled.{Fills}
@@ -24,10 +23,20 @@ start c = c .before .before .before .before .before .before .before .before .bef
 abbrev room : tie.After-fill-job → ℕ
 room c = c .before .before .before .before .room-of .result
 
+-- the table, and the ends and extents of its lines
+abbrev table : tie.After-fill-job → List ℕ
+table c = c .fill-job .last .0
+
+abbrev ends : tie.After-fill-job → List ℕ
+ends c = c .fill-job .last .1 .0
+
+abbrev extents : tie.After-fill-job → List ℕ
+extents c = c .fill-job .last .1 .1 .0
+
 -- what was found
 told : (c : tie.After-fill-job) {r : Lines} → c .fill-job .result ≡ r →
-    (was : List ℕ) × Fills (job (start c)) 1024 2048 (room c) was (c .fill-job .last .0) (c .fill-job .last .1 .0) (c .fill-job .last .1 .1 .0) r
-told c e = (_, subst (Fills (job (start c)) 1024 2048 (room c) _ (c .fill-job .last .0) (c .fill-job .last .1 .0) (c .fill-job .last .1 .1 .0)) e (c .fill-job .ensures))
+    (was : List ℕ) × Fills (job (start c)) 1024 2048 (room c) was (table c) (ends c) (extents c) r
+told c e = (_, subst (Fills (job (start c)) 1024 2048 (room c) _ (table c) (ends c) (extents c)) e (c .fill-job .ensures))
 
 room-of-requires : tie.Need-room-of-requires
 room-of-requires c κs = search needs
@@ -62,8 +71,8 @@ tell-lines-requires c κs =
     let f = n .before .before .before .before .before in
     let x = start f .args in
     let w = told f (n .n .given .1) in
-    outcome.ready (job (start f)) (x .rows .now) (x .told .now) (x .extents .now) (room f) (f .before .before .before .before .room-of .ensures) (w .0) (f .fill-job .last .0) (f .fill-job .last .1 .0)
-    (f .fill-job .last .1 .1 .0) (n .n .given .0 .0) (w .1)
+    outcome.ready (job (start f)) (x .rows .now) (x .told .now) (x .extents .now) (room f) (f .before .before .before .before .room-of .ensures) (w .0)
+    (table f) (ends f) (extents f) (n .n .given .0 .0) (w .1)
 
 slice-aggregate-put-extents : tie.Need-slice-aggregate-put-extents
 slice-aggregate-put-extents c = search needs
@@ -74,8 +83,8 @@ put-extents-requires c κs =
     let f = n .before .before .before .before .before in
     let x = start f .args in
     let w = told f (n .n .given .1) in
-    outcome.room-extents (job (start f)) (x .rows .now) (x .told .now) (x .extents .now) (room f) (f .before .before .before .before .room-of .ensures) (w .0) (f .fill-job .last .0) (f .fill-job .last .1 .0)
-    (f .fill-job .last .1 .1 .0) (n .n .given .0 .0) (w .1)
+    outcome.room-extents (job (start f)) (x .rows .now) (x .told .now) (x .extents .now) (room f) (f .before .before .before .before .room-of .ensures) (w .0)
+    (table f) (ends f) (extents f) (n .n .given .0 .0) (w .1)
 
 returns : tie.Need-returns
 returns c =
@@ -100,8 +109,8 @@ returns-2 c =
     let f = n .before .before .before .before .before in
     let x = start f .args in
     let w = told f (n .n .given .1) in
-    outcome.tells (job (start f)) (x .rows .now) (x .told .now) (x .extents .now) (room f) (f .before .before .before .before .room-of .ensures) (w .0) (f .fill-job .last .0) (f .fill-job .last .1 .0)
-    (f .fill-job .last .1 .1 .0) (n .n .given .0 .0) (w .1) _ _ _ (q .tell-lines .ensures) (p .put-extents .ensures)
+    outcome.tells (job (start f)) (x .rows .now) (x .told .now) (x .extents .now) (room f) (f .before .before .before .before .room-of .ensures) (w .0)
+    (table f) (ends f) (extents f) (n .n .given .0 .0) (w .1) _ _ _ (q .tell-lines .ensures) (p .put-extents .ensures)
 
 pub account-job-spec : {M : Type 1} → statement M
 account-job-spec =

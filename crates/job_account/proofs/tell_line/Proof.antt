@@ -1,3 +1,5 @@
+-- Before each piece, what is written and what the pieces from there on add make up the whole line; a piece writes its row. Behind the line's end the count of pieces says
+-- where the walk stands: an element more for each, but for a J that the end cuts.
 use mathlib.Core.Path.{_≡_, ap, _∙_}
 use Prim.Native.Nat.{_+_, _-_, _≤_}
 use Rattle.cells.specs.declared.Cell.{Cell}
@@ -131,8 +133,10 @@ same-length-2 c = c .before .before .before .before .loop .inv .long
 
 returns-2 : tie.Need-returns-2 Inv-loop μ-loop
 returns-2 c =
-    let l = c .before .before .before in
-    (one.at-end (entry (l .before) .pre) (l .before .loop .inv) (omega (arith, l .loop-test .left, c .before .if1 .left)), one.told-all (entry (l .before) .pre) (l .before .loop .inv) (l .loop-test .left))
+    let l = c .before .before .before in (
+      one.at-end (entry (l .before) .pre) (l .before .loop .inv) (omega (arith, l .loop-test .left, c .before .if1 .left)),
+      one.told-all (entry (l .before) .pre) (l .before .loop .inv) (l .loop-test .left),
+    )
 
 pub tell-line-spec : {M : Type 1} → statement M
 tell-line-spec =
