@@ -252,7 +252,7 @@ pub fn part_upto(t: &[u32], i: usize, c: usize, em: u32) -> word::Word
 }
 
 // A word as a line sees it.
-fn element_of(w: word::Word, before: u32, after: u32) -> line::Element
+pub fn element_of(w: word::Word, before: u32, after: u32) -> line::Element
     ensures { λ e. ⌜ e ≡ elementOf w before after ⌝ }
 {
     line::Element {
