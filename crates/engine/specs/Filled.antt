@@ -16,6 +16,8 @@ use Rattle.door.specs.Refusals.{jobFaults, charFaults, elementsFaults, leftFaul
 use Rattle.door.specs.Verdict.{verdict, passed-none, append-none, front-refused, front-passed}
 use Rattle.door.specs.Passed.{Passed, limits, base-good, ruby-good}
 use Rattle.door.specs.Whole.{ahead}
+use Rattle.job.specs.declared.Answer.{Answer}
+use Rattle.job.specs.declared.Answer.the-variants as answer
 use Rattle.job.specs.Line.{ends}
 use Rattle.job.specs.Refusals.{linesFaults, fault}
 use Rattle.join.specs.Rows.{Holds}
@@ -47,6 +49,11 @@ pub record Full (job : Job) (base ruby lines : ℕ) (wasFar t found far : List �
 abbrev pub Fills : Job → ℕ → ℕ → ℕ → List ℕ → List ℕ → List ℕ → List ℕ → Lines → Type 0
 Fills job base ruby lines wasFar t found far (filling.Refused q) = fault job base ruby lines ≡ some q
 Fills job base ruby lines wasFar t found far (filling.Filled k) = Full job base ruby lines wasFar t found far k
+
+-- what a table and its lists keep of an accepted job
+abbrev pub Keeps : Job → ℕ → ℕ → ℕ → List ℕ → List ℕ → List ℕ → List ℕ → Answer → Type 0
+Keeps job base ruby lines wasFar t found far (answer.Refused q) = Unit
+Keeps job base ruby lines wasFar t found far (answer.Set n) = Full job base ruby lines wasFar t found far n
 
 -- no character's refusal depends on the runs
 pub any-runs : (job : Job) (base ruby lines : ℕ) →

@@ -5,7 +5,7 @@ ghost use mathlib.Core.Path.{_≡_};
 ghost use lib.ListN.{length};
 ghost use Rattle.door.specs.Job.{jobOf};
 ghost use Rattle.job.specs.Outcome.{Outcome, outcome};
-ghost use Rattle.engine.specs.Filled.{Room, Fills};
+ghost use Rattle.engine.specs.Filled.{Room, Fills, Keeps};
 
 // The job's table, and the ends and extents of its lines, at the front of lent lists; or the first refusal of all. `base`, `ruby` and `lines` are the lengths of the
 // result lists.
@@ -75,8 +75,8 @@ pub fn fill_job(
     filling::fill_lines(t, n, ends, extents, em, 2 * measure)
 }
 
-// The job set by a table and lists of this size.
-fn set_by(
+// The job set by a table and lists of this size, which keep its rows, and the ends and extents of its lines.
+pub fn set_table(
     t: &mut [u32],
     ends: &mut [u32],
     extents: &mut [u32],
@@ -99,6 +99,7 @@ fn set_by(
 ) -> job::Answer
     requires { let job = jobOf em measure (now class) (now width) (now before) (now after) (now flag) (now rclass) (now rwidth) (now kind) (now ebase) (now eruby) (now runs) in ⌜ Room job (now t) (now ends) (now extents) ⌝ }
     ensures { λ r. let job = jobOf em measure (now (class .entry)) (now (width .entry)) (now (before .entry)) (now (after .entry)) (now (flag .entry)) (now (rclass .entry)) (now (rwidth .entry)) (now (kind .entry)) (now (ebase .entry)) (now (eruby .entry)) (now (runs .entry)) in ⌜ _≡_ {A = Outcome} (record { answer = r; base = now (base .exit); ruby = now (ruby .exit); lines = now (lines .exit) }) (outcome job (now (base .entry)) (now (ruby .entry)) (now (lines .entry))) ⌝ }
+    ensures { λ r. let job = jobOf em measure (now (class .entry)) (now (width .entry)) (now (before .entry)) (now (after .entry)) (now (flag .entry)) (now (rclass .entry)) (now (rwidth .entry)) (now (kind .entry)) (now (ebase .entry)) (now (eruby .entry)) (now (runs .entry)) in ⌜ Keeps job (length (now (base .entry))) (length (now (ruby .entry))) (length (now (lines .entry))) (now (extents .entry)) (now (t .exit)) (now (ends .exit)) (now (extents .exit)) r ⌝ }
 {
     match fill_job(
         t,
@@ -157,7 +158,7 @@ pub fn set_job(
         let mut t = [0; 2432];
         let mut ends = [0; 128];
         let mut extents = [0; 128];
-        return set_by(
+        return set_table(
             &mut t,
             &mut ends,
             &mut extents,
@@ -182,7 +183,7 @@ pub fn set_job(
     let mut t = [0; 19456];
     let mut ends = [0; 1024];
     let mut extents = [0; 1024];
-    set_by(
+    set_table(
         &mut t,
         &mut ends,
         &mut extents,

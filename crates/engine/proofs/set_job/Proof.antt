@@ -12,24 +12,24 @@ job a =
     let x = a .args in
     jobOf (x .em) (x .measure) (x .class .now) (x .width .now) (x .before .now) (x .after .now) (x .flag .now) (x .rclass .now) (x .rwidth .now) (x .kind .now) (x .ebase .now) (x .eruby .now) (x .runs .now)
 
-small : (c : tie.After-set-by-arg3) → baseCount (job (c .before .before .before .before .before .before .before .before .before .before .before .before .before .before .before .before .before .before .before .before .before .before)) ≤ 128
+small : (c : tie.After-set-table-arg3) → baseCount (job (c .before .before .before .before .before .before .before .before .before .before .before .before .before .before .before .before .before .before .before .before .before .before)) ≤ 128
 unfolding baseCount
 small c = subst (λ n. n ≤ 128) (c .before .before .before .before .before .before .before .base-count .ensures) (c .before .before .before .before .before .before .if1 .taken)
 
 base-count-requires : tie.Need-base-count-requires
 base-count-requires c κs = search needs
 
-slice-aggregate-set-by : tie.Need-slice-aggregate-set-by
-slice-aggregate-set-by c = search needs
+slice-aggregate-set-table : tie.Need-slice-aggregate-set-table
+slice-aggregate-set-table c = search needs
 
-slice-aggregate-set-by-2 : tie.Need-slice-aggregate-set-by-2
-slice-aggregate-set-by-2 c = search needs
+slice-aggregate-set-table-2 : tie.Need-slice-aggregate-set-table-2
+slice-aggregate-set-table-2 c = search needs
 
-slice-aggregate-set-by-3 : tie.Need-slice-aggregate-set-by-3
-slice-aggregate-set-by-3 c = search needs
+slice-aggregate-set-table-3 : tie.Need-slice-aggregate-set-table-3
+slice-aggregate-set-table-3 c = search needs
 
-set-by-requires : tie.Need-set-by-requires
-set-by-requires c κs = record { rows = λ _. omega (arith, small c); ends = λ _. small c; extents = λ _. small c }
+set-table-requires : tie.Need-set-table-requires
+set-table-requires c κs = record { rows = λ _. omega (arith, small c); ends = λ _. small c; extents = λ _. small c }
 
 same-length : tie.Need-same-length
 same-length c = search needs
@@ -43,17 +43,17 @@ same-length-3 c = search needs
 returns : tie.Need-returns
 returns c = search needs
 
-slice-aggregate-set-by-4 : tie.Need-slice-aggregate-set-by-4
-slice-aggregate-set-by-4 c = search needs
+slice-aggregate-set-table-4 : tie.Need-slice-aggregate-set-table-4
+slice-aggregate-set-table-4 c = search needs
 
-slice-aggregate-set-by-5 : tie.Need-slice-aggregate-set-by-5
-slice-aggregate-set-by-5 c = search needs
+slice-aggregate-set-table-5 : tie.Need-slice-aggregate-set-table-5
+slice-aggregate-set-table-5 c = search needs
 
-slice-aggregate-set-by-6 : tie.Need-slice-aggregate-set-by-6
-slice-aggregate-set-by-6 c = search needs
+slice-aggregate-set-table-6 : tie.Need-slice-aggregate-set-table-6
+slice-aggregate-set-table-6 c = search needs
 
-set-by-requires-2 : tie.Need-set-by-requires-2
-set-by-requires-2 c κs = search needs
+set-table-requires-2 : tie.Need-set-table-requires-2
+set-table-requires-2 c κs = search needs
 
 same-length-4 : tie.Need-same-length-4
 same-length-4 c = search needs
@@ -72,18 +72,18 @@ set-job-spec =
     tie.close
     (tie.spec
     base-count-requires
-    slice-aggregate-set-by
-    slice-aggregate-set-by-2
-    slice-aggregate-set-by-3
-    set-by-requires
+    slice-aggregate-set-table
+    slice-aggregate-set-table-2
+    slice-aggregate-set-table-3
+    set-table-requires
     same-length
     same-length-2
     same-length-3
     returns
-    slice-aggregate-set-by-4
-    slice-aggregate-set-by-5
-    slice-aggregate-set-by-6
-    set-by-requires-2
+    slice-aggregate-set-table-4
+    slice-aggregate-set-table-5
+    slice-aggregate-set-table-6
+    set-table-requires-2
     same-length-4
     same-length-5
     same-length-6

@@ -7,8 +7,8 @@ use Rattle.door.specs.Job.{Job, jobOf}
 use Rattle.filling.specs.declared.Lines.{Lines}
 use Rattle.engine.specs.Filled.{Fills}
 use Rattle.engine.specs.Whole as whole
-use Rattle.engine.proofs.set_by.Statement.{statement}
-use Rattle.engine.proofs.set_by.Tie as tie
+use Rattle.engine.proofs.set_table.Statement.{statement}
+use Rattle.engine.proofs.set_table.Tie as tie
 
 abbrev start : tie.After-fill-job → tie.Start
 start c = c .before .before .before .before .before .before .before .before .before .before .before .before .before .before .before .before .before .before .before .before .before
@@ -65,7 +65,7 @@ returns : tie.Need-returns
 returns c =
     let f = c .before .before .before .before .before .before .before .before .before in
     let x = start f .args in
-    whole.refused (job (start f)) (x .base .now) (x .ruby .now) (x .lines .now) (told f (c .before .why .given .1))
+    (whole.refused (job (start f)) (x .base .now) (x .ruby .now) (x .lines .now) (told f (c .before .why .given .1)), tt)
 
 same-length-4 : tie.Need-same-length-4
 same-length-4 c = search needs
@@ -92,11 +92,11 @@ returns-2 c =
     let n = p .before .before .before .before .before .before in
     let f = n .before .before .before .before .before .before .before .before in
     let x = start f .args in
-    whole.sets (job (start f)) (x .base .now) (x .ruby .now) (x .lines .now) (x .extents .now) (f .fill-job .last .0) (f .fill-job .last .1 .0) (f .fill-job .last .1 .1 .0) (n .n .given .0 .0)
-    (told f (n .n .given .1)) _ _ _ (p .put-lines .ensures) (e .put-ends .ensures)
+    (whole.sets (job (start f)) (x .base .now) (x .ruby .now) (x .lines .now) (x .extents .now) (f .fill-job .last .0) (f .fill-job .last .1 .0) (f .fill-job .last .1 .1 .0) (n .n .given .0 .0)
+    (told f (n .n .given .1)) _ _ _ (p .put-lines .ensures) (e .put-ends .ensures), told f (n .n .given .1))
 
-pub set-by-spec : {M : Type 1} → statement M
-set-by-spec =
+pub set-table-spec : {M : Type 1} → statement M
+set-table-spec =
     tie.close
     (tie.spec
     fill-job-requires
