@@ -48,7 +48,7 @@ fn put_runs(t: &[u32], i: usize, c: usize, em: u32, at: u32, rwidth: &[u32], rub
 }
 
 // Where the ruby of the piece from i up to c ends.
-fn rubies_upto(t: &[u32], i: usize, c: usize) -> usize
+pub fn rubies_upto(t: &[u32], i: usize, c: usize) -> usize
     requires { ⌜ (i < c) × (c ≤ 1024) × (19 * c ≤ length (now t)) ⌝ }
     ensures { λ r. ⌜ r ≡ rubyEnd (now (t .entry)) i c ⌝ }
 {

@@ -152,7 +152,7 @@ module _ (job : Job) (passed : Passed job) (t : List ℕ) (table : Holds job t) 
             (λ j. w k j (omega (arith, b .0, at .good .counts .some))))
 
     -- a whole line
-    line-join : (s e : ℕ) → Begins job s → s < e → e ≤ baseCount job → permitted job e ≡ true → putFrom f g (e - s) start s e ≡ has s e
+    pub line-join : (s e : ℕ) → Begins job s → s < e → e ≤ baseCount job → permitted job e ≡ true → putFrom f g (e - s) start s e ≡ has s e
     line-join s e begins l u permits =
         let v = join.covers job passed t table s (omega arith) in
         let x = v .x in

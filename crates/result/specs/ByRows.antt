@@ -8,7 +8,8 @@ use native.Mathlib.Decide.{decLt}
 use borrow.Author.Tests.{lt-ltb, le-ltb}
 use lib.Dec.{ltb}
 use lib.ListN.{length, getD, take, drop, length-append}
-use Rattle.text.specs.Print.{Wrote, then}
+use Rattle.text.specs.Print.{Wrote}
+use Rattle.text.specs.Written.{then}
 use Rattle.cells.specs.Cells.{cellAt, stop, mayEnd}
 use Rattle.cells.specs.Sound.{Sound}
 use Rattle.positions.specs.Positions.{Sheet, sheet, rubyEnd}
