@@ -22,7 +22,7 @@ use Rattle.result.specs.Text.{bytes, lineOne, ofPiece, ofLine, resultTex
 use Rattle.result.specs.Rows.{length-one, length-two, piece-short}
 
 -- a piece has as many positions as characters
-base-many : (job : Job) (p : Piece) (o : ℕ) → GoodPiece job p → length (baseAt job p o) ≡ p .bases
+pub base-many : (job : Job) (p : Piece) (o : ℕ) → GoodPiece job p → length (baseAt job p o) ≡ p .bases
 unfolding baseAt
 base-many job p o g = length-map (baseAlone job p) (λ y. o + y) ∙ base-counted job p g
 
