@@ -1,5 +1,5 @@
-// The job's own faults, judged once at the door (document 01, "The job" and "Refusal list"): numbers 1, 2 and 12, then the characters (3, 4), then
-// the elements in turn (5, 6, and level one's own 7 to 10), then what is left over. Behind it nothing but a line can be refused any more. It relies on
+// The door (document 01, "The job" and "Refusal list"): numbers 1, 2 and 12, then the characters (3, 4), before any element is looked at; and of an element what `layout`
+// asks for as it goes over them: its counts (5), whether its characters are there (6), level one's answer (7 to 10), and what is left over. It relies on
 // `word` for level one, on `class` for the class table, on `refusal` and on `basics`.
 
 ghost use mathlib.Core.Path.{_≡_};
@@ -11,19 +11,14 @@ ghost use lib.ListN.{length, getD};
 ghost use Rattle.basics.specs.Lists.{each, count};
 ghost use Rattle.class.specs.Class.{accepted, blankBefore, blankAfter};
 ghost use Rattle.door.specs.Job.{known, formOf, takesRuns, given, jobOf};
-ghost use Rattle.door.specs.Refusals.{outside, _when_, baseFaults, rubyFaults, ownFaults};
+ghost use Rattle.door.specs.Refusals.{outside, _when_, baseFaults, rubyFaults};
 ghost use Rattle.refusal.specs.declared.Refusal.the-variants.{Character};
 ghost use Rattle.door.specs.Verdict.{verdict};
 ghost use Rattle.door.specs.Values.{sizeRows, characterWrong, baseRows, runsFrom, basesOnly, rubiesOnly, BaseHolds, RubyHolds};
 ghost use Rattle.word.specs.declared.Form.the-variants as form;
-ghost use Rattle.door.specs.Elements.{countedAs, countedBy, partsOnly, Reads, JudgeReads, WordReads};
-ghost use Rattle.door.specs.Walk.{Stands, elementStep};
-ghost use Rattle.door.specs.Loop.{Holds, allRows};
+ghost use Rattle.door.specs.Elements.{countedAs, countedBy, partsOnly, Reads};
 ghost use Rattle.door.specs.Whole.{ahead};
 ghost use Rattle.word.specs.Answer.{answer};
-ghost use Rattle.word.specs.Judge.{judgement};
-ghost use Rattle.word.specs.Word.{wordOf};
-ghost use Rattle.word.specs.Given.{hasRuby};
 use refusal::Refusal;
 
 // The kinds of element, as their letters on the sheet.
@@ -480,118 +475,6 @@ pub fn measure_piece(
     )
 }
 
-// Numbers 7 to 10 of a piece.
-fn judge_piece(
-    k: u32,
-    p: Piece,
-    em: u32,
-    class: &[u32],
-    width: &[u32],
-    before: &[u32],
-    after: &[u32],
-    rclass: &[u32],
-) -> word::Judgement
-    requires { ⌜ JudgeReads (partsOnly em (now class) (now width) (now before) (now after) (now rclass) [] [] [] [] []) p ⌝ }
-    ensures { λ j. let job = partsOnly em (now (class .entry)) (now (width .entry)) (now (before .entry)) (now (after .entry)) (now (rclass .entry)) [] [] [] [] [] in ⌜ j ≡ judgement (p .form) k (given job p) ⌝ }
-{
-    let form = p.form;
-    let b = p.base;
-    let e = p.base + p.bases;
-    let r = p.ruby;
-    let s = p.ruby + p.rubies;
-    word::judge(
-        form,
-        k,
-        em,
-        &class[b..e],
-        &width[b..e],
-        &before[b..e],
-        &after[b..e],
-        &rclass[r..s],
-    )
-}
-
-// The word of a piece that was judged, without asking for numbers 7 to 10 again.
-pub fn piece_word(
-    p: Piece,
-    em: u32,
-    class: &[u32],
-    width: &[u32],
-    rclass: &[u32],
-    rwidth: &[u32],
-    runs: &[u32],
-) -> word::Word
-    requires { ⌜ (p .run + p .bases < 2 ^ 40) × WordReads (partsOnly em (now class) (now width) [] [] (now rclass) (now rwidth) [] [] [] (now runs)) p ⌝ }
-    ensures { λ w. ⌜ w ≡ wordOf (p .form) (given (partsOnly em (now (class .entry)) (now (width .entry)) [] [] (now (rclass .entry)) (now (rwidth .entry)) [] [] [] (now (runs .entry))) p) ⌝ }
-{
-    let form = p.form;
-    let b = p.base;
-    let e = p.base + p.bases;
-    let r = p.ruby;
-    let s = p.ruby + p.rubies;
-    let u = p.run;
-    let v = runs_end(p);
-    word::word_of(
-        form,
-        em,
-        &class[b..e],
-        &width[b..e],
-        &rclass[r..s],
-        &rwidth[r..s],
-        &runs[u..v],
-    )
-}
-
-// A P: it has no ruby, and so no row of level one.
-pub fn is_plain(p: Piece) -> bool
-    ensures { λ t. ⌜ t ≡ not (hasRuby (p .form)) ⌝ }
-{
-    let form = p.form;
-    match form {
-        word::Form::P => true,
-        word::Form::M => false,
-        word::Form::G => false,
-        word::Form::J => false,
-    }
-}
-
-// Element k, those before it having taken b base characters, r ruby characters and u runs, of `bases` and `rubies` in all: numbers 5, 6, and 7 to 10 as level one gives them.
-fn check_element(
-    k: usize,
-    b: usize,
-    r: usize,
-    u: usize,
-    bases: usize,
-    rubies: usize,
-    em: u32,
-    class: &[u32],
-    width: &[u32],
-    before: &[u32],
-    after: &[u32],
-    rclass: &[u32],
-    rwidth: &[u32],
-    kind: &[u32],
-    ebase: &[u32],
-    eruby: &[u32],
-    runs: &[u32],
-) -> Step
-    requires { ⌜ Stands bases rubies (partsOnly em (now class) (now width) (now before) (now after) (now rclass) (now rwidth) (now kind) (now ebase) (now eruby) (now runs)) k b r u ⌝ }
-    ensures { λ s. ⌜ s ≡ elementStep bases rubies (partsOnly em (now (class .entry)) (now (width .entry)) (now (before .entry)) (now (after .entry)) (now (rclass .entry)) (now (rwidth .entry)) (now (kind .entry)) (now (ebase .entry)) (now (eruby .entry)) (now (runs .entry))) k b r u ⌝ }
-{
-    let place = k as u32;
-    let counted = count_element(kind[k], ebase[k], eruby[k], b, r, u, runs);
-    let Counted::Is(p) = counted else {
-        return Step::Stop(Refusal::Element(place));
-    };
-    if runs_out(p, bases, rubies) {
-        return Step::Stop(Refusal::Supply(place));
-    }
-    match judge_piece(place, p, em, class, width, before, after, rclass) {
-        word::Judgement::Fine => Step::Next(p),
-        word::Judgement::Wrong(why) => Step::Stop(why),
-    }
-}
-
 // Characters that no element took.
 pub fn left_over(b: usize, r: usize, bases: usize, rubies: usize) -> bool
     ensures { λ t. ⌜ t ≡ (ltb b bases || ltb r rubies) ⌝ }
@@ -600,73 +483,6 @@ pub fn left_over(b: usize, r: usize, bases: usize, rubies: usize) -> bool
         return true;
     }
     r < rubies
-}
-
-// The n elements in turn, then what is left over.
-fn check_elements(
-    n: usize,
-    bases: usize,
-    rubies: usize,
-    em: u32,
-    class: &[u32],
-    width: &[u32],
-    before: &[u32],
-    after: &[u32],
-    rclass: &[u32],
-    rwidth: &[u32],
-    kind: &[u32],
-    ebase: &[u32],
-    eruby: &[u32],
-    runs: &[u32],
-) -> Checked
-    requires { ⌜ Holds n bases rubies (partsOnly em (now class) (now width) (now before) (now after) (now rclass) (now rwidth) (now kind) (now ebase) (now eruby) (now runs)) ⌝ }
-    ensures { λ c. ⌜ c ≡ verdict (allRows bases rubies (partsOnly em (now (class .entry)) (now (width .entry)) (now (before .entry)) (now (after .entry)) (now (rclass .entry)) (now (rwidth .entry)) (now (kind .entry)) (now (ebase .entry)) (now (eruby .entry)) (now (runs .entry))) n) ⌝ }
-{
-    let mut b: usize = 0;
-    let mut r: usize = 0;
-    let mut u: usize = 0;
-    let mut k: usize = 0;
-    while k < n {
-        if kind[k] == PLAIN {
-            if bases <= b {
-                return Checked::Refused(Refusal::Supply(k as u32));
-            }
-            b += 1;
-            k += 1;
-            continue;
-        }
-        match check_element(
-            k,
-            b,
-            r,
-            u,
-            bases,
-            rubies,
-            em,
-            class,
-            width,
-            before,
-            after,
-            rclass,
-            rwidth,
-            kind,
-            ebase,
-            eruby,
-            runs,
-        ) {
-            Step::Stop(why) => return Checked::Refused(why),
-            Step::Next(p) => {
-                b += p.bases;
-                r += p.rubies;
-                u = runs_end(p);
-                k += 1;
-            }
-        }
-    }
-    if left_over(b, r, bases, rubies) {
-        return Checked::Refused(Refusal::Supply(n as u32));
-    }
-    Checked::Passed
 }
 
 // "Where a kind's fields come in several lists, its count is the shortest list's length."
@@ -727,58 +543,4 @@ pub fn check_characters(
         return characters;
     };
     check_rubies(rubies, rclass, rwidth)
-}
-
-// The job's own faults, in the order of the refusal list. `base`, `ruby` and `lines` are the lengths of the result lists.
-pub fn check_job(
-    em: u32,
-    measure: u32,
-    class: &[u32],
-    width: &[u32],
-    before: &[u32],
-    after: &[u32],
-    flag: &[u32],
-    rclass: &[u32],
-    rwidth: &[u32],
-    kind: &[u32],
-    ebase: &[u32],
-    eruby: &[u32],
-    runs: &[u32],
-    base: usize,
-    ruby: usize,
-    lines: usize,
-) -> Checked
-    ensures { λ c. ⌜ c ≡ verdict (ownFaults (jobOf em measure (now (class .entry)) (now (width .entry)) (now (before .entry)) (now (after .entry)) (now (flag .entry)) (now (rclass .entry)) (now (rwidth .entry)) (now (kind .entry)) (now (ebase .entry)) (now (eruby .entry)) (now (runs .entry))) base ruby lines) ⌝ }
-{
-    let bases = base_count(class, width, before, after, flag);
-    let rubies = ruby_count(rclass, rwidth);
-    let elements = element_count(kind, ebase, eruby);
-    let sizes = check_sizes(em, measure, bases, rubies, elements, base, ruby, lines);
-    let Checked::Passed = sizes else {
-        return sizes;
-    };
-    let characters = check_bases(bases, class, width, before, after, flag);
-    let Checked::Passed = characters else {
-        return characters;
-    };
-    let readings = check_rubies(rubies, rclass, rwidth);
-    let Checked::Passed = readings else {
-        return readings;
-    };
-    check_elements(
-        elements,
-        bases,
-        rubies,
-        em,
-        class,
-        width,
-        before,
-        after,
-        rclass,
-        rwidth,
-        kind,
-        ebase,
-        eruby,
-        runs,
-    )
 }
