@@ -2,4 +2,3 @@ pub mod Class
 pub mod Depth
 pub mod Laws
 pub mod Entry
-pub mod Sets

@@ -1,15 +1,14 @@
 // The class table of document 01: for each class from 0 to 30 whether it is accepted, its kind, the sides on which it may carry a
 // blank, and how deep ruby may lie on that blank. Every check and every rule of clearance consults this table and nothing
-// else, but for the questions that loops ask, which are sets beside it; that both say what document 01 says is proved
-// once (specs/Class.antt, proofs/entry_of, specs/Sets.antt). All functions here are total: any u32 is asked as it is. It
-// relies on no other crate.
+// else; that it says what document 01 says is proved once (specs/Class.antt, proofs/entry_of). All functions here are
+// total: any u32 is asked as it is. It relies on no other crate.
 ghost use mathlib.Core.Path.{_≡_};
 ghost use mathlib.Core.Bool.{_&&_};
 ghost use Prim.Native.Nat.{_≤_};
 ghost use Rattle.class.specs.Class.{accepted, western, kanaLike, blankBefore, blankAfter, rowOf, kindOf, depthsOn};
 ghost use Rattle.class.specs.Depth.{blankBy, depthBy};
 ghost use Rattle.class.specs.Entry.{entryOf, rowBy, liesBefore, liesAfter, isWhole};
-ghost use Rattle.class.specs.Sets.{isIn, mayHaveBlank};
+ghost use Rattle.class.specs.Laws.{isKana, isWestern};
 
 pub enum Kind {
     KanaLike,
@@ -230,66 +229,64 @@ pub fn kind_of(class: u32) -> Kind
     e.kind
 }
 
-// What loops over characters ask of a class is asked of sets, a power of two for each class that answers yes: the table would be laid out anew for each character. That
-// a set says what document 01 says is proved of each, as it is of the table (specs/Sets.antt).
-const ACCEPTED_SET: u32 = 0x0f0f_fffe; // 1 to 19 and 24 to 27
-
-const BEFORE_SET: u32 = 0x0000_0022; // 1, 5
-
-const AFTER_SET: u32 = 0x0000_00e4; // 2, 5, 6, 7
-
-const BLANK_SET: u32 = 0x0000_40e6; // these, and 14
-
-const KANA_SET: u32 = 0x000f_fffe; // 1 to 19
-
-const WESTERN_SET: u32 = 0x0b00_0000; // 24, 25, 27
-
-// c is in a set.
-fn is_in(set: u32, c: u32) -> bool
-    ensures { λ r. ⌜ r ≡ isIn set c ⌝ }
-{
-    if 30 < c {
-        return false;
-    }
-    (set >> c) % 2 == 1
-}
-
 pub fn is_accepted(class: u32) -> bool
     ensures { λ r. ⌜ r ≡ accepted class ⌝ }
 {
-    is_in(ACCEPTED_SET, class)
+    let e = entry_of(class);
+    e.accepted
 }
 
 // May there be a blank before, or after?
 pub fn may_have_before(class: u32) -> bool
     ensures { λ r. ⌜ r ≡ blankBefore class ⌝ }
 {
-    is_in(BEFORE_SET, class)
+    let e = entry_of(class);
+    let sides = e.sides;
+    lies_before(sides)
 }
 
 pub fn may_have_after(class: u32) -> bool
     ensures { λ r. ⌜ r ≡ blankAfter class ⌝ }
 {
-    is_in(AFTER_SET, class)
+    let e = entry_of(class);
+    let sides = e.sides;
+    lies_after(sides)
 }
 
-// May there be any, or is the whole width one?
-pub fn may_have_blank(class: u32) -> bool
-    ensures { λ r. ⌜ r ≡ mayHaveBlank class ⌝ }
+fn kana_by(k: Kind) -> bool
+    ensures { λ r. ⌜ r ≡ isKana k ⌝ }
 {
-    is_in(BLANK_SET, class)
+    match k {
+        Kind::KanaLike => true,
+        Kind::Western => false,
+        Kind::Space => false,
+        Kind::Outside => false,
+    }
 }
 
 pub fn is_kana(class: u32) -> bool
     ensures { λ r. ⌜ r ≡ kanaLike class ⌝ }
 {
-    is_in(KANA_SET, class)
+    let k = kind_of(class);
+    kana_by(k)
+}
+
+fn western_by(k: Kind) -> bool
+    ensures { λ r. ⌜ r ≡ isWestern k ⌝ }
+{
+    match k {
+        Kind::KanaLike => false,
+        Kind::Western => true,
+        Kind::Space => false,
+        Kind::Outside => false,
+    }
 }
 
 pub fn is_western(class: u32) -> bool
     ensures { λ r. ⌜ r ≡ western class ⌝ }
 {
-    is_in(WESTERN_SET, class)
+    let k = kind_of(class);
+    western_by(k)
 }
 
 // The blank on a side of a P character, in units.
@@ -333,13 +330,14 @@ fn is_opening(first: bool, whole: bool) -> bool
 pub fn depths_on(first: bool, class: u32, width: u32, before: u32, after: u32, em: u32) -> Depths
     ensures { λ r. ⌜ r ≡ depthsOn first class width before after em ⌝ }
 {
-    if !may_have_blank(class) {
+    let e = entry_of(class);
+    if e.quarters == NONE {
         return Depths {
             before: 0,
             after: 0,
         };
     }
-    let r = row_of(class);
+    let r = row_by(e);
     if is_opening(first, r.whole) {
         return Depths {
             before: 0,

@@ -1,15 +1,18 @@
--- The set has the classes below 31 that answer yes, and past the table none does.
-use mathlib.Core.Path.{_∙_}
+-- The entry is the rule's, and the answer is its field.
+use mathlib.Core.Path.{ap}
 use borrow.Author.Needs.{needs}
-use Rattle.class.specs.Sets.{accepted-set}
+use Rattle.class.specs.declared.Entry.{Entry}
+use Rattle.class.specs.Class.{rowOf}
+use Rattle.class.specs.Entry.{entryOf}
 use Rattle.class.proofs.is_accepted.Statement.{statement}
 use Rattle.class.proofs.is_accepted.Tie as tie
 
-is-in-requires : tie.Need-is-in-requires
-is-in-requires c κs = search needs
+entry-of-requires : tie.Need-entry-of-requires
+entry-of-requires c κs = search needs
 
 returns : tie.Need-returns
-returns c = c .is-in .ensures ∙ accepted-set (c .before .args .class)
+unfolding rowOf entryOf
+returns c = ap (λ (e : Entry). e .accepted) (c .entry-of .ensures)
 
 pub is-accepted-spec : {M : Type 1} → statement M
-is-accepted-spec = tie.close (tie.spec is-in-requires returns)
+is-accepted-spec = tie.close (tie.spec entry-of-requires returns)

@@ -1,15 +1,18 @@
--- The set has the classes below 31 that answer yes, and past the table none does.
-use mathlib.Core.Path.{_∙_}
+-- The kind is the rule's, and a class is Western as its kind says (`western-law`).
+use mathlib.Core.Path.{_∙_, sym}
 use borrow.Author.Needs.{needs}
-use Rattle.class.specs.Sets.{western-set}
+use Rattle.class.specs.Laws.{western-law}
 use Rattle.class.proofs.is_western.Statement.{statement}
 use Rattle.class.proofs.is_western.Tie as tie
 
-is-in-requires : tie.Need-is-in-requires
-is-in-requires c κs = search needs
+kind-of-requires : tie.Need-kind-of-requires
+kind-of-requires c κs = search needs
+
+western-by-requires : tie.Need-western-by-requires
+western-by-requires c κs = search needs
 
 returns : tie.Need-returns
-returns c = c .is-in .ensures ∙ western-set (c .before .args .class)
+returns c = rw (c .western-by .ensures, c .before .kind-of .ensures) (sym (western-law (c .before .before .args .class)))
 
 pub is-western-spec : {M : Type 1} → statement M
-is-western-spec = tie.close (tie.spec is-in-requires returns)
+is-western-spec = tie.close (tie.spec kind-of-requires western-by-requires returns)
