@@ -4,6 +4,8 @@
  *     drive MIX ELEMENTS REPEATS   sets the job; prints its counts, its lines and a sum over the results
  *     drive MIX ELEMENTS sheet     prints the job as a job sheet
  *
+ * With ACCOUNT defined it asks for the job's account each time instead, by bv_account_job; the sum is then over its lists.
+ *
  * The jobs are made from a fixed sequence of numbers, so they are the same everywhere, and a smaller job of a mix is the
  * beginning of a larger one. README.md says what the mixes are.
  */
@@ -45,7 +47,11 @@ static u32 class_[BV_MOST_BASE], width[BV_MOST_BASE], before[BV_MOST_BASE], afte
 static u32 rclass[BV_MOST_RUBY], rwidth[BV_MOST_RUBY];
 static u32 kind[BV_MOST_ELEMENTS], ebase[BV_MOST_ELEMENTS], eruby[BV_MOST_ELEMENTS];
 static u32 run[BV_MOST_BASE];
+#ifdef ACCOUNT
+static u32 rows[BV_ROW * BV_MOST_BASE], told[BV_MOST_BASE], extents[BV_MOST_BASE];
+#else
 static u32 base[BV_MOST_BASE], ruby[BV_MOST_RUBY], lines[BV_MOST_BASE];
+#endif
 
 /* The next of the sequence, below n. */
 static u32 chosen(u32 n)
@@ -168,13 +174,6 @@ static void print_sheet(void)
     }
 }
 
-static bv_answer set(void)
-{
-    return bv_set_job(EM, measure, class_, bases, width, bases, before, bases, after, bases, flag, bases, rclass, rubies,
-                      rwidth, rubies, kind, elements, ebase, elements, eruby, elements, run, runs, base, BV_MOST_BASE, ruby,
-                      BV_MOST_RUBY, lines, BV_MOST_BASE);
-}
-
 static u32 sum_over(u32 sum, const u32 *list, u32 n)
 {
     u32 i;
@@ -183,13 +182,40 @@ static u32 sum_over(u32 sum, const u32 *list, u32 n)
     return sum;
 }
 
+/* The eleven lists of a job, each with its length. */
+#define JOB \
+    EM, measure, class_, bases, width, bases, before, bases, after, bases, flag, bases, rclass, rubies, rwidth, rubies, \
+        kind, elements, ebase, elements, eruby, elements, run, runs
+
+#ifdef ACCOUNT
+static bv_answer asked(void)
+{
+    return bv_account_job(JOB, rows, BV_ROW * BV_MOST_BASE, told, BV_MOST_BASE, extents, BV_MOST_BASE);
+}
+
+static u32 sum_of(bv_answer a)
+{
+    u32 pieces = a.place > 0 ? told[a.place - 1] : 0;
+    return sum_over(sum_over(sum_over(a.number, rows, BV_ROW * pieces), told, a.place), extents, a.place);
+}
+#else
+static bv_answer asked(void)
+{
+    return bv_set_job(JOB, base, BV_MOST_BASE, ruby, BV_MOST_RUBY, lines, BV_MOST_BASE);
+}
+
+static u32 sum_of(bv_answer a)
+{
+    return sum_over(sum_over(sum_over(a.number, base, bases), ruby, rubies), lines, a.place);
+}
+#endif
+
 int main(int count, char **words)
 {
     const size_t known = sizeof mixes / sizeof mixes[0];
     bv_answer a = {0, 0};
     size_t m = 0;
     unsigned long repeats;
-    u32 sum;
     while (count == 4 && m < known && strcmp(words[1], mixes[m].name) != 0)
         m++;
     if (count != 4 || m == known || make_job(&mixes[m], (u32)strtoul(words[2], 0, 10))) {
@@ -201,8 +227,7 @@ int main(int count, char **words)
         return 0;
     }
     for (repeats = strtoul(words[3], 0, 10); repeats > 0; repeats--)
-        a = set();
-    sum = sum_over(sum_over(sum_over(a.number, base, bases), ruby, rubies), lines, a.place);
-    printf("elements %u base %u ruby %u answer %u lines %u sum %u\n", elements, bases, rubies, a.number, a.place, sum);
+        a = asked();
+    printf("elements %u base %u ruby %u answer %u lines %u sum %u\n", elements, bases, rubies, a.number, a.place, sum_of(a));
     return a.number != 0;
 }

@@ -14,12 +14,13 @@ use Rattle.rows.specs.Table.{laid}
 use Rattle.sheet.specs.declared.Reading.{Reading}
 use Rattle.sheet.specs.declared.Reading.the-variants.{Sound, Refused}
 use Rattle.sheet.specs.Sheet.{Sheet, reading}
-use Rattle.door.specs.Job.{Job, baseCount}
+use Rattle.door.specs.Job.{Job, baseCount, elements}
+use Rattle.door.specs.Refusals.{elementsFaults, leftFaults}
 use Rattle.door.specs.Passed.{Passed}
 use Rattle.job.specs.Refusals.{fault}
 use Rattle.result.specs.Text.{refusalText}
 use Rattle.setter.specs.Answer.{sheetJob}
-use Rattle.shortest.specs.Needed.{needed, CanBegin}
+use Rattle.shortest.specs.Needed.{needed}
 use Rattle.job_account.specs.Outcome.{room, telling}
 use Rattle.account_text.specs.Text.{accountText, needsText}
 use Rattle.account_text.specs.Short.{longest}
@@ -57,9 +58,15 @@ unfolding sheetJob telling
 listsBy t (Refused r) rows told wide = (rows, told, wide)
 listsBy t (Sound n) rows told wide = let o = telling (sheetJob t) rows told wide in (o .rows, o .told, o .extents)
 
--- what is asked for to write a refusal: a line that is declined begins where a line can
+-- a line from s can be declined only where the job has no fault of its own
+pub record Lacks (job : Job) (s : ℕ) : Type 0 where
+  pub passed : Passed job
+  pub ahead : s < baseCount job
+  pub none : elementsFaults job 0 (elements job) ++ leftFaults job ≡ []
+
+-- what is asked for to write a refusal
 pub record Declined (job : Job) (r : Refusal) (out : List ℕ) : Type 0 where
-  pub line : numberOf r ≡ 11 → Passed job × (placeOf r < baseCount job) × CanBegin job (placeOf r)
+  pub line : numberOf r ≡ 11 → Lacks job (placeOf r)
   pub room : 66 ≤ length out
 
 -- A job is told: its lists are those of its account, and its text stands at the front of `out`.

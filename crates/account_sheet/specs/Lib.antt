@@ -1,5 +1,6 @@
 pub mod Answer
 pub mod Tell
+pub mod Needs
 pub mod Whole
 pub mod Determined
 pub mod Form

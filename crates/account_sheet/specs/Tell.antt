@@ -2,20 +2,20 @@
 use mathlib.Core.Bool.{Bool, true, false, cond}
 use mathlib.Core.List.{List, [], _++_, append-nil}
 use mathlib.Core.Option.{Option, none, some}
-use mathlib.Core.Path.{_≡_, refl, sym, ap, ap₂, subst, _∙_}
-use Prim.Native.Nat.{ℕ, _+_, _*_, _/_, _≤_, _<_, min}
+use mathlib.Core.Path.{_≡_, refl, sym, ap, subst, _∙_}
+use Prim.Native.Nat.{ℕ, _+_, _*_, _/_, _≤_, min}
 use native.Mathlib.Omega.{arith}
 use borrow.Author.Tests.{eq-eqb, ne-eqb}
 use lib.Dec.{eqb}
 use lib.ListN.{length, length-append}
 use lib.Seq.{sets}
 use Rattle.text.specs.Print.{Wrote}
-use Rattle.text.specs.Written.{then, same-long}
+use Rattle.text.specs.Written.{same-long}
 use Rattle.refusal.specs.declared.Refusal.{Refusal}
 use Rattle.refusal.specs.declared.Refusal.the-variants.{Range, Count, Short, Character, Blanks, Element, Supply, BlankInside, JukugoBase, Mixed, WesternOver, NoBreak, Form}
 use Rattle.refusal.specs.Refusal.{numberOf, placeOf}
-use Rattle.door.specs.Job.{Job, baseCount, elementCount}
-use Rattle.door.specs.Refusals.{ownFaults}
+use Rattle.door.specs.Job.{Job, baseCount, elementCount, elements}
+use Rattle.door.specs.Refusals.{jobFaults, charFaults, elementsFaults, leftFaults, ownFaults}
 use Rattle.door.specs.Verdict.{verdict, append-none}
 use Rattle.door.specs.declared.Checked.the-variants as checked
 use Rattle.door.specs.Passed.{Passed, passed}
@@ -31,15 +31,14 @@ use Rattle.job.specs.Order.{lines-turn}
 use Rattle.engine.specs.Fault as fault
 use Rattle.result.specs.Text.{refusalText}
 use Rattle.result.specs.Short.{refusal-short}
-use Rattle.shortest.specs.Needed.{needed, CanBegin}
-use Rattle.shortest.specs.Theorems.{stuck-begins}
+use Rattle.shortest.specs.Needed.{needed}
 use Rattle.job_account.specs.Lines.{accounts, counts, extents}
 use Rattle.job_account.specs.Outcome.{Telling, room, tellingBy, telling}
 use Rattle.account_text.specs.Text.{readingsOf, accountText, listsText, needsText}
 use Rattle.account_text.specs.Lists.{ListsReady}
 use Rattle.account_text.specs.Job.{text-is, lists-ready}
 use Rattle.account_text.specs.Short.{longest, account-short, declined-short}
-use Rattle.account_sheet.specs.Answer.{declinedText, tellingText, jobAccount, Declined, Told}
+use Rattle.account_sheet.specs.Answer.{declinedText, tellingText, jobAccount, Lacks, Declined, Told}
 
 -- number 11 is the refusal of a line
 eleven : (r : Refusal) → numberOf r ≡ 11 → r ≡ NoBreak (placeOf r)
@@ -106,12 +105,17 @@ module _ (job : Job) (rows told wide : List ℕ) where
       go (some q) e = absurd (let z : _≡_ {A = ℕ} 0 1 = cc in omega arith)
 
   -- a line is declined
-  pub line-declined : {r : Refusal} → telling job rows told wide .answer ≡ Refused r → numberOf r ≡ 11 → Passed job × (placeOf r < baseCount job) × CanBegin job (placeOf r)
+  pub line-declined : {r : Refusal} → telling job rows told wide .answer ≡ Refused r → numberOf r ≡ 11 → Lacks job (placeOf r)
+  unfolding ownFaults
   line-declined {r} e h =
       let t = lines-turn job 1024 2048 m (NoBreak (placeOf r)) refl (refused-given e ∙ ap {B = Option Refusal} some (eleven r h)) in
       let door = passed job 1024 2048 m (t .0) in
-      let k = stuck-begins job (placeOf r) (declined.stuck job door (placeOf r) (t .1)) in
-      (door, k .0, k .1)
+      let parts : List Refusal = elementsFaults job 0 (elements job) ++ leftFaults job in
+      record {
+        passed = door;
+        ahead = declined.stuck job door (placeOf r) (t .1) .more;
+        none = append-none (charFaults job) parts (append-none (jobFaults job 1024 2048 m) (charFaults job ++ parts) (t .0) .1) .1;
+      }
 
   refused-text : {r : Refusal} → telling job rows told wide .answer ≡ Refused r → jobAccount job m ≡ declinedText job r
   unfolding jobAccount tellingText

@@ -16,8 +16,8 @@ use Rattle.job.specs.Words.{GoodPiece, good-pieces}
 use Rattle.job.specs.Promise.{Filled}
 use Rattle.job.specs.Filled.{chain-few}
 use Rattle.job.specs.Placed.{base-long}
-use Rattle.write.specs.Line.{base-many}
-use Rattle.write.specs.Lists.{sets-over}
+use Rattle.positions.specs.Lists.{sets-over}
+use Rattle.result.specs.Short.{base-many}
 use Rattle.job_account.specs.Rows.{rowsIn, length-rows}
 use Rattle.job_account.specs.Lines.{accounts, countsFrom, counts, extentsFrom, extents, LinesTold}
 use Rattle.account_text.specs.Text.{headText, rowsText, segment, verdictText, readingsOf, lineText, linesText, accountText, listsText}

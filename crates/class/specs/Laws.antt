@@ -13,6 +13,7 @@ use lib.ListN.{getD}
 use Rattle.class.specs.declared.Kind.{Kind}
 use Rattle.class.specs.declared.Kind.the-variants.{KanaLike, Western, Space, Outside}
 use Rattle.class.specs.declared.Row.{Row}
+use Rattle.class.specs.declared.Depths.{Depths}
 use Rattle.class.specs.Class.{accepted, western, kanaLike, kindOf, blankBefore, blankAfter, blankWhole, quarters, rowOf, deepest, depthBefore, depthAfter, opening, depthsOn}
 use Rattle.class.specs.Depth.{depthBy}
 use Rattle.class.specs.Entry.{rowBy, entryBy, entryOf}
@@ -187,3 +188,24 @@ before-within first c width before after em h = unless (opening first c) _ _ (on
 pub after-within : (first : Bool) (c width before after em : ℕ) → after ≤ width → depthsOn first c width before after em .after ≤ 2 * width
 unfolding depthsOn depthAfter
 after-within first c width before after em h = unless (opening first c) _ _ (on-width (blankWhole c) (blankAfter c) width after (deepest c em) h)
+
+-- where an entry's depth is 0, no ruby lies on the character
+pub no-depth : (first : Bool) (c width before after em : ℕ) → quarters c ≡ 0 → record { before = 0; after = 0 } ≡ depthsOn first c width before after em
+unfolding depthsOn depthBefore depthAfter quarters
+no-depth first c width before after em e =
+    let (b, a, w) = by (eqb c 5) (blankBefore c) (blankAfter c) (blankWhole c) e in
+    rw (w, a, b, none (deepest c em)) (go (first && false))
+  where
+    by : (t b a w : Bool) → _≡_ {A = ℕ} (cond t 1 (cond (b || (a || w)) 2 0)) 0 → (b ≡ false) × (a ≡ false) × (w ≡ false)
+    by false false false false e = (refl, refl, refl)
+    by true b a w e = absurd (omega arith)
+    by false true a w e = absurd (omega arith)
+    by false false true w e = absurd (omega arith)
+    by false false false true e = absurd (omega arith)
+
+    none : (n : ℕ) → min (2 * 0) n ≡ 0
+    none n = omega arith
+
+    go : (t : Bool) → _≡_ {A = Depths} (record { before = 0; after = 0 }) (record { before = cond t 0 0; after = cond t 0 0 })
+    go true = refl
+    go false = refl

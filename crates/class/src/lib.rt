@@ -5,9 +5,10 @@
 ghost use mathlib.Core.Path.{_≡_};
 ghost use mathlib.Core.Bool.{_&&_};
 ghost use Prim.Native.Nat.{_≤_};
-ghost use Rattle.class.specs.Class.{rowOf, kindOf, depthsOn};
+ghost use Rattle.class.specs.Class.{accepted, western, kanaLike, blankBefore, blankAfter, rowOf, kindOf, depthsOn};
 ghost use Rattle.class.specs.Depth.{blankBy, depthBy};
 ghost use Rattle.class.specs.Entry.{entryOf, rowBy, liesBefore, liesAfter, isWhole};
+ghost use Rattle.class.specs.Laws.{isKana, isWestern};
 
 pub enum Kind {
     KanaLike,
@@ -228,6 +229,66 @@ pub fn kind_of(class: u32) -> Kind
     e.kind
 }
 
+pub fn is_accepted(class: u32) -> bool
+    ensures { λ r. ⌜ r ≡ accepted class ⌝ }
+{
+    let e = entry_of(class);
+    e.accepted
+}
+
+// May there be a blank before, or after?
+pub fn may_have_before(class: u32) -> bool
+    ensures { λ r. ⌜ r ≡ blankBefore class ⌝ }
+{
+    let e = entry_of(class);
+    let sides = e.sides;
+    lies_before(sides)
+}
+
+pub fn may_have_after(class: u32) -> bool
+    ensures { λ r. ⌜ r ≡ blankAfter class ⌝ }
+{
+    let e = entry_of(class);
+    let sides = e.sides;
+    lies_after(sides)
+}
+
+fn kana_by(k: Kind) -> bool
+    ensures { λ r. ⌜ r ≡ isKana k ⌝ }
+{
+    match k {
+        Kind::KanaLike => true,
+        Kind::Western => false,
+        Kind::Space => false,
+        Kind::Outside => false,
+    }
+}
+
+pub fn is_kana(class: u32) -> bool
+    ensures { λ r. ⌜ r ≡ kanaLike class ⌝ }
+{
+    let k = kind_of(class);
+    kana_by(k)
+}
+
+fn western_by(k: Kind) -> bool
+    ensures { λ r. ⌜ r ≡ isWestern k ⌝ }
+{
+    match k {
+        Kind::KanaLike => false,
+        Kind::Western => true,
+        Kind::Space => false,
+        Kind::Outside => false,
+    }
+}
+
+pub fn is_western(class: u32) -> bool
+    ensures { λ r. ⌜ r ≡ western class ⌝ }
+{
+    let k = kind_of(class);
+    western_by(k)
+}
+
 // The blank on a side of a P character, in units.
 fn blank_by(whole: bool, side: bool, width: u32, blank: u32) -> u32
     ensures { λ r. ⌜ r ≡ blankBy whole side width blank ⌝ }
@@ -269,7 +330,14 @@ fn is_opening(first: bool, whole: bool) -> bool
 pub fn depths_on(first: bool, class: u32, width: u32, before: u32, after: u32, em: u32) -> Depths
     ensures { λ r. ⌜ r ≡ depthsOn first class width before after em ⌝ }
 {
-    let r = row_of(class);
+    let e = entry_of(class);
+    if e.quarters == NONE {
+        return Depths {
+            before: 0,
+            after: 0,
+        };
+    }
+    let r = row_by(e);
     if is_opening(first, r.whole) {
         return Depths {
             before: 0,

@@ -15,7 +15,6 @@ use Rattle.word.specs.Given.{Given, hasRuby, isJ}
 use Rattle.word.specs.Answer.{blankInside, jukugoBase, mixedIn, westernOver, answer}
 use Rattle.word.specs.Word.{wordOf}
 use Rattle.word.specs.Sized.{Sized}
-use Rattle.word.specs.First.{Judged}
 use Rattle.door.specs.declared.Piece.{Piece}
 use Rattle.door.specs.declared.Counted.{Counted}
 use Rattle.door.specs.declared.Counted.the-variants.{Is, Out}
@@ -153,67 +152,6 @@ sized-lent job p width ruby run sized =
 
 pub lent-sized : (job : Job) (p : Piece) → Reads job p → Sized (p .form) (lent job p .width) (lent job p .rubyWidth) (lent job p .run)
 lent-sized job p h = sized-lent job p (h .width) (h .rubyWidth) (h .run) (h .sized)
-
--- a P has none of the rows of level one
-pub plain-answer : (form : Form) (k : ℕ) (w : Given) → hasRuby form ≡ false → answer form k w ≡ word.Set (wordOf form w)
-unfolding answer
-plain-answer P k w e = refl
-plain-answer M k w e = absurd (true≢false e)
-plain-answer G k w e = absurd (true≢false e)
-plain-answer J k w e = absurd (true≢false e)
-
--- A piece that was judged: what its word alone reads.
-pub record WordReads (job : Job) (p : Piece) : Type 0 where
-  pub class : p .base + p .bases ≤ length (job .class)
-  pub width : p .base + p .bases ≤ length (job .width)
-  pub rubyClass : p .ruby + p .rubies ≤ length (job .rubyClass)
-  pub rubyWidth : p .ruby + p .rubies ≤ length (job .rubyWidth)
-  pub run : p .run + takesRuns (p .form) (p .bases) ≤ length (job .run)
-  pub sized : Sized (p .form) (given job p .width) (given job p .rubyWidth) (given job p .run)
-  pub judged : Judged (p .form) (job .em) (given job p .class) (given job p .width) (given job p .rubyClass)
-
--- blanks are not read
-word-unread : (form : Form) (job : Job) (p : Piece) → p .run + takesRuns form (p .bases) ≤ length (job .run) →
-    wordOf form (record {
-      em = job .em;
-      class = given job p .class;
-      width = given job p .width;
-      before = [];
-      after = [];
-      rubyClass = given job p .rubyClass;
-      rubyWidth = given job p .rubyWidth;
-      run = take (p .run + takesRuns form (p .bases) - p .run) (drop (p .run) (job .run));
-    })
-    ≡ wordOf form (given job p)
-unfolding wordOf
-word-unread P job p h = refl
-word-unread M job p h = refl
-word-unread G job p h = refl
-word-unread J job p h = rw (part-of (job .run) (p .run) (p .bases) h)
-
-pub lent-word : (job : Job) (p : Piece) → WordReads job p →
-    let w = lent job p in
-    wordOf (p .form) (record { em = job .em; class = w .class; width = w .width; before = []; after = []; rubyClass = w .rubyClass; rubyWidth = w .rubyWidth; run = w .run }) ≡ wordOf (p .form) (given job p)
-lent-word job p h =
-    rw (
-      part-of (job .class) (p .base) (p .bases) (h .class),
-      part-of (job .width) (p .base) (p .bases) (h .width),
-      part-of (job .rubyClass) (p .ruby) (p .rubies) (h .rubyClass),
-      part-of (job .rubyWidth) (p .ruby) (p .rubies) (h .rubyWidth),
-    )
-    (word-unread (p .form) job p (h .run))
-
-pub lent-sized-word : (job : Job) (p : Piece) → WordReads job p → Sized (p .form) (lent job p .width) (lent job p .rubyWidth) (lent job p .run)
-lent-sized-word job p h = sized-lent job p (h .width) (h .rubyWidth) (h .run) (h .sized)
-
-pub lent-judged : (job : Job) (p : Piece) → WordReads job p → Judged (p .form) (job .em) (lent job p .class) (lent job p .width) (lent job p .rubyClass)
-lent-judged job p h =
-    rw (
-      part-of (job .class) (p .base) (p .bases) (h .class),
-      part-of (job .width) (p .base) (p .bases) (h .width),
-      part-of (job .rubyClass) (p .ruby) (p .rubies) (h .rubyClass),
-    )
-    (h .judged)
 
 -- level one's answer, by its rows
 pub by-rows : (form : Form) (k : ℕ) (w : Given) (p : Piece) (s : Step) →

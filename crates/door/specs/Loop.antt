@@ -4,9 +4,9 @@ use mathlib.Core.Bool.{false, _||_}
 use mathlib.Core.List.{List, [], _∷_, _++_, map, append-assoc}
 use Prim.Native.Nat.{ℕ, suc, _+_, _-_, _^_, _≤_, _<_, zero-le}
 use native.Mathlib.Numerals.{add-one}
-use native.Mathlib.Nat.{sub-zero, zero-add}
+use native.Mathlib.Nat.{sub-zero, zero-add, add-zero}
 use native.Mathlib.Omega.{arith}
-use borrow.Author.Tests.{ltb-false}
+use borrow.Author.Tests.{ltb-false, lt-ltb, le-ltb}
 use lib.Dec.{ltb}
 use lib.ListN.{length, getD}
 use Rattle.basics.specs.Lists.{sum}
@@ -181,6 +181,21 @@ stands bases rubies job n k b r u h held along =
       narrow = held .narrow;
       narrowRuby = held .narrowRuby;
     }
+
+-- a P: it takes one base character, which has to be left, and level one has no row for it
+module _ (bases rubies : ℕ) (job : Job) (k b r u : ℕ) (plain : getD (job .kind) k 0 ≡ 80) where
+  pub piece : element job k b r u ≡ record { form = P; base = b; bases = 1; ruby = r; rubies = 0; run = u }
+  unfolding element
+  piece = rw plain
+
+  pub plain-stops : bases ≤ b → Stop (Supply k) ≡ elementStep bases rubies job k b r u
+  plain-stops h = rw (piece, plain, lt-ltb bases (b + 1) (omega arith))
+
+  plain-goes : b < bases → r ≤ rubies → Next (record { form = P; base = b; bases = 1; ruby = r; rubies = 0; run = u }) ≡ elementStep bases rubies job k b r u
+  plain-goes h m = rw (piece, plain, le-ltb bases (b + 1) (omega arith), le-ltb rubies (r + 0) (omega arith))
+
+  pub along-plain : (n : ℕ) → k < n → Stands bases rubies job k b r u → b < bases → Along bases rubies job n k b r u → Along bases rubies job n (k + 1) (b + 1) r u
+  along-plain n l st h along = rw (add-zero r, add-zero u) at (along-next bases rubies job n k b r u l along st (plain-goes h (along .takenRuby)))
 
 -- the end of the walk: what is left over decides
 module _ (bases rubies : ℕ) (job : Job) (n k b r u : ℕ) (h : n ≤ k) (along : Along bases rubies job n k b r u) where

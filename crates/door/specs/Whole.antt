@@ -20,7 +20,7 @@ use Rattle.door.specs.Passed.{base-good, ruby-good, limits}
 abbrev pub partsOf : Job → Job
 partsOf job = partsOnly (job .em) (job .class) (job .width) (job .before) (job .after) (job .rubyClass) (job .rubyWidth) (job .kind) (job .elementBase) (job .elementRuby) (job .run)
 
-same-elements : (job : Job) (n k b r u : ℕ) → elementsFrom (partsOf job) n k b r u ≡ elementsFrom job n k b r u
+pub same-elements : (job : Job) (n k b r u : ℕ) → elementsFrom (partsOf job) n k b r u ≡ elementsFrom job n k b r u
 unfolding elementsFrom element
 same-elements job zero k b r u = refl
 same-elements job (suc n) k b r u =
@@ -75,6 +75,23 @@ module _ (job : Job) (base ruby lines : ℕ) where
   whole : ownFaults job base ruby lines ≡ sizes ++ (bases ++ (rubies ++ parts))
   unfolding ownFaults jobFaults charFaults
   whole = rw (same-all job) (ap (λ (l : List Refusal). sizes ++ l) (append-assoc bases rubies (elementsFaults job 0 (elements job) ++ leftFaults job)))
+
+  -- what is judged before any element
+  abbrev pub ahead : List Refusal
+  ahead = jobFaults job base ruby lines ++ charFaults job
+
+  first-groups : ahead ≡ sizes ++ (bases ++ rubies)
+  unfolding jobFaults charFaults
+  first-groups = refl
+
+  pub sizes-end : {q : Refusal} → verdict sizes ≡ Refused q → Refused q ≡ verdict ahead
+  sizes-end e = sym (ap verdict first-groups ∙ front-refused sizes _ e)
+
+  pub bases-end : {q : Refusal} → verdict sizes ≡ Passed → verdict bases ≡ Refused q → Refused q ≡ verdict ahead
+  bases-end one e = sym (ap verdict first-groups ∙ front-passed sizes _ one ∙ front-refused bases _ e)
+
+  pub rubies-end : verdict sizes ≡ Passed → verdict bases ≡ Passed → verdict rubies ≡ verdict ahead
+  rubies-end one two = sym (ap verdict first-groups ∙ front-passed sizes _ one ∙ front-passed bases _ two)
 
   pub sizes-refuse : {q : Refusal} → verdict sizes ≡ Refused q → Refused q ≡ verdict (ownFaults job base ruby lines)
   sizes-refuse e = sym (ap verdict whole ∙ front-refused sizes _ e)

@@ -1,5 +1,5 @@
-// The job's own faults, judged once at the door (document 01, "The job" and "Refusal list"): numbers 1, 2 and 12, then the characters (3, 4), then
-// the elements in turn (5, 6, and level one's own 7 to 10), then what is left over. Behind it nothing but a line can be refused any more. It relies on
+// The door (document 01, "The job" and "Refusal list"): numbers 1, 2 and 12, then the characters (3, 4), before any element is looked at; and of an element what `layout`
+// asks for as it goes over them: its counts (5), whether its characters are there (6), level one's answer (7 to 10), and what is left over. It relies on
 // `word` for level one, on `class` for the class table, on `refusal` and on `basics`.
 
 ghost use mathlib.Core.Path.{_≡_};
@@ -11,18 +11,44 @@ ghost use lib.ListN.{length, getD};
 ghost use Rattle.basics.specs.Lists.{each, count};
 ghost use Rattle.class.specs.Class.{accepted, blankBefore, blankAfter};
 ghost use Rattle.door.specs.Job.{known, formOf, takesRuns, given, jobOf};
-ghost use Rattle.door.specs.Refusals.{outside, _when_, baseFaults, rubyFaults, ownFaults};
+ghost use Rattle.door.specs.Refusals.{outside, _when_, baseFaults, rubyFaults};
 ghost use Rattle.refusal.specs.declared.Refusal.the-variants.{Character};
 ghost use Rattle.door.specs.Verdict.{verdict};
 ghost use Rattle.door.specs.Values.{sizeRows, characterWrong, baseRows, runsFrom, basesOnly, rubiesOnly, BaseHolds, RubyHolds};
 ghost use Rattle.word.specs.declared.Form.the-variants as form;
-ghost use Rattle.door.specs.Elements.{countedAs, countedBy, partsOnly, Reads, WordReads};
-ghost use Rattle.door.specs.Walk.{Stands, elementStep};
-ghost use Rattle.door.specs.Loop.{Holds, allRows};
+ghost use Rattle.door.specs.Elements.{countedAs, countedBy, partsOnly, Reads};
+ghost use Rattle.door.specs.Whole.{ahead};
 ghost use Rattle.word.specs.Answer.{answer};
-ghost use Rattle.word.specs.Word.{wordOf};
-ghost use Rattle.word.specs.Given.{hasRuby};
 use refusal::Refusal;
+
+// The kinds of element, as their letters on the sheet.
+pub const PLAIN: u32 = 80;
+
+pub const MONO: u32 = 77;
+
+pub const GROUP: u32 = 71;
+
+pub const JUKUGO: u32 = 74;
+
+// The most that a job may have (numbers 1 and 2), that a character may be wide (3) and that an element may take (5).
+pub const MOST_EM: u32 = 4096;
+
+pub const MOST_MEASURE: u32 = 4000000;
+
+pub const MOST_BASES: usize = 1024;
+
+pub const MOST_RUBIES: usize = 2048;
+
+pub const MOST_ELEMENTS: usize = 1024;
+
+pub const MOST_WIDTH: u32 = 4096;
+
+pub const ELEMENT_BASES: u32 = 32;
+
+pub const ELEMENT_RUBIES: u32 = 64;
+
+// "ruby ones 1,024 + index": the place of the first ruby character in a refusal.
+pub const FIRST_RUBY: u32 = 1024;
 
 // An element, or the part of a J that stands in one line: its first base and ruby character in the job, how many it has of each, and the first of its runs.
 pub struct Piece {
@@ -81,7 +107,7 @@ fn em_wrong(em: u32) -> bool
     if em % 2 == 1 {
         return true;
     }
-    is_outside(2, 4096, em)
+    is_outside(2, MOST_EM, em)
 }
 
 // Number 12: some result list is below its count.
@@ -113,16 +139,16 @@ fn check_sizes(
     if em_wrong(em) {
         return Checked::Refused(Refusal::Range(0));
     }
-    if is_outside(1, 4000000, measure) {
+    if is_outside(1, MOST_MEASURE, measure) {
         return Checked::Refused(Refusal::Range(1));
     }
-    if 1024 < bases {
+    if MOST_BASES < bases {
         return Checked::Refused(Refusal::Count(0));
     }
-    if 2048 < rubies {
+    if MOST_RUBIES < rubies {
         return Checked::Refused(Refusal::Count(1));
     }
-    if 1024 < elements {
+    if MOST_ELEMENTS < elements {
         return Checked::Refused(Refusal::Count(2));
     }
     if too_short(base, ruby, lines, bases, rubies) {
@@ -135,10 +161,8 @@ fn check_sizes(
 fn character_wrong(class: u32, width: u32, flag: u32) -> bool
     ensures { λ r. ⌜ r ≡ characterWrong class width flag ⌝ }
 {
-    let row = class::row_of(class);
-    let accepted = row.accepted;
-    if accepted {
-        if is_outside(1, 4096, width) {
+    if class::is_accepted(class) {
+        if is_outside(1, MOST_WIDTH, width) {
             return true;
         }
         return 1 < flag;
@@ -146,17 +170,19 @@ fn character_wrong(class: u32, width: u32, flag: u32) -> bool
     true
 }
 
-// Number 4: a field that the class may not have, or blanks that together exceed the width.
+// Number 4: a field that the class may not have, or blanks that together exceed the width. Most characters have none.
 fn blanks_wrong(class: u32, width: u32, before: u32, after: u32) -> bool
     ensures { λ r. ⌜ r ≡ ((ltb 0 before && not (blankBefore class)) || ((ltb 0 after && not (blankAfter class)) || ltb width (before + after))) ⌝ }
 {
-    let row = class::row_of(class);
-    let may_before = row.before;
-    let may_after = row.after;
-    if stray(before, may_before) {
+    if before == 0 {
+        if after == 0 {
+            return false;
+        }
+    }
+    if stray(before, class::may_have_before(class)) {
         return true;
     }
-    if stray(after, may_after) {
+    if stray(after, class::may_have_after(class)) {
         return true;
     }
     (width as u64) < before as u64 + after as u64
@@ -221,7 +247,7 @@ fn check_reading(i: u32, class: u32, width: u32) -> Checked
     ensures { λ r. ⌜ r ≡ verdict (Character (1024 + i) when (not (accepted class) || outside 1 4096 width)) ⌝ }
 {
     if character_wrong(class, width, 0) {
-        return Checked::Refused(Refusal::Character(1024 + i));
+        return Checked::Refused(Refusal::Character(FIRST_RUBY + i));
     }
     Checked::Passed
 }
@@ -245,28 +271,28 @@ fn check_rubies(n: usize, class: &[u32], width: &[u32]) -> Checked
 fn is_known(kind: u32) -> bool
     ensures { λ r. ⌜ r ≡ known kind ⌝ }
 {
-    if kind == 80 {
+    if kind == PLAIN {
         return true;
     }
-    if kind == 77 {
+    if kind == MONO {
         return true;
     }
-    if kind == 71 {
+    if kind == GROUP {
         return true;
     }
-    kind == 74
+    kind == JUKUGO
 }
 
 pub fn form_of(kind: u32) -> word::Form
     ensures { λ r. ⌜ r ≡ formOf kind ⌝ }
 {
-    if kind == 77 {
+    if kind == MONO {
         return word::Form::M;
     }
-    if kind == 71 {
+    if kind == GROUP {
         return word::Form::G;
     }
-    if kind == 74 {
+    if kind == JUKUGO {
         return word::Form::J;
     }
     word::Form::P
@@ -294,7 +320,7 @@ fn runs_from(u: usize, n: usize, runs: &[u32]) -> Runs
         taken += run as usize;
         j += 1;
     }
-    if 64 < taken {
+    if (ELEMENT_RUBIES as usize) < taken {
         return Runs::Wrong;
     }
     Runs::Sum(taken)
@@ -304,7 +330,7 @@ fn runs_from(u: usize, n: usize, runs: &[u32]) -> Runs
 fn count_mono(ruby: u32, b: usize, r: usize, u: usize) -> Counted
     ensures { λ c. ⌜ c ≡ countedAs form.M 1 ruby [] b r u ⌝ }
 {
-    if is_outside(1, 64, ruby) {
+    if is_outside(1, ELEMENT_RUBIES, ruby) {
         return Counted::Out;
     }
     Counted::Is(Piece {
@@ -320,10 +346,10 @@ fn count_mono(ruby: u32, b: usize, r: usize, u: usize) -> Counted
 fn count_group(base: u32, ruby: u32, b: usize, r: usize, u: usize) -> Counted
     ensures { λ c. ⌜ c ≡ countedAs form.G base ruby [] b r u ⌝ }
 {
-    if is_outside(1, 32, base) {
+    if is_outside(1, ELEMENT_BASES, base) {
         return Counted::Out;
     }
-    if is_outside(1, 64, ruby) {
+    if is_outside(1, ELEMENT_RUBIES, ruby) {
         return Counted::Out;
     }
     Counted::Is(Piece {
@@ -340,7 +366,7 @@ fn count_jukugo(base: u32, b: usize, r: usize, u: usize, runs: &[u32]) -> Counte
     requires { ⌜ u ≤ 1024 ⌝ }
     ensures { λ c. ⌜ c ≡ countedAs form.J base 0 (now (runs .entry)) b r u ⌝ }
 {
-    if is_outside(1, 32, base) {
+    if is_outside(1, ELEMENT_BASES, base) {
         return Counted::Out;
     }
     match runs_from(u, base as usize, runs) {
@@ -357,7 +383,7 @@ fn count_jukugo(base: u32, b: usize, r: usize, u: usize, runs: &[u32]) -> Counte
 }
 
 // Number 5: an element by its kind and counts, those before it having taken b base characters, r ruby characters and u runs. Counts that its kind does not show are not read.
-fn count_element(
+pub fn count_element(
     kind: u32,
     base: u32,
     ruby: u32,
@@ -388,7 +414,7 @@ fn count_element(
 }
 
 // Number 6 of an element: it needs more characters than are left.
-fn runs_out(p: Piece, bases: usize, rubies: usize) -> bool
+pub fn runs_out(p: Piece, bases: usize, rubies: usize) -> bool
     requires { ⌜ (p .base + p .bases < 2 ^ 40) × (p .ruby + p .rubies < 2 ^ 40) ⌝ }
     ensures { λ t. ⌜ t ≡ (ltb bases (p .base + p .bases) || ltb rubies (p .ruby + p .rubies)) ⌝ }
 {
@@ -449,168 +475,14 @@ pub fn measure_piece(
     )
 }
 
-// The word of a piece that was judged, without asking for numbers 7 to 10 again.
-pub fn piece_word(
-    p: Piece,
-    em: u32,
-    class: &[u32],
-    width: &[u32],
-    rclass: &[u32],
-    rwidth: &[u32],
-    runs: &[u32],
-) -> word::Word
-    requires { ⌜ (p .run + p .bases < 2 ^ 40) × WordReads (partsOnly em (now class) (now width) [] [] (now rclass) (now rwidth) [] [] [] (now runs)) p ⌝ }
-    ensures { λ w. ⌜ w ≡ wordOf (p .form) (given (partsOnly em (now (class .entry)) (now (width .entry)) [] [] (now (rclass .entry)) (now (rwidth .entry)) [] [] [] (now (runs .entry))) p) ⌝ }
-{
-    let form = p.form;
-    let b = p.base;
-    let e = p.base + p.bases;
-    let r = p.ruby;
-    let s = p.ruby + p.rubies;
-    let u = p.run;
-    let v = runs_end(p);
-    word::word_of(
-        form,
-        em,
-        &class[b..e],
-        &width[b..e],
-        &rclass[r..s],
-        &rwidth[r..s],
-        &runs[u..v],
-    )
-}
-
-// A P: it has no ruby, and so no row of level one.
-pub fn is_plain(p: Piece) -> bool
-    ensures { λ t. ⌜ t ≡ not (hasRuby (p .form)) ⌝ }
-{
-    let form = p.form;
-    match form {
-        word::Form::P => true,
-        word::Form::M => false,
-        word::Form::G => false,
-        word::Form::J => false,
-    }
-}
-
-// Element k, those before it having taken b base characters, r ruby characters and u runs, of `bases` and `rubies` in all: numbers 5, 6, and 7 to 10 as level one gives them.
-fn check_element(
-    k: usize,
-    b: usize,
-    r: usize,
-    u: usize,
-    bases: usize,
-    rubies: usize,
-    em: u32,
-    class: &[u32],
-    width: &[u32],
-    before: &[u32],
-    after: &[u32],
-    rclass: &[u32],
-    rwidth: &[u32],
-    kind: &[u32],
-    ebase: &[u32],
-    eruby: &[u32],
-    runs: &[u32],
-) -> Step
-    requires { ⌜ Stands bases rubies (partsOnly em (now class) (now width) (now before) (now after) (now rclass) (now rwidth) (now kind) (now ebase) (now eruby) (now runs)) k b r u ⌝ }
-    ensures { λ s. ⌜ s ≡ elementStep bases rubies (partsOnly em (now (class .entry)) (now (width .entry)) (now (before .entry)) (now (after .entry)) (now (rclass .entry)) (now (rwidth .entry)) (now (kind .entry)) (now (ebase .entry)) (now (eruby .entry)) (now (runs .entry))) k b r u ⌝ }
-{
-    let place = k as u32;
-    let counted = count_element(kind[k], ebase[k], eruby[k], b, r, u, runs);
-    let Counted::Is(p) = counted else {
-        return Step::Stop(Refusal::Element(place));
-    };
-    if runs_out(p, bases, rubies) {
-        return Step::Stop(Refusal::Supply(place));
-    }
-    if is_plain(p) {
-        return Step::Next(p);
-    }
-    match measure_piece(
-        place,
-        p,
-        em,
-        class,
-        width,
-        before,
-        after,
-        rclass,
-        rwidth,
-        runs,
-    ) {
-        word::Answer::Set(_) => Step::Next(p),
-        word::Answer::Refused(why) => Step::Stop(why),
-    }
-}
-
 // Characters that no element took.
-fn left_over(b: usize, r: usize, bases: usize, rubies: usize) -> bool
+pub fn left_over(b: usize, r: usize, bases: usize, rubies: usize) -> bool
     ensures { λ t. ⌜ t ≡ (ltb b bases || ltb r rubies) ⌝ }
 {
     if b < bases {
         return true;
     }
     r < rubies
-}
-
-// The n elements in turn, then what is left over.
-fn check_elements(
-    n: usize,
-    bases: usize,
-    rubies: usize,
-    em: u32,
-    class: &[u32],
-    width: &[u32],
-    before: &[u32],
-    after: &[u32],
-    rclass: &[u32],
-    rwidth: &[u32],
-    kind: &[u32],
-    ebase: &[u32],
-    eruby: &[u32],
-    runs: &[u32],
-) -> Checked
-    requires { ⌜ Holds n bases rubies (partsOnly em (now class) (now width) (now before) (now after) (now rclass) (now rwidth) (now kind) (now ebase) (now eruby) (now runs)) ⌝ }
-    ensures { λ c. ⌜ c ≡ verdict (allRows bases rubies (partsOnly em (now (class .entry)) (now (width .entry)) (now (before .entry)) (now (after .entry)) (now (rclass .entry)) (now (rwidth .entry)) (now (kind .entry)) (now (ebase .entry)) (now (eruby .entry)) (now (runs .entry))) n) ⌝ }
-{
-    let mut b: usize = 0;
-    let mut r: usize = 0;
-    let mut u: usize = 0;
-    let mut k: usize = 0;
-    while k < n {
-        match check_element(
-            k,
-            b,
-            r,
-            u,
-            bases,
-            rubies,
-            em,
-            class,
-            width,
-            before,
-            after,
-            rclass,
-            rwidth,
-            kind,
-            ebase,
-            eruby,
-            runs,
-        ) {
-            Step::Stop(why) => return Checked::Refused(why),
-            Step::Next(p) => {
-                b += p.bases;
-                r += p.rubies;
-                u = runs_end(p);
-                k += 1;
-            }
-        }
-    }
-    if left_over(b, r, bases, rubies) {
-        return Checked::Refused(Refusal::Supply(n as u32));
-    }
-    Checked::Passed
 }
 
 // "Where a kind's fields come in several lists, its count is the shortest list's length."
@@ -627,7 +499,7 @@ pub fn base_count(
     fewer(class.len(), fewer(width.len(), blanks))
 }
 
-fn ruby_count(rclass: &[u32], rwidth: &[u32]) -> usize
+pub fn ruby_count(rclass: &[u32], rwidth: &[u32]) -> usize
     ensures { λ n. ⌜ n ≡ min (length (now (rclass .entry))) (length (now (rwidth .entry))) ⌝ }
 {
     fewer(rclass.len(), rwidth.len())
@@ -639,8 +511,8 @@ pub fn element_count(kind: &[u32], ebase: &[u32], eruby: &[u32]) -> usize
     fewer(kind.len(), fewer(ebase.len(), eruby.len()))
 }
 
-// The job's own faults, in the order of the refusal list. `base`, `ruby` and `lines` are the lengths of the result lists.
-pub fn check_job(
+// What is judged before any element: numbers 1, 2 and 12, then the characters. `base`, `ruby` and `lines` are the lengths of the result lists.
+pub fn check_characters(
     em: u32,
     measure: u32,
     class: &[u32],
@@ -653,12 +525,11 @@ pub fn check_job(
     kind: &[u32],
     ebase: &[u32],
     eruby: &[u32],
-    runs: &[u32],
     base: usize,
     ruby: usize,
     lines: usize,
 ) -> Checked
-    ensures { λ c. ⌜ c ≡ verdict (ownFaults (jobOf em measure (now (class .entry)) (now (width .entry)) (now (before .entry)) (now (after .entry)) (now (flag .entry)) (now (rclass .entry)) (now (rwidth .entry)) (now (kind .entry)) (now (ebase .entry)) (now (eruby .entry)) (now (runs .entry))) base ruby lines) ⌝ }
+    ensures { λ c. let job = jobOf em measure (now (class .entry)) (now (width .entry)) (now (before .entry)) (now (after .entry)) (now (flag .entry)) (now (rclass .entry)) (now (rwidth .entry)) (now (kind .entry)) (now (ebase .entry)) (now (eruby .entry)) [] in ⌜ c ≡ verdict (ahead job base ruby lines) ⌝ }
 {
     let bases = base_count(class, width, before, after, flag);
     let rubies = ruby_count(rclass, rwidth);
@@ -671,24 +542,5 @@ pub fn check_job(
     let Checked::Passed = characters else {
         return characters;
     };
-    let readings = check_rubies(rubies, rclass, rwidth);
-    let Checked::Passed = readings else {
-        return readings;
-    };
-    check_elements(
-        elements,
-        bases,
-        rubies,
-        em,
-        class,
-        width,
-        before,
-        after,
-        rclass,
-        rwidth,
-        kind,
-        ebase,
-        eruby,
-        runs,
-    )
+    check_rubies(rubies, rclass, rwidth)
 }

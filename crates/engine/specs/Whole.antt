@@ -1,61 +1,61 @@
--- The answer and the lists by what the door and the filling found.
-use mathlib.Core.Path.{_≡_}
-use mathlib.Core.List.{List, [], _∷_}
-use mathlib.Core.Option.{some}
-use Prim.Native.Nat.{ℕ}
+-- The answer and the lists by what was found: the first refusal of all, or the lines that are written.
+use mathlib.Core.Path.{_≡_, refl, sym, ap, _∙_}
+use mathlib.Core.Bool.{_||_}
+use mathlib.Core.List.{List, []}
+use mathlib.Core.Option.{some, none}
+use Prim.Native.Nat.{ℕ, _≤_}
 use native.Mathlib.Omega.{arith}
-use lib.ListN.{length}
+use borrow.Author.Tests.{ltb-false}
+use lib.Dec.{ltb}
+use lib.ListN.{length, take}
+use Rattle.basics.specs.Laws.{or-none}
 use Rattle.refusal.specs.declared.Refusal.{Refusal}
-use Rattle.door.specs.declared.Checked.the-variants as checked
-use Rattle.door.specs.Job.{Job}
+use Rattle.door.specs.Job.{Job, baseCount, rubyCount}
 use Rattle.door.specs.Refusals.{ownFaults}
-use Rattle.door.specs.Verdict.{verdict}
-use Rattle.door.specs.Passed.{Passed}
+use Rattle.door.specs.Passed.{groups, limits}
 use Rattle.job.specs.declared.Answer.the-variants.{Set, Refused}
 use Rattle.job.specs.Line.{ends, baseIn, rubyIn, byLine}
-use Rattle.job.specs.Refusals.{linesFaults, fault}
-use Rattle.job.specs.Outcome.{Outcome, over, after, outcome}
-use Rattle.fill.specs.Lines.{Full}
-use Rattle.write.specs.Lines.{LinesReady}
-use Rattle.engine.specs.Fault as fault
+use Rattle.job.specs.Refusals.{faults, fault}
+use Rattle.job.specs.Outcome.{Outcome, after, outcome}
+use Rattle.positions.specs.Positions as rows
+use Rattle.positions.specs.Ready.{LinesReady}
+use Rattle.posjoin.specs.Piece.{sheetOf}
+use Rattle.posjoin.specs.Lines as written
+use Rattle.engine.specs.Filled.{Full}
 
 module _ (job : Job) (base ruby lines : List ℕ) where
-  abbrev own : List Refusal
-  own = ownFaults job (length base) (length ruby) (length lines)
-
-  refused : {q : Refusal} → fault job (length base) (length ruby) (length lines) ≡ some q →
+  pub refused : {q : Refusal} → fault job (length base) (length ruby) (length lines) ≡ some q →
       _≡_ {A = Outcome} (record { answer = Refused q; base = base; ruby = ruby; lines = lines }) (outcome job base ruby lines)
   unfolding outcome after
   refused e = rw e
 
-  -- the door refuses
-  pub door-refuses : {q : Refusal} → verdict own ≡ checked.Refused q → _≡_ {A = Outcome} (record { answer = Refused q; base = base; ruby = ruby; lines = lines }) (outcome job base ruby lines)
-  door-refuses e = refused (fault.by-door job (length base) (length ruby) (length lines) e)
+  module _ (wasFar t found far : List ℕ) (n : ℕ) (full : Full job (length base) (length ruby) (length lines) wasFar t found far n) where
+    no-fault : fault job (length base) (length ruby) (length lines) ≡ none
+    unfolding fault faults
+    no-fault = rw (full .own, full .none)
 
-  module _ (passes : verdict own ≡ checked.Passed) where
-    -- a line is refused
-    pub line-refuses : {q : Refusal} → linesFaults job ≡ q ∷ [] → _≡_ {A = Outcome} (record { answer = Refused q; base = base; ruby = ruby; lines = lines }) (outcome job base ruby lines)
-    line-refuses e = refused (fault.by-line job (length base) (length ruby) (length lines) passes e)
+    -- no result list is too short
+    long : (baseCount job ≤ length base) × (baseCount job ≤ length lines) × (rubyCount job ≤ length ruby)
+    long =
+        let l = limits job (length base) (length ruby) (length lines) (groups job (length base) (length ruby) (length lines) (full .own) .itself) in
+        let b = or-none (ltb (length base) (baseCount job)) (ltb (length lines) (baseCount job) || ltb (length ruby) (rubyCount job)) (l .long) in
+        let r = or-none (ltb (length lines) (baseCount job)) (ltb (length ruby) (rubyCount job)) (b .1) in
+        (ltb-false (length base) (baseCount job) (b .0), ltb-false (length lines) (baseCount job) (r .0), ltb-false (length ruby) (rubyCount job) (r .1))
 
-    -- nothing is
-    pub sets : linesFaults job ≡ [] → (n : ℕ) (b r l : List ℕ) → n ≡ length (ends job) → b ≡ over (byLine (baseIn job) 0 (ends job)) base → r ≡ over (byLine (rubyIn job) 0 (ends job)) ruby → l ≡ over (ends job) lines →
+    pub ready : LinesReady (sheetOf job t) n found base ruby
+    ready = written.lines-ready job (full .passed) t (full .holds) n found (full .is) (full .many) (full .none) base ruby (long .0) (long .2)
+
+    pub room : (n ≤ 1024) × (n ≤ length found) × (n ≤ length lines)
+    room =
+        let few = written.few-lines job (full .passed) t (full .holds) n found (full .is) (full .many) (full .none) in
+        (omega (arith, few, full .passed .fewBase), written.found-long job (full .passed) t (full .holds) n found (full .is) (full .many) (full .none), omega (arith, few, long .1))
+
+    -- the lines are written
+    pub sets : (b r l : List ℕ) →
+        (b ≡ rows.over (rows.byLine (rows.baseOf (sheetOf job t)) 0 (take n found)) base) × (r ≡ rows.over (rows.byLine (rows.rubyOf (sheetOf job t)) 0 (take n found)) ruby) →
+        l ≡ rows.over (take n found) lines →
         _≡_ {A = Outcome} (record { answer = Set n; base = b; ruby = r; lines = l }) (outcome job base ruby lines)
     unfolding outcome after
-    sets e n b r l p q s t = rw (p, q, s, t, fault.by-none job (length base) (length ruby) (length lines) passes e)
-
-    pub goes-on : Passed job
-    goes-on = fault.goes-on job (length base) (length ruby) (length lines) passes
-
-    -- what the writing asks for
-    pub ready : (n : ℕ) (table : List ℕ) → Full job table n → LinesReady job n table base ruby lines
-    ready n table full =
-        let long = fault.long job (length base) (length ruby) (length lines) passes in
-        record {
-          passed = goes-on;
-          found = full .lines;
-          many = full .many;
-          none = full .none;
-          bases = omega (arith, long .0);
-          rubies = omega (arith, long .2);
-          rows = omega (arith, long .1);
-        }
+    sets b r l w v =
+        let p = written.lines-written job (full .passed) t (full .holds) n found (full .is) (full .many) (full .none) base ruby w in
+        rw (p .0, p .1, written.ends-written job (full .passed) t (full .holds) n found (full .is) (full .many) (full .none) lines v, full .many, no-fault)

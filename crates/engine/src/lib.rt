@@ -1,13 +1,139 @@
-// The entry point (document 01, "The job" and "Refusal list"): a job in lists to its answer and the three result lists. Nothing is asked of the caller. The door
-// judges the job, the filling finds its lines in a table of its own, and only then is anything written, so that a refusal leaves every result list as
-// it was. It relies on `door`, `fill` and `write`, and on `job` for what the answer means.
+// The entry point (document 01, "The job" and "Refusal list"): a job in lists to its answer and the three result lists. Nothing is asked of the caller. The door judges the
+// characters, `layout` the elements, whose rows it writes into a table of this crate's own; the filling finds the lines in it, and only then is anything
+// written, so that a refusal leaves every result list as it was. It relies on `door`, `layout`, `filling` and `positions`, and on `job` for what the answer means.
 ghost use mathlib.Core.Path.{_≡_};
+ghost use lib.ListN.{length};
 ghost use Rattle.door.specs.Job.{jobOf};
 ghost use Rattle.job.specs.Outcome.{Outcome, outcome};
+ghost use Rattle.engine.specs.Filled.{Room, Fills, Keeps};
+
+// The job's table, and the ends and extents of its lines, at the front of lent lists; or the first refusal of all. `base`, `ruby` and `lines` are the lengths of the
+// result lists.
+pub fn fill_job(
+    t: &mut [u32],
+    ends: &mut [u32],
+    extents: &mut [u32],
+    em: u32,
+    measure: u32,
+    class: &[u32],
+    width: &[u32],
+    before: &[u32],
+    after: &[u32],
+    flag: &[u32],
+    rclass: &[u32],
+    rwidth: &[u32],
+    kind: &[u32],
+    ebase: &[u32],
+    eruby: &[u32],
+    runs: &[u32],
+    base: usize,
+    ruby: usize,
+    lines: usize,
+) -> filling::Lines
+    requires { let job = jobOf em measure (now class) (now width) (now before) (now after) (now flag) (now rclass) (now rwidth) (now kind) (now ebase) (now eruby) (now runs) in ⌜ Room job (now t) (now ends) (now extents) ⌝ }
+    ensures { λ a. let job = jobOf em measure (now (class .entry)) (now (width .entry)) (now (before .entry)) (now (after .entry)) (now (flag .entry)) (now (rclass .entry)) (now (rwidth .entry)) (now (kind .entry)) (now (ebase .entry)) (now (eruby .entry)) (now (runs .entry)) in ⌜ Fills job base ruby lines (now (extents .entry)) (now (t .exit)) (now (ends .exit)) (now (extents .exit)) a ⌝ }
+{
+    match door::check_characters(
+        em,
+        measure,
+        class,
+        width,
+        before,
+        after,
+        flag,
+        rclass,
+        rwidth,
+        kind,
+        ebase,
+        eruby,
+        base,
+        ruby,
+        lines,
+    ) {
+        door::Checked::Refused(why) => return filling::Lines::Refused(why),
+        door::Checked::Passed => {}
+    }
+    match layout::layout(
+        t,
+        em,
+        class,
+        width,
+        before,
+        after,
+        flag,
+        rclass,
+        rwidth,
+        kind,
+        ebase,
+        eruby,
+        runs,
+    ) {
+        door::Checked::Refused(why) => return filling::Lines::Refused(why),
+        door::Checked::Passed => {}
+    }
+    let n = door::base_count(class, width, before, after, flag);
+    filling::fill_lines(t, n, ends, extents, em, 2 * measure)
+}
+
+// The job set by a table and lists of this size, which keep its rows, and the ends and extents of its lines.
+pub fn set_table(
+    t: &mut [u32],
+    ends: &mut [u32],
+    extents: &mut [u32],
+    em: u32,
+    measure: u32,
+    class: &[u32],
+    width: &[u32],
+    before: &[u32],
+    after: &[u32],
+    flag: &[u32],
+    rclass: &[u32],
+    rwidth: &[u32],
+    kind: &[u32],
+    ebase: &[u32],
+    eruby: &[u32],
+    runs: &[u32],
+    base: &mut [u32],
+    ruby: &mut [u32],
+    lines: &mut [u32],
+) -> job::Answer
+    requires { let job = jobOf em measure (now class) (now width) (now before) (now after) (now flag) (now rclass) (now rwidth) (now kind) (now ebase) (now eruby) (now runs) in ⌜ Room job (now t) (now ends) (now extents) ⌝ }
+    ensures { λ r. let job = jobOf em measure (now (class .entry)) (now (width .entry)) (now (before .entry)) (now (after .entry)) (now (flag .entry)) (now (rclass .entry)) (now (rwidth .entry)) (now (kind .entry)) (now (ebase .entry)) (now (eruby .entry)) (now (runs .entry)) in ⌜ _≡_ {A = Outcome} (record { answer = r; base = now (base .exit); ruby = now (ruby .exit); lines = now (lines .exit) }) (outcome job (now (base .entry)) (now (ruby .entry)) (now (lines .entry))) ⌝ }
+    ensures { λ r. let job = jobOf em measure (now (class .entry)) (now (width .entry)) (now (before .entry)) (now (after .entry)) (now (flag .entry)) (now (rclass .entry)) (now (rwidth .entry)) (now (kind .entry)) (now (ebase .entry)) (now (eruby .entry)) (now (runs .entry)) in ⌜ Keeps job (length (now (base .entry))) (length (now (ruby .entry))) (length (now (lines .entry))) (now (extents .entry)) (now (t .exit)) (now (ends .exit)) (now (extents .exit)) r ⌝ }
+{
+    match fill_job(
+        t,
+        ends,
+        extents,
+        em,
+        measure,
+        class,
+        width,
+        before,
+        after,
+        flag,
+        rclass,
+        rwidth,
+        kind,
+        ebase,
+        eruby,
+        runs,
+        base.len(),
+        ruby.len(),
+        lines.len(),
+    ) {
+        filling::Lines::Refused(why) => job::Answer::Refused(why),
+        filling::Lines::Filled(n) => {
+            positions::put_lines(t, n, ends, em, width, rwidth, base, ruby);
+            positions::put_ends(n, ends, lines);
+            job::Answer::Set(n)
+        }
+    }
+}
 
 // Sets a job. `class`, `width`, `before`, `after` and `flag` are the base characters' fields, `rclass` and `rwidth` the ruby characters'; `kind` (a letter's byte: 80 P, 77 M, 71 G,
 // 74 J), `ebase` and `eruby` the elements'; `runs` the J runs. The positions go to `base` and `ruby`, in half units from the line's start, and the running counts of base
-// characters at the lines' ends to `lines`.
+// characters at the lines' ends to `lines`. A small job has a small table, since a table is cleared before it is used.
 pub fn set_job(
     em: u32,
     measure: u32,
@@ -28,30 +154,39 @@ pub fn set_job(
 ) -> job::Answer
     ensures { λ r. ⌜ _≡_ {A = Outcome} (record { answer = r; base = now (base .exit); ruby = now (ruby .exit); lines = now (lines .exit) }) (outcome (jobOf em measure (now (class .entry)) (now (width .entry)) (now (before .entry)) (now (after .entry)) (now (flag .entry)) (now (rclass .entry)) (now (rwidth .entry)) (now (kind .entry)) (now (ebase .entry)) (now (eruby .entry)) (now (runs .entry))) (now (base .entry)) (now (ruby .entry)) (now (lines .entry))) ⌝ }
 {
-    match door::check_job(
-        em,
-        measure,
-        class,
-        width,
-        before,
-        after,
-        flag,
-        rclass,
-        rwidth,
-        kind,
-        ebase,
-        eruby,
-        runs,
-        base.len(),
-        ruby.len(),
-        lines.len(),
-    ) {
-        door::Checked::Refused(why) => return job::Answer::Refused(why),
-        door::Checked::Passed => {}
+    if door::base_count(class, width, before, after, flag) <= 128 {
+        let mut t = [0; 2432];
+        let mut ends = [0; 128];
+        let mut extents = [0; 128];
+        return set_table(
+            &mut t,
+            &mut ends,
+            &mut extents,
+            em,
+            measure,
+            class,
+            width,
+            before,
+            after,
+            flag,
+            rclass,
+            rwidth,
+            kind,
+            ebase,
+            eruby,
+            runs,
+            base,
+            ruby,
+            lines,
+        );
     }
+    let mut t = [0; 19456];
     let mut ends = [0; 1024];
-    match fill::fill_lines(
+    let mut extents = [0; 1024];
+    set_table(
+        &mut t,
         &mut ends,
+        &mut extents,
         em,
         measure,
         class,
@@ -65,30 +200,8 @@ pub fn set_job(
         ebase,
         eruby,
         runs,
-    ) {
-        fill::Lines::Refused(why) => job::Answer::Refused(why),
-        fill::Lines::Filled(n) => {
-            write::write_lines(
-                n,
-                &ends,
-                em,
-                measure,
-                class,
-                width,
-                before,
-                after,
-                flag,
-                rclass,
-                rwidth,
-                kind,
-                ebase,
-                eruby,
-                runs,
-                base,
-                ruby,
-                lines,
-            );
-            job::Answer::Set(n)
-        }
-    }
+        base,
+        ruby,
+        lines,
+    )
 }

@@ -11,7 +11,7 @@ use Rattle.job.specs.Line.{ends}
 use Rattle.job.specs.Outcome.{Outcome, outcome}
 use Rattle.job.specs.Filled.{chain-few}
 use Rattle.job.specs.Demands.{lines-filled}
-use Rattle.result.specs.Accepted.{accepted, many, door}
+use Rattle.result.specs.Set.{accepted, many, door}
 use Rattle.job_account.specs.Outcome.{Telling, telling}
 use Rattle.account_sheet.specs.Tell as tell
 use Rattle.exports.specs.declared.Answer as exported

@@ -1,10 +1,12 @@
 pub mod Theorems
 pub mod First
-pub mod Tell
 pub mod Rows
+pub mod Tell
+pub mod Table
 pub mod Line
 pub mod Lines
+pub mod Walk
+pub mod Join
 pub mod Cases
 pub mod Accepted
 pub mod Outcome
-pub mod Determined

@@ -1,239 +1,273 @@
--- One line: what is written of its accounts so far, and what each piece adds. The walk over its elements is that of `write`.
-use mathlib.Core.Path.{_≡_, refl, sym, ap, subst, _∙_}
-use mathlib.Core.List.{List, [], _++_, map}
-use Prim.Native.Nat.{ℕ, _+_, _*_, _^_, _≤_, _<_, min, max}
+-- One line: what is written of its accounts so far and what is left to write make up the whole.
+use mathlib.Core.Path.{_≡_, refl, sym, ap, _∙_, subst}
+use mathlib.Core.Bool.{Bool, true, false, cond, _&&_}
+use mathlib.Core.List.{List, [], _++_}
+use Prim.Native.Nat.{ℕ, zero, suc, _+_, _-_, _*_, _^_, _≤_, _<_, zero-le}
 use native.Mathlib.Nat.{add-zero}
 use native.Mathlib.Omega.{arith}
-use lib.ListN.{length, length-map}
+use borrow.Author.Tests.{lt-ltb, le-ltb, le-leb, lt-leb}
+use lib.Dec.{eqb, leb, ltb}
+use lib.ListN.{length}
 use lib.Seq.{sets, length-sets}
 use Rattle.basics.specs.Laws.{sets-append}
+use Rattle.line.specs.declared.Element.{Element}
 use Rattle.line.specs.declared.State.{State}
-use Rattle.line.specs.Setting.{start}
-use Rattle.line.specs.Setting as setting
-use Rattle.door.specs.declared.Piece.{Piece}
-use Rattle.door.specs.Job.{Job, baseCount, takesRuns, element}
-use Rattle.door.specs.Passed.{Passed}
-use Rattle.job.specs.Line.{pieces, seen, lineOf, extentOf}
-use Rattle.job.specs.Promise.{Break}
-use Rattle.job.specs.Walk.{stateOf, state-none, extent-of}
-use Rattle.job.specs.Bounded.{few-pieces}
+use Rattle.line.specs.Rules.{blockOf, rubyOf}
+use Rattle.line.specs.Setting.{start, origin, furthest}
+use Rattle.cells.specs.Cells.{cellAt, piece, stop, Advances}
+use Rattle.cells.specs.Sound.{Sound, advances}
+use Rattle.cells.specs.Walk.{next-near}
 use Rattle.account.specs.declared.Before.{Before}
+use Rattle.account.specs.declared.Far.{Far}
+use Rattle.account.specs.declared.Far.the-variants.{Nothing, Ends}
+use Rattle.account.specs.declared.Reason.{Reason}
+use Rattle.account.specs.declared.Reason.the-variants.{Start, Block, Under, Over, Ruby, Edge, Free}
 use Rattle.account.specs.Claims.{other}
-use Rattle.account.specs.Step.{nothing, standing}
-use Rattle.write.specs.declared.Cursor.{Cursor}
-use Rattle.write.specs.Walks.{elementOf, Amid, Stands}
-use Rattle.write.specs.Walks as walks
+use Rattle.account.specs.Reasons.{touches, under, over, edge, beside}
+use Rattle.account.specs.Step.{touched, rubyAfter, besideLast, reasonAfter, longer, further, nothing}
 use Rattle.job_account.specs.declared.Told.{Told}
-use Rattle.job_account.specs.declared.Next.{Next}
-use Rattle.job_account.specs.Tell.{TellReady, Tells, standingIn}
-use Rattle.job_account.specs.Tell as tell
-use Rattle.job_account.specs.First.{firstIn, first-is}
-use Rattle.job_account.specs.Rows.{row, same-row, rowIn, rowsUpto, rowsIn, rows-more, length-rows, gap-small, other-earlier}
+use Rattle.job_account.specs.declared.Place.{Place}
+use Rattle.job_account.specs.Rows.{row}
+use Rattle.job_account.specs.Table.{toldAt, rowsFrom, lineRows, piecesFrom, piecesIn, endedFrom, endedIn, behind}
 
--- The line from s up to e can be told: the list has six places for each base character, and no more than a row for each of those before s is written.
-pub record LineReady (job : Job) (s e : ℕ) (at : Cursor) (first : ℕ) (out : List ℕ) : Type 0 where
-  pub passed : Passed job
-  pub stands : Stands job at s
-  pub line : Break job s e
-  pub few : first ≤ s
-  pub room : 6 * baseCount job ≤ length out
+-- The line from s up to e can be told: the table is sound, the list has six places for each of its rows, and no more elements are passed and rows told than there are characters before s.
+pub record LineReady (em : ℕ) (t : List ℕ) (s e : ℕ) (from : Place) (out : List ℕ) : Type 0 where
+  pub n : ℕ
+  pub sound : Sound em t n
+  pub ahead : s < e
+  pub within : e ≤ n
+  pub index : from .k ≤ s
+  pub few : from .q ≤ s
+  pub room : 6 * n ≤ length out
 
--- its accounts are written from row `first` on and nothing else, its extent is known, and the walk stands where the next line begins
-pub record LineTold (job : Job) (s e first : ℕ) (was out : List ℕ) (r : Next) : Type 0 where
-  pub stands : Stands job (r .at) e
-  pub few : r .q ≤ e
-  pub next : r .q ≡ first + length (lineOf job s e)
-  pub rows : out ≡ sets was (6 * first) (rowsIn job s e)
-  pub extent : r .extent ≡ extentOf job s e
+-- The other piece of a reason is an earlier one.
 
--- before each element of the line
-pub record Along (job : Job) (s e first : ℕ) (was : List ℕ) (at : Cursor) (st : State) (b : Before) (i q : ℕ) (out : List ℕ) : Type 0 where
-  pub amid : Amid job s e at
-  pub within : at .b ≤ e
-  pub state : st ≡ stateOf job s (at .b)
-  pub count : i ≡ length (lineOf job s (at .b))
-  pub before : b ≡ standingIn job s (at .b) i
-  pub index : at .k ≡ firstIn job s + i
-  pub few : q ≤ max s (at .b)
-  pub next : q ≡ first + i
-  pub rows : out ≡ sets was (6 * first) (rowsIn job s (at .b))
+-- the ruby that reaches furthest is that of a piece before number j
+abbrev pub Earlier : ℕ → Far → Type 0
+Earlier j Nothing = Unit
+Earlier j (Ends k end) = k ≤ j
 
--- the walk stands before the line's first element
-pub first-at : {job : Job} {s e first : ℕ} {from : Cursor} {out : List ℕ} → LineReady job s e from first out → firstIn job s ≡ from .k
-first-at l = first-is (walks.amid-first (l .passed) (l .line) (l .stands)) (omega (arith, l .stands .from, l .line .ahead)) (l .stands .from)
+either : (p : Bool) (r q : Reason) (n : ℕ) → other r ≤ n → other q ≤ n → other (cond p r q) ≤ n
+either true r q n h k = h
+either false r q n h k = k
 
-pub along-first : {job : Job} {s e first : ℕ} {from : Cursor} {out : List ℕ} → LineReady job s e from first out → Along job s e first out from start nothing 0 first out
-unfolding rowsIn lineOf standing
-along-first {job} {s} {e} {first} {from} {out} l =
-    record {
-      amid = amid;
-      within = omega (arith, l .stands .from, l .line .ahead);
-      state = sym (state-none job s (from .b) none);
-      count = sym (ap (λ ps. length (map (seen job) ps)) none);
-      before = refl;
-      index = sym (add-zero (firstIn job s) ∙ first-at l);
-      few = most s (from .b) first (l .few);
-      next = sym (add-zero first);
-      rows = sym (ap (sets out (6 * first)) empty);
-    }
+at-edge : (z n : ℕ) → other (edge z) ≤ n
+at-edge z n = either (eqb z 0) Edge Free n zero-le zero-le
+
+by-far : (j : ℕ) (far : Far) (z : ℕ) → Earlier j far → other (touched far z (edge z)) ≤ j
+by-far j Nothing z h = at-edge z j
+by-far j (Ends k end) z h = either (eqb end z) (Ruby k) (edge z) j h (at-edge z j)
+
+by-ruby : (j : ℕ) (far : Far) (e : Element) (x : ℕ) → Earlier j far → other (rubyAfter far e x) ≤ j
+by-ruby j far e x h = either (e .ruby) (touched far (rubyOf e x .start) (edge (rubyOf e x .start))) Free j (by-far j far (rubyOf e x .start) h) zero-le
+
+by-last : (j : ℕ) (b : Before) (e : Element) (x : ℕ) (rest : Reason) → other rest ≤ j → other (besideLast j b e x rest) ≤ j
+unfolding beside
+by-last zero b e x rest h = h
+by-last (suc j) b e x rest h =
+    let p = b .last in
+    let y = b .at in
+    either (touches p y e x) (Block j) _ (suc j) (omega arith)
+    (either (under p y e x) (Under j (e .before)) _ (suc j) (omega arith) (either (over p y e x) (Over j (p .after)) rest (suc j) (omega arith) h))
+
+pub other-earlier : (j : ℕ) (b : Before) (e : Element) (x : ℕ) → Earlier j (b .far) → other (reasonAfter j b e x) ≤ j
+unfolding reasonAfter
+other-earlier j b e x h = either (eqb (blockOf e x .start) 0) Start _ j zero-le (by-last j b e x (rubyAfter (b .far) e x) (by-ruby j (b .far) e x h))
+
+pub earlier-next : (j : ℕ) (far : Far) (e : Element) (x : ℕ) → Earlier j far → Earlier (j + 1) (further j far e x)
+earlier-next j far e x h = go (e .ruby) far h
   where
-    amid : Amid job s e from
-    amid = walks.amid-first (l .passed) (l .line) (l .stands)
+    nearer : (p : Bool) (k end upto : ℕ) → k ≤ j → Earlier (j + 1) (cond p (Ends j upto) (Ends k end))
+    nearer true k end upto h = omega arith
+    nearer false k end upto h = omega arith
 
-    none : pieces job s (from .b) ≡ []
-    none = walks.none-yet amid (omega (arith, l .stands .from, l .line .ahead)) (l .stands .from)
+    go : (p : Bool) (far : Far) → Earlier j far → Earlier (j + 1) (cond p (longer j far (rubyOf e x .end)) far)
+    go true Nothing h = omega arith
+    go true (Ends k end) h = nearer (leb end (rubyOf e x .end)) k end (rubyOf e x .end) h
+    go false Nothing h = tt
+    go false (Ends k end) h = omega arith
 
-    empty : rowsIn job s (from .b) ≡ []
-    empty = ap (rowsUpto job s (from .b)) (ap (λ ps. length (map (seen job) ps)) none)
+-- Past the line's end there is no piece.
 
-    most : (s b q : ℕ) → q ≤ s → q ≤ max s b
-    most s b q h = omega arith
+pub no-rows : (em : ℕ) (t : List ℕ) (k n j : ℕ) (st : State) (b : Before) (i e : ℕ) → e ≤ i → rowsFrom em t k n j st b i e ≡ []
+unfolding rowsFrom
+no-rows em t k zero j st b i e h = refl
+no-rows em t k (suc n) j st b i e h = rw (le-ltb i e h)
 
--- at an element of the line
-module _ {job : Job} {s e first : ℕ} {from : Cursor} {was : List ℕ} (line : LineReady job s e from first was)
-    {at : Cursor} {st : State} {b : Before} {i q : ℕ} {out : List ℕ} (along : Along job s e first was at st b i q out) where
-  abbrev x : Piece
-  x = elementOf job at
+pub no-pieces : (t : List ℕ) (n i e : ℕ) → e ≤ i → piecesFrom t n i e ≡ 0
+unfolding piecesFrom
+no-pieces t zero i e h = refl
+no-pieces t (suc n) i e h = rw (le-ltb i e h)
 
-  -- a list that is written keeps its length
-  pub same-long : length out ≡ length was
-  same-long = ap length (along .rows) ∙ length-sets was (6 * first) (rowsIn job s (at .b))
+pub none-ended : (t : List ℕ) (n i e : ℕ) → e ≤ i → endedFrom t n i e ≡ 0
+unfolding endedFrom
+none-ended t zero i e h = refl
+none-ended t (suc n) i e h = rw (le-ltb i e h)
 
-  module _ (here : at .b < e) where
-    abbrev upto : ℕ
-    upto = min e (at .b + x .bases)
+-- No more pieces than characters, and no more elements.
 
-    pub ready : TellReady job s upto (at .k) x st i b
-    unfolding element
-    ready =
-        record {
-          into = walks.into (along .amid) here;
-          index = walks.smalls (along .amid) here .0;
-          state = along .state;
-          count = along .count;
-          stands = along .before;
-        }
+pub pieces-few : (t : List ℕ) (n i e : ℕ) → piecesFrom t n i e ≤ n
+unfolding piecesFrom
+pieces-few t zero i e = zero-le
+pieces-few t (suc n) i e = go (ltb i e) (pieces-few t n (i + cellAt t i .bases) e)
+  where
+    go : (p : Bool) {z : ℕ} → z ≤ n → cond p (suc z) 0 ≤ suc n
+    go true h = omega arith
+    go false h = zero-le
 
-    -- the piece has a base character of its own
-    ahead : max s (at .b) < upto
-    unfolding element
-    ahead = go s (at .b) upto (walks.into (along .amid) here .ahead) (walks.into (along .amid) here .past)
-      where
-        go : (s b c : ℕ) → s < c → b < c → max s b < c
-        go s b c h k = omega arith
+pub ended-few : (t : List ℕ) (n i e : ℕ) → endedFrom t n i e ≤ n
+unfolding endedFrom
+ended-few t zero i e = zero-le
+ended-few t (suc n) i e = go (ltb i e && leb (i + cellAt t i .bases) e) (ended-few t n (i + cellAt t i .bases) e)
+  where
+    go : (p : Bool) {z : ℕ} → z ≤ n → cond p (suc z) 0 ≤ suc n
+    go true h = omega arith
+    go false h = zero-le
 
-    pub fits : (q + 1 ≤ upto) × (6 * q + 6 ≤ length out)
-    fits = (omega (arith, along .few, ahead), room)
-      where
-        below : (e c : ℕ) → min e c ≤ e
-        below e c = omega arith
+-- Before the piece from i, number j of the line, the line so far in the state st.
+pub record Along (em : ℕ) (t : List ℕ) (s e : ℕ) (from : Place) (was : List ℕ) (i : ℕ) (st : State) (b : Before) (j : ℕ) (out : List ℕ) : Type 0 where
+  pub fuel : ℕ
+  pub enough : e ≤ i + fuel
+  pub near : furthest st ≤ 524288 * i
+  pub many : s + j ≤ i
+  pub earlier : Earlier j (b .far)
+  pub rows : sets out (6 * (from .q + j)) (rowsFrom em t (from .k) fuel j st b i e) ≡ sets was (6 * from .q) (lineRows em t (from .k) s e)
+  pub pieces : j + piecesFrom t fuel i e ≡ piecesIn t s e
+  pub ended : i ≤ e → j + endedFrom t fuel i e ≡ endedIn t s e
+  pub cut : e < i → j ≡ endedIn t s e + 1
+  pub long : length out ≡ length was
 
-        room : 6 * q + 6 ≤ length out
-        room = omega (arith, along .few, ahead, below e (at .b + x .bases), line .line .within, line .room, same-long)
-
-    -- few pieces
-    pub few-so-far : i ≤ 1024
-    unfolding lineOf
-    few-so-far = omega (arith, along .count, length-map (pieces job s (at .b)) (seen job), few-pieces job s (at .b), along .amid .passed .fewElements)
-
-    pub index-small : (from .k < 1024) × (at .k < 1024)
-    index-small = let h = walks.smalls (along .amid) here .0 in (omega (arith, first-at line, along .index), h)
-
-    pub places-small : q + 1 < 8192
-    places-small = omega (arith, fits .0, below e (at .b + x .bases), line .line .within, along .amid .passed .fewBase)
-      where
-        below : (e c : ℕ) → min e c ≤ e
-        below e c = omega arith
-
-    module _ (told : Told) (tells : Tells job s upto i told) where
-      pub asks-row : (told .account .gap < 2 ^ 32) × (told .start < 2 ^ 32) × (from .k + other (told .account .reason) < 2 ^ 32) × (6 * q + 6 ≤ length out)
-      asks-row =
-          let small = gap-small job (along .amid .passed) s upto i (omega (arith, tell.one-more ready)) in (
-            below (told .account .gap) (ap (λ a. a .gap) (tells .account)) (small .0),
-            below (told .start) (tells .start) (small .1),
-            omega (arith, first-at line, along .index, walks.smalls (along .amid) here .0, ap (λ a. other (a .reason)) (tells .account), other-earlier job s upto i, few-so-far),
-            fits .1,
-          )
-        where
-          below : (g : ℕ) {h : ℕ} → g ≡ h → h ≤ 536870912 → g < 2 ^ 32
-          below g k l = omega arith
-
-      -- the list with its row
-      abbrev now : List ℕ
-      now = sets out (6 * q) (row (from .k) (at .k) (told .start) (told .account))
-
-      one-row : rowsIn job s upto ≡ rowsIn job s (at .b) ++ row (from .k) (at .k) (told .start) (told .account)
-      unfolding element
-      one-row =
-          rows-more ready
-          ∙ ap (λ r. rowsIn job s (at .b) ++ r) this
-        where
-          this : rowIn job s upto i ≡ row (from .k) (at .k) (told .start) (told .account)
-          this = same-row (first-at line) (sym (along .index)) (sym (tells .start)) (sym (tells .account))
-
-      now-rows : now ≡ sets was (6 * first) (rowsIn job s upto)
-      now-rows =
-          ap (λ o. sets o (6 * q) this) (along .rows)
-          ∙ ap (λ k. sets (sets was (6 * first) (rowsIn job s (at .b))) k this) place
-          ∙ sym (sets-append was (rowsIn job s (at .b)) this (6 * first))
-          ∙ ap (sets was (6 * first)) (sym one-row)
-        where
-          this : List ℕ
-          this = row (from .k) (at .k) (told .start) (told .account)
-
-          place : 6 * q ≡ 6 * first + length (rowsIn job s (at .b))
-          place = omega (arith, along .next, along .count, length-rows job s (at .b))
-
-      now-next : q + 1 ≡ first + length (lineOf job s upto)
-      now-next = omega (arith, along .next, tell.one-more ready)
-
-      now-extent : setting.furthest (told .st) ≡ extentOf job s upto
-      now-extent = ap setting.furthest (tells .state) ∙ sym (extent-of job s upto)
-
-      -- a J that the line's end cuts goes on in the next line
-      pub cut : e < at .b + x .bases → LineTold job s e first was now (record { at = at; q = q + 1; extent = setting.furthest (told .st) })
-      cut h =
-          let is : upto ≡ e = walks.longer e (at .b + x .bases) h in
-          record {
-            stands = walks.stands-cut (along .amid) here h;
-            few = subst (λ c. q + 1 ≤ c) is (fits .0);
-            next = now-next ∙ ap (λ c. first + length (lineOf job s c)) is;
-            rows = now-rows ∙ ap (λ c. sets was (6 * first) (rowsIn job s c)) is;
-            extent = now-extent ∙ ap (extentOf job s) is;
-          }
-
-      -- any other is passed
-      pub along-next : at .b + x .bases ≤ e →
-          Along job s e first was (record { k = at .k + 1; b = x .base + x .bases; r = x .ruby + x .rubies; u = x .run + takesRuns (x .form) (x .bases) }) (told .st) (told .before) (i + 1) (q + 1) now
-      unfolding element
-      along-next h =
-          let is : upto ≡ at .b + x .bases = walks.shorter e (at .b + x .bases) h in
-          record {
-            amid = walks.amid-next (along .amid) here;
-            within = h;
-            state = tells .state ∙ ap (stateOf job s) is;
-            count = sym (tell.one-more ready) ∙ ap (λ c. length (lineOf job s c)) is;
-            before = tells .stands ∙ ap (λ c. standingIn job s c (i + 1)) is;
-            index = omega (arith, along .index);
-            few = most s (at .b + x .bases) (subst (λ c. q + 1 ≤ c) is (fits .0));
-            next = omega (arith, along .next);
-            rows = now-rows ∙ ap (λ c. sets was (6 * first) (rowsIn job s c)) is;
-          }
-        where
-          most : (s b : ℕ) → q + 1 ≤ b → q + 1 ≤ max s b
-          most s b h = omega arith
-
-  -- up to its end
-  pub along-end : e ≤ at .b → LineTold job s e first was out (record { at = at; q = q; extent = setting.furthest st })
-  along-end h =
-      let is : at .b ≡ e = omega (arith, along .within) in
+module _ {em : ℕ} {t : List ℕ} {s e : ℕ} {from : Place} {was : List ℕ} (ready : LineReady em t s e from was) where
+  pub along-first : Along em t s e from was s start nothing 0 was
+  along-first =
       record {
-        stands = walks.stands-end (along .amid) is;
-        few = most s (at .b) is (along .few) (line .line .ahead);
-        next = along .next ∙ ap (λ n. first + n) (along .count) ∙ ap (λ c. first + length (lineOf job s c)) is;
-        rows = along .rows ∙ ap (λ c. sets was (6 * first) (rowsIn job s c)) is;
-        extent = ap setting.furthest (along .state) ∙ sym (extent-of job s (at .b)) ∙ ap (extentOf job s) is;
+        fuel = e - s;
+        enough = omega arith;
+        near = zero-le;
+        many = omega arith;
+        earlier = tt;
+        rows = ap (λ z. sets was (6 * z) (lineRows em t (from .k) s e)) (add-zero (from .q));
+        pieces = omega arith;
+        ended = λ _. omega arith;
+        cut = λ h. absurd (omega (arith, ready .ahead));
+        long = refl;
       }
-    where
-      most : (s b : ℕ) → b ≡ e → q ≤ max s b → s < e → q ≤ e
-      most s b g k l = omega arith
+
+  module _ {i : ℕ} {st : State} {b : Before} {j : ℕ} {out : List ℕ} (q : Along em t s e from was i st b j out) where
+    pub few-told : (j ≤ 1024) × (from .k ≤ 1024) × (from .q ≤ 1024)
+    few-told =
+        let m = ready .sound .few in
+        (omega (arith, q .pieces, pieces-few t (e - s) s e, ready .within), omega (arith, ready .index, ready .ahead, ready .within), omega (arith, ready .few, ready .ahead, ready .within))
+
+    -- all is told, and the list's next row known
+    pub told-all : e ≤ i → out ≡ sets was (6 * from .q) (lineRows em t (from .k) s e)
+    told-all h = ap (sets out (6 * (from .q + j))) (sym (no-rows em t (from .k) (q .fuel) j st b i e h)) ∙ q .rows
+
+    next-row : e ≤ i → from .q + j ≡ from .q + piecesIn t s e
+    next-row h = omega (arith, q .pieces, no-pieces t (q .fuel) i e h)
+
+    same : {a b c d : ℕ} → a ≡ b → c ≡ d → _≡_ {A = Place} (record { k = a; q = c }) (record { k = b; q = d })
+    same p r = cc
+
+    pub at-end : i ≡ e → record { k = from .k + j; q = from .q + j } ≡ behind t s e from
+    at-end h = same (omega (arith, q .ended (omega arith), none-ended t (q .fuel) i e (omega arith))) (next-row (omega arith))
+
+    pub at-cut : e < i → (0 < j) × (record { k = from .k + j - 1; q = from .q + j } ≡ behind t s e from)
+    at-cut h = let c = q .cut h in (omega arith, same (omega arith) (next-row (omega arith)))
+
+    module _ (h : i < e) where
+      abbrev c : ℕ
+      c = stop t i e
+
+      abbrev r : Told
+      r = toldAt em t i (stop t i e) st j b
+
+      pub in-table : i < ready .n
+      in-table = omega (arith, ready .within)
+
+      ahead : (i < stop t i e) × (stop t i e ≤ i + cellAt t i .bases)
+      ahead = let some = ready .sound .row i in-table .some in (omega arith, omega arith)
+
+      pub held : 19 * i + 19 ≤ length t
+      held = omega (arith, in-table, ready .sound .long)
+
+      pub few : (i < 1024) × (0 < cellAt t i .bases) × (cellAt t i .bases ≤ 32)
+      few = let row = ready .sound .row i in-table in (omega (arith, in-table, ready .sound .few), row .some, row .few)
+
+      pub can-advance : Advances em t st i (stop t i e)
+      can-advance = advances em t (ready .n) (ready .sound) i (stop t i e) (ahead .0) (ahead .1) in-table st (q .near)
+
+      near-next : furthest (r .st) ≤ 524288 * (i + cellAt t i .bases)
+      near-next = next-near em t (ready .n) (ready .sound) st i c (ahead .0) (ahead .1) in-table (q .near)
+
+      -- the numbers of its row are small, and have their places
+      pub small : (j ≤ 1024) × (from .k ≤ 1024) × (from .q ≤ 1024) × (6 * (from .q + j) + 6 ≤ length out)
+      small =
+          (omega (arith, q .many, few .0), omega (arith, ready .index, q .many, few .0), omega (arith, ready .few, q .many, few .0), omega (arith, ready .few, q .many, in-table, ready .room, q .long))
+
+      pub asks-row : (r .account .gap < 2 ^ 32) × (r .start < 2 ^ 32) × (from .k + other (r .account .reason) < 2 ^ 32) × (6 * (from .q + j) + 6 ≤ length out)
+      asks-row = (
+        omega (arith, far),
+        omega (arith, far),
+        omega (arith, small .0, small .1, other-earlier j b (piece em t i c) (origin st (piece em t i c)) (q .earlier)),
+        small .3,
+      )
+        where
+          far : r .start ≤ 553648128
+          far = omega (arith, near-next, few .0, few .2)
+
+      -- one row more
+      along-one : Along em t s e from was (i + cellAt t i .bases) (r .st) (r .before) (j + 1) (sets out (6 * (from .q + j)) (row (from .k) (from .k + j) (r .start) (r .account)))
+      unfolding rowsFrom piecesFrom endedFrom
+      along-one = go (q .fuel) (q .enough) (q .rows) (q .pieces) (q .ended (omega arith))
+        where
+          end : ℕ
+          end = i + cellAt t i .bases
+
+          this : List ℕ
+          this = row (from .k) (from .k + j) (r .start) (r .account)
+
+          go : (m : ℕ) → e ≤ i + m → sets out (6 * (from .q + j)) (rowsFrom em t (from .k) m j st b i e) ≡ sets was (6 * from .q) (lineRows em t (from .k) s e) →
+              j + piecesFrom t m i e ≡ piecesIn t s e → j + endedFrom t m i e ≡ endedIn t s e →
+              Along em t s e from was (i + cellAt t i .bases) (r .st) (r .before) (j + 1) (sets out (6 * (from .q + j)) (row (from .k) (from .k + j) (r .start) (r .account)))
+          go zero room u v w = absurd (omega arith)
+          go (suc m) room u v w =
+              record {
+                fuel = m;
+                enough = omega (arith, few .1);
+                near = near-next;
+                many = omega (arith, q .many, few .1);
+                earlier = earlier-next j (b .far) (piece em t i c) (origin st (piece em t i c)) (q .earlier);
+                rows =
+                    ap (λ z. sets (sets out (6 * (from .q + j)) this) z rest) (place (from .q) j)
+                    ∙ sym (sets-append out this rest (6 * (from .q + j)))
+                    ∙ ap (λ p. sets out (6 * (from .q + j)) (cond p (this ++ rest) [])) (sym (lt-ltb i e h))
+                    ∙ u;
+                pieces = omega (arith, v, pieces-are);
+                ended = λ l. omega (arith, w, ended-more l);
+                cut = λ l. omega (arith, w, ended-none l);
+                long = length-sets out (6 * (from .q + j)) this ∙ q .long;
+              }
+            where
+              rest : List ℕ
+              rest = rowsFrom em t (from .k) m (j + 1) (r .st) (r .before) (i + cellAt t i .bases) e
+
+              place : (q j : ℕ) → 6 * (q + (j + 1)) ≡ 6 * (q + j) + 6
+              place q j = omega arith
+
+              pieces-are : piecesFrom t (suc m) i e ≡ suc (piecesFrom t m (i + cellAt t i .bases) e)
+              pieces-are = rw (lt-ltb i e h)
+
+              ended-more : i + cellAt t i .bases ≤ e → endedFrom t (suc m) i e ≡ suc (endedFrom t m (i + cellAt t i .bases) e)
+              ended-more l = rw (lt-ltb i e h, le-leb (i + cellAt t i .bases) e l)
+
+              ended-none : e < i + cellAt t i .bases → endedFrom t (suc m) i e ≡ 0
+              ended-none l = rw (lt-ltb i e h, lt-leb (i + cellAt t i .bases) e l)
+
+      pub along-next : {end : ℕ} {told : Told} {out2 : List ℕ} → end ≡ i + cellAt t i .bases → told ≡ r →
+          out2 ≡ sets out (6 * (from .q + j)) (row (from .k) (from .k + j) (told .start) (told .account)) → Along em t s e from was end (told .st) (told .before) (j + 1) out2
+      along-next {end} {told} {out2} u v w =
+          subst (λ o. Along em t s e from was end (told .st) (told .before) (j + 1) o) (sym w)
+          (subst (λ z. Along em t s e from was z (told .st) (told .before) (j + 1) (sets out (6 * (from .q + j)) (row (from .k) (from .k + j) (told .start) (told .account)))) (sym u)
+          (subst (λ (z : Told). Along em t s e from was (i + cellAt t i .bases) (z .st) (z .before) (j + 1) (sets out (6 * (from .q + j)) (row (from .k) (from .k + j) (z .start) (z .account))))
+          (sym v) along-one))

@@ -1,24 +1,30 @@
 -- The account of a job in lists: the answer, and the lists after it. The checks and the refusals are those of the setting.
-use mathlib.Core.Path.{_≡_, sym, ap, _∙_}
-use mathlib.Core.List.{List, [], _∷_}
+use mathlib.Core.Path.{_≡_, refl, sym, ap, _∙_}
+use mathlib.Core.List.{List, [], _∷_, _++_}
 use mathlib.Core.Option.{Option, none, some}
-use Prim.Native.Nat.{ℕ, _+_, _*_, _/_, _≤_, min}
+use Prim.Native.Nat.{ℕ, _*_, _/_, _≤_, min}
 use native.Mathlib.Omega.{arith}
-use lib.ListN.{length}
+use lib.ListN.{length, take, drop, length-take, length-append}
 use lib.Seq.{sets}
 use Rattle.refusal.specs.declared.Refusal.{Refusal}
-use Rattle.door.specs.declared.Checked.the-variants as checked
 use Rattle.door.specs.Job.{Job, baseCount}
-use Rattle.door.specs.Refusals.{ownFaults}
 use Rattle.door.specs.Verdict.{verdict}
-use Rattle.door.specs.Passed.{Passed}
 use Rattle.job.specs.declared.Answer.{Answer}
 use Rattle.job.specs.declared.Answer.the-variants.{Set, Refused}
 use Rattle.job.specs.Line.{ends}
-use Rattle.job.specs.Refusals.{linesFaults, fault}
-use Rattle.fill.specs.Lines.{Full}
+use Rattle.job.specs.Refusals.{faults, fault}
+use Rattle.job.specs.Promise.{Chain, Filled}
+use Rattle.job.specs.Filled.{chain-few}
+use Rattle.job.specs.Declined.{filled}
+use Rattle.filling.specs.Lines.{extentsOf, length-extents}
+use Rattle.join.specs.Join.{sound}
 use Rattle.engine.specs.Fault as fault
-use Rattle.job_account.specs.Lines.{accounts, counts, extents, LinesReady, LinesTold}
+use Rattle.engine.specs.Filled.{Full}
+use Rattle.job_account.specs.First.{first-none}
+use Rattle.job_account.specs.Table.{first, rowsBy, countsBy}
+use Rattle.job_account.specs.Lines.{accounts, counts, extents, LinesTold}
+use Rattle.job_account.specs.Walk.{Chained, LinesReady}
+use Rattle.job_account.specs.Join as join
 
 pub record Telling : Type 0 where
   pub answer : Answer
@@ -42,43 +48,87 @@ unfoldable pub telling : Job → List ℕ → List ℕ → List ℕ → Telling
 unfolding tellingBy fault
 telling job rows told wide = tellingBy job rows told wide (fault job 1024 2048 (room rows told wide))
 
-module _ (job : Job) (rows told wide : List ℕ) (m : ℕ) (is : m ≡ room rows told wide) where
-  abbrev own : List Refusal
-  own = ownFaults job 1024 2048 m
+-- lines of the job are lines of its table
+chained : (job : Job) (s : ℕ) (es : List ℕ) (d : ℕ) → Chain job s es d → Chained (baseCount job) s es
+chained job s [] d c = tt
+chained job s (e ∷ es) d c = let a = c .0 .at in (a .ahead, a .within, chained job e es d (c .1))
 
-  refused : {q : Refusal} → fault job 1024 2048 m ≡ some q → _≡_ {A = Telling} (record { answer = Refused q; rows = rows; told = told; extents = wide }) (telling job rows told wide)
+take-front : (xs ys : List ℕ) → take (length xs) (xs ++ ys) ≡ xs
+take-front [] ys = refl
+take-front (x ∷ xs) ys = ap (λ (l : List ℕ). x ∷ l) (take-front xs ys)
+
+module _ (job : Job) (rows told wide : List ℕ) (m : ℕ) (is : m ≡ room rows told wide) where
+  -- the first refusal of all
+  pub refused : {q : Refusal} → fault job 1024 2048 m ≡ some q → _≡_ {A = Telling} (record { answer = Refused q; rows = rows; told = told; extents = wide }) (telling job rows told wide)
   unfolding telling tellingBy
   refused e = rw (← is, e)
 
-  -- the door refuses
-  pub door-refuses : {q : Refusal} → verdict own ≡ checked.Refused q → _≡_ {A = Telling} (record { answer = Refused q; rows = rows; told = told; extents = wide }) (telling job rows told wide)
-  door-refuses e = refused (fault.by-door job 1024 2048 m e)
+  -- a table that holds the job, and its n lines
+  module _ (wasFar t found far : List ℕ) (n : ℕ) (full : Full job 1024 2048 m wasFar t found far n) where
+    all : Filled job (ends job)
+    all = filled job (full .passed) (full .none)
 
-  module _ (passes : verdict own ≡ checked.Passed) where
-    pub goes-on : Passed job
-    goes-on = fault.goes-on job 1024 2048 m passes
-
-    -- a line is refused
-    pub line-refuses : {q : Refusal} → linesFaults job ≡ q ∷ [] → _≡_ {A = Telling} (record { answer = Refused q; rows = rows; told = told; extents = wide }) (telling job rows told wide)
-    line-refuses e = refused (fault.by-line job 1024 2048 m passes e)
+    few : n ≤ baseCount job
+    few = omega (arith, full .many, chain-few job 0 (baseCount job) (ends job) all)
 
     -- the lists have room
-    pub ready : (n : ℕ) (table : List ℕ) → Full job table n → LinesReady job n table rows told wide
-    ready n table full =
-        let long = fault.long job 1024 2048 m passes .1 in
-        record {
-          passed = goes-on;
-          full = full;
-          room = many (length rows) (length told) (length wide) (omega (arith, is)) .0;
-          rows = many (length rows) (length told) (length wide) (omega (arith, is)) .1;
-          heads = many (length rows) (length told) (length wide) (omega (arith, is)) .2;
-        }
+    long : (6 * baseCount job ≤ length rows) × (baseCount job ≤ length told) × (baseCount job ≤ length wide)
+    long =
+        let k = fault.long job 1024 2048 m (ap verdict (full .own)) .1 in
+        many (length rows) (length told) (length wide) (omega (arith, is, k))
       where
         many : (a b c : ℕ) → baseCount job ≤ min (a / 6) (min b c) → (6 * baseCount job ≤ a) × (baseCount job ≤ b) × (baseCount job ≤ c)
         many a b c h = (omega arith, omega arith, omega arith)
 
-    -- nothing is refused, and all is told
-    pub tells : {n : ℕ} {table rows2 told2 wide2 : List ℕ} → Full job table n → LinesTold job rows told wide rows2 told2 wide2 →
-        _≡_ {A = Telling} (record { answer = Set n; rows = rows2; told = told2; extents = wide2 }) (telling job rows told wide)
-    unfolding telling tellingBy
-    tells full lines = rw (← is, fault.by-none job 1024 2048 m passes (full .none), full .many, lines .rows, lines .counts, lines .extents)
+    pub ready : LinesReady (job .em) t n found rows told
+    ready =
+        record {
+          m = baseCount job;
+          sound = sound job (full .passed) t (full .holds);
+          held = omega (arith, full .many, ap length (full .is), length-take n found);
+          few = omega (arith, few, full .passed .fewBase);
+          lines = rw (full .is) (chained job 0 (ends job) (baseCount job) all);
+          room = long .0;
+          roomTold = omega (arith, few, long .1);
+        }
+
+    -- the extents that the filling found
+    abbrev lengths : List ℕ
+    lengths = extentsOf (job .em) t 0 (ends job)
+
+    many-lengths : n ≡ length (extentsOf (job .em) t 0 (ends job))
+    many-lengths = full .many ∙ sym (length-extents (job .em) t 0 (ends job))
+
+    pub room-extents : (n ≤ 1024) × (n ≤ length far) × (n ≤ length wide)
+    room-extents = (
+      omega (arith, few, full .passed .fewBase),
+      omega (arith, many-lengths, ap length (full .told), length-append lengths (drop (length lengths) wasFar)),
+      omega (arith, few, long .2),
+    )
+
+    front : take n far ≡ extentsOf (job .em) t 0 (ends job)
+    front = rw (many-lengths, full .told) (take-front lengths (drop (length lengths) wasFar))
+
+    -- all is told as the job's meaning has it
+    module _ (rows2 told2 wide2 : List ℕ)
+        (lines : (rows2 ≡ sets rows 0 (rowsBy (job .em) t first 0 (take n found))) × (told2 ≡ sets told 0 (countsBy t first 0 (take n found))))
+        (extent : wide2 ≡ sets wide 0 (take n far)) where
+      pub lines-told : LinesTold job rows told wide rows2 told2 wide2
+      unfolding accounts counts extents
+      lines-told =
+          record {
+            rows =
+                lines .0
+                ∙ ap (sets rows 0) (ap (rowsBy (job .em) t first 0) (full .is)
+                ∙ join.rows-join job (full .passed) t (full .holds) first 0 (ends job) (baseCount job) (first-none job (full .passed)) all);
+            counts = lines .1 ∙ ap (sets told 0) (ap (countsBy t first 0) (full .is) ∙ join.counts-join job (full .passed) t (full .holds) first 0 (ends job) (baseCount job) all);
+            extents = extent ∙ ap (sets wide 0) (front ∙ join.extents-join job (full .passed) t (full .holds) 0 (ends job) (baseCount job) all);
+          }
+
+      no-fault : fault job 1024 2048 m ≡ none
+      unfolding fault faults
+      no-fault = rw (full .own, full .none)
+
+      pub tells : _≡_ {A = Telling} (record { answer = Set n; rows = rows2; told = told2; extents = wide2 }) (telling job rows told wide)
+      unfolding telling tellingBy
+      tells = rw (← is, no-fault, full .many, lines-told .rows, lines-told .counts, lines-told .extents)

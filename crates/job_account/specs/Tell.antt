@@ -1,94 +1,105 @@
--- The account of one piece from what the walk has of the line before it.
+-- A line of a job with one piece more: its account is that of the step from what stands before it, and its rows are one row more.
 use mathlib.Core.Path.{_≡_, refl, sym, ap, ap₂, subst, _∙_}
 use mathlib.Core.List.{List, [], _∷_, _++_, map, map-append}
-use Prim.Native.Nat.{ℕ, suc, _+_, _≤_, _<_}
+use Prim.Native.Nat.{ℕ, zero, suc, _+_, _≤_, _<_}
 use native.Mathlib.Numerals.{add-one}
 use native.Mathlib.Omega.{arith}
 use lib.ListN.{length, length-map, length-append}
 use Rattle.line.specs.declared.Element.{Element}
-use Rattle.line.specs.declared.State.{State}
 use Rattle.line.specs.Rules.{blockOf, blockAt, Apart, Sounds}
-use Rattle.line.specs.Setting.{origin, placed, furthest, total}
+use Rattle.line.specs.Setting.{origin}
 use Rattle.door.specs.declared.Piece.{Piece}
 use Rattle.door.specs.Job.{Job}
+use Rattle.door.specs.Passed.{Passed}
 use Rattle.job.specs.Line.{pieces, seen, lineOf, origins}
 use Rattle.job.specs.Walk.{stateOf, origins-more, length-origins}
 use Rattle.job.specs.Sound.{sounds}
-use Rattle.fill.specs.Piece.{Into, pieceUpto, more}
-use Rattle.fill.specs.Reach.{reached, fits-after}
 use Rattle.account.specs.declared.Before.{Before}
 use Rattle.account.specs.Reasons.{accountOf}
-use Rattle.account.specs.Step.{accountAfter, passed, standing}
+use Rattle.account.specs.Step.{accountAfter, passed, nothing, standing}
 use Rattle.account.specs.More as more
-use Rattle.job_account.specs.declared.Told.{Told}
 use Rattle.job_account.specs.Theorems.{accountIn, apart}
+use Rattle.job_account.specs.First.{firstIn}
+use Rattle.job_account.specs.Rows.{row, startIn, rowIn, rowsUpto, rowsIn}
 
--- what stands before piece i of the line from s up to e
-abbrev pub standingIn : Job → ℕ → ℕ → ℕ → Before
-standingIn job s e i = standing (lineOf job s e) (origins job s e) i
+-- how many pieces the line from s up to e has, and what stands behind the last of them
+abbrev pub countIn : Job → ℕ → ℕ → ℕ
+countIn job s e = length (lineOf job s e)
 
--- the walk has set the line up to element x, in i pieces
-pub record TellReady (job : Job) (s c k : ℕ) (x : Piece) (st : State) (i : ℕ) (b : Before) : Type 0 where
-  pub into : Into job s c x
-  pub index : k < 1024
-  pub state : st ≡ stateOf job s (x .base)
-  pub count : i ≡ length (lineOf job s (x .base))
-  pub stands : b ≡ standingIn job s (x .base) i
+abbrev pub standingIn : Job → ℕ → ℕ → Before
+standingIn job s e = standing (lineOf job s e) (origins job s e) (countIn job s e)
 
--- the account of piece i and its block's start, and the line up to c
-pub record Tells (job : Job) (s c i : ℕ) (r : Told) : Type 0 where
-  pub account : r .account ≡ accountIn job s c i
-  pub start : r .start ≡ blockAt (lineOf job s c) (origins job s c) i .start
-  pub state : r .st ≡ stateOf job s c
-  pub stands : r .before ≡ standingIn job s c (i + 1)
+-- a line that has not begun
+module _ (job : Job) (s e : ℕ) (none : pieces job s e ≡ []) where
+  pub count-none : countIn job s e ≡ 0
+  unfolding lineOf
+  count-none = ap (λ ps. length (map (seen job) ps)) none
 
-module _ {job : Job} {s c k : ℕ} {x : Piece} {st : State} {i : ℕ} {b : Before} (ready : TellReady job s c k x st i b) where
-  abbrev pub p : Element
-  p = seen job (pieceUpto job s c x)
+  pub stands-none : standingIn job s e ≡ nothing
+  unfolding standing
+  stands-none = ap (standing (lineOf job s e) (origins job s e)) count-none
 
-  abbrev pub at : ℕ
-  at = origin (stateOf job s (x .base)) p
+  pub rows-none : rowsIn job s e ≡ []
+  unfolding rowsIn
+  rows-none = ap (rowsUpto job s e) count-none
 
+module _ (job : Job) (door : Passed job) (s b c : ℕ) (p : Piece) (one : pieces job s c ≡ pieces job s b ++ (p ∷ [])) where
   abbrev es : List Element
-  es = lineOf job s (x .base)
+  es = lineOf job s b
 
   abbrev xs : List ℕ
-  xs = origins job s (x .base)
+  xs = origins job s b
 
-  pub asks-place : furthest st + total p ≤ 4294967295
-  asks-place = fits-after job s c x (ready .into) st (ready .state) p refl
+  abbrev el : Element
+  el = seen job p
 
-  pub is-placed : (placed st p .at ≡ at) × (placed st p .st ≡ stateOf job s c)
-  is-placed = (ap (λ (t : State). origin t p) (ready .state), reached job s c x (ready .into) st (ready .state) p refl)
+  abbrev at : ℕ
+  at = origin (stateOf job s b) (seen job p)
 
-  pub line-is : lineOf job s c ≡ es ++ (p ∷ [])
+  abbrev n : ℕ
+  n = length (lineOf job s b)
+
+  line-is : lineOf job s c ≡ es ++ (el ∷ [])
   unfolding lineOf
-  line-is = ap (map (seen job)) (more job s c x (ready .into)) ∙ map-append (seen job) (pieces job s (x .base)) (pieceUpto job s c x ∷ [])
+  line-is = ap (map (seen job)) one ∙ map-append (seen job) (pieces job s b) (p ∷ [])
 
-  pub origins-is : origins job s c ≡ xs ++ (at ∷ [])
-  origins-is = origins-more job s (x .base) c (pieceUpto job s c x) (more job s c x (ready .into))
+  origins-is : origins job s c ≡ xs ++ (at ∷ [])
+  origins-is = origins-more job s b c p one
 
-  pub each : length xs ≡ length es
+  each : length xs ≡ length es
   unfolding lineOf
-  each = length-origins job s (x .base) ∙ sym (length-map (pieces job s (x .base)) (seen job))
+  each = length-origins job s b ∙ sym (length-map (pieces job s b) (seen job))
 
-  pub account-is : accountAfter i b p at ≡ accountIn job s c i
+  pub account-is : accountAfter n (standingIn job s b) el at ≡ accountIn job s c n
   account-is =
-      rw (ready .stands, ready .count)
-      (more.account-new es xs p at each (subst Sounds line-is (sounds job (ready .into .passed) s c))
-      (subst (λ os. Apart (es ++ (p ∷ [])) os) origins-is (subst (λ ls. Apart ls (origins job s c)) line-is (apart job (ready .into .passed) s c)))
-      ∙ ap₂ (λ ls os. accountOf ls os (length es)) (sym line-is) (sym origins-is))
+      more.account-new es xs el at each (subst Sounds line-is (sounds job door s c))
+      (subst (λ os. Apart (es ++ (el ∷ [])) os) origins-is (subst (λ ls. Apart ls (origins job s c)) line-is (apart job door s c)))
+      ∙ ap₂ (λ ls os. accountOf ls os n) (sym line-is) (sym origins-is)
 
-  pub start-is : blockOf p at .start ≡ blockAt (lineOf job s c) (origins job s c) i .start
+  pub start-is : blockOf el at .start ≡ startIn job s c n
   start-is =
-      rw (ready .count)
-      (sym (ap₂ (λ e x. blockOf e x .start) (more.el-new es xs p at each) (more.org-new es xs p at each))
-      ∙ ap₂ (λ ls os. blockAt ls os (length es) .start) (sym line-is) (sym origins-is))
+      sym (ap₂ (λ e x. blockOf e x .start) (more.el-new es xs el at each) (more.org-new es xs el at each))
+      ∙ ap₂ (λ ls os. blockAt ls os n .start) (sym line-is) (sym origins-is)
 
-  pub stands-is : passed i b p at ≡ standingIn job s c (i + 1)
+  pub one-more : countIn job s c ≡ n + 1
+  one-more = ap length line-is ∙ length-append es (el ∷ [])
+
+  pub stands-is : passed n (standingIn job s b) el at ≡ standingIn job s c
   stands-is =
-      rw (ready .stands, ready .count, add-one)
-      (sym (more.standing-new es xs p at each) ∙ ap₂ (λ ls os. standing ls os (suc (length es))) (sym line-is) (sym origins-is))
+      sym (more.standing-new es xs el at each) ∙ ap₂ (λ ls os. standing ls os (suc n)) (sym line-is) (sym origins-is)
+      ∙ ap (standing (lineOf job s c) (origins job s c)) (sym (one-more ∙ add-one n))
 
-  pub one-more : length (lineOf job s c) ≡ i + 1
-  one-more = ap length line-is ∙ simp length-append (omega (arith, ready .count))
+  old : (m : ℕ) → m < length es → rowIn job s c m ≡ rowIn job s b m
+  old m h =
+      ap₂ (λ ls os. row (firstIn job s) (firstIn job s + m) (blockAt ls os m .start) (accountOf ls os m)) line-is origins-is
+      ∙ ap₂ (λ y a. row (firstIn job s) (firstIn job s + m) y a)
+      (ap₂ (λ p o. blockOf p o .start) (more.el-old es xs el at each m h) (more.org-old es xs el at each m h))
+      (more.account-old es xs el at each m h)
+
+  rows-old : (m : ℕ) → m ≤ length es → rowsUpto job s c m ≡ rowsUpto job s b m
+  rows-old zero h = refl
+  rows-old (suc m) h = ap₂ (λ rs r. rs ++ r) (rows-old m (omega arith)) (old m h)
+
+  pub rows-more : rowsIn job s c ≡ rowsIn job s b ++ rowIn job s c n
+  unfolding rowsIn
+  rows-more = ap (rowsUpto job s c) (one-more ∙ add-one n) ∙ ap (λ rs. rs ++ rowIn job s c n) (rows-old n (omega arith))

@@ -7,6 +7,7 @@ pub mod Theorems
 pub mod Onward
 pub mod Exchange
 pub mod Bound
+pub mod Plain
 pub mod Cases
 pub mod Promise
 pub mod Passes

@@ -5,6 +5,7 @@
 ghost use mathlib.Core.Path.{_≡_};
 ghost use Prim.Native.Nat.{_+_, _-_, _≤_};
 ghost use Rattle.line.specs.Setting.{rubyFrom, rubyUpto, total, furthest, origin, placed};
+ghost use Rattle.line.specs.Plain.{plain};
 
 mod lists;
 
@@ -113,6 +114,33 @@ pub fn place(st: State, e: Element) -> Placed
             end: at + e.front + e.len,
             reach: basics::larger(st.reach, at + upto),
             room: e.after,
+        },
+    }
+}
+
+// A P after st: it has no ruby, and ruby lies on it no deeper than it is long, so of the four bounds those on its block are left; the second is asked only
+// where ruby reaches past the last block.
+pub fn place_plain(st: State, len: u32, before: u32, after: u32) -> Placed
+    requires { ⌜ (before ≤ len) × (furthest st + len ≤ 4294967295) ⌝ }
+    ensures { λ r. ⌜ r ≡ placed st (plain len before after) ⌝ }
+{
+    if st.end < st.reach {
+        let at = basics::larger(st.end, less(st.reach, before));
+        return Placed {
+            at,
+            st: State {
+                end: at + len,
+                reach: st.reach,
+                room: after,
+            },
+        };
+    }
+    Placed {
+        at: st.end,
+        st: State {
+            end: st.end + len,
+            reach: st.end,
+            room: after,
         },
     }
 }

@@ -2,10 +2,10 @@ pub mod Text
 pub mod Example
 pub mod Left
 pub mod Rows
-pub mod Extent
-pub mod Line
-pub mod Result
+pub mod ByRows
+pub mod Lines
 pub mod Short
+pub mod Set
 pub mod Accepted
 pub mod Determined
 pub mod Refused

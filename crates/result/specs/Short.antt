@@ -1,10 +1,10 @@
 -- How long a text can be. A number takes at most ten digits, so a row at most 24 bytes and a line's head at most 16; and there are at most 1,024 lines, 1,024 base
 -- characters and 2,048 ruby characters.
-use mathlib.Core.Path.{_≡_}
+use mathlib.Core.Path.{_≡_, _∙_}
 use mathlib.Core.List.{List, [], _∷_}
 use Prim.Native.Nat.{ℕ, _+_, _*_, _≤_, zero-le}
 use native.Mathlib.Omega.{arith}
-use lib.ListN.{length, length-append}
+use lib.ListN.{length, length-append, length-map}
 use Rattle.basics.specs.Lists.{each, All}
 use Rattle.text.specs.Written.{decimal-le}
 use Rattle.refusal.specs.declared.Refusal.{Refusal}
@@ -17,10 +17,18 @@ use Rattle.job.specs.Walk.{length-origins}
 use Rattle.job.specs.Words.{GoodPiece, good-pieces}
 use Rattle.job.specs.Promise.{Filled}
 use Rattle.job.specs.Filled.{chain-few}
-use Rattle.job.specs.Placed.{base-long, ruby-long}
-use Rattle.write.specs.Line.{base-many, ruby-many}
+use Rattle.job.specs.Placed.{baseAlone, rubyAlone, base-counted, ruby-counted, base-long, ruby-long}
 use Rattle.result.specs.Text.{bytes, lineOne, ofPiece, ofLine, resultText, refusalText}
 use Rattle.result.specs.Rows.{length-one, length-two, piece-short}
+
+-- a piece has as many positions as characters
+pub base-many : (job : Job) (p : Piece) (o : ℕ) → GoodPiece job p → length (baseAt job p o) ≡ p .bases
+unfolding baseAt
+base-many job p o g = length-map (baseAlone job p) (λ y. o + y) ∙ base-counted job p g
+
+ruby-many : (job : Job) (p : Piece) (o : ℕ) → GoodPiece job p → length (rubyAt job p o) ≡ p .rubies
+unfolding rubyAt
+ruby-many job p o g = length-map (rubyAlone job p) (λ y. o + y) ∙ ruby-counted job p g
 
 -- 17 + 1,024 * 16 + (1,024 + 2,048) * 24
 abbrev pub longest : ℕ

@@ -1,19 +1,13 @@
-// The text of what the setting program writes (document 01, "The job sheet": "writes `refused N P`, or a result"). A result is printed line by line from
-// the three result lists: for each line the number that the lists don't have, its extent, found by setting the line once more; then its pieces' characters with their
-// positions as the lists have them. It relies on `text` for words and numbers, on `fill` and `write` for the walk over a line's pieces, and on `job` for what the text tells.
-ghost use mathlib.Core.Path.{_≡_};
-ghost use Prim.Native.Nat.{_+_, _≤_, _<_};
+// The text of what the setting program writes (document 01, "The job sheet": "writes `refused N P`, or a result"). A result is printed line by line: its extent as the filling
+// found it, then its pieces' characters, which the rows of the job's table tell, with their positions as the result lists have them. It relies on `text` for words
+// and numbers, on `cells` and `positions` for rows and pieces, and on `job` for what the text tells.
+ghost use Prim.Native.Nat.{_+_, _-_, _≤_};
 ghost use lib.ListN.{length};
 ghost use Rattle.text.specs.Print.{Wrote};
-ghost use Rattle.door.specs.Job.{jobOf};
-ghost use Rattle.job.specs.Line.{extentOf};
-ghost use Rattle.job.specs.Walk.{stateOf};
-ghost use Rattle.fill.specs.Piece.{Into};
-ghost use Rattle.result.specs.Text.{lineOne, lineTwo, rows, ofPiece, resultText, refusalText};
-ghost use Rattle.result.specs.Extent.{LineBegins};
+ghost use Rattle.result.specs.Text.{lineOne, lineTwo, rows, ofPiece, refusalText};
 ghost use Rattle.result.specs.Rows.{RowsReady, PieceReady};
-ghost use Rattle.result.specs.Line.{LineReady, LinePrinted};
-ghost use Rattle.result.specs.Result.{ResultReady};
+ghost use Rattle.result.specs.ByRows.{span, piecesText, rowsText, LineReady};
+ghost use Rattle.result.specs.Lines.{TextReady};
 
 // A word and its number, on a line.
 fn put_one(out: &mut [u8], from: usize, word: &[u8], n: u32) -> usize
@@ -61,248 +55,76 @@ fn put_rows(
     at
 }
 
-// The rows of a piece: "base before ruby".
-fn put_piece(out: &mut [u8], from: usize, p: door::Piece, base: &[u32], ruby: &[u32]) -> usize
-    requires { ⌜ PieceReady (now out) from p (now base) (now ruby) ⌝ }
-    ensures { λ r. ⌜ Wrote (now (out .entry)) from (ofPiece (now (base .entry)) (now (ruby .entry)) p) r (now (out .exit)) ⌝ }
+// The rows of a piece, "base before ruby": n base characters from the i-th on, m ruby characters from the r-th on.
+fn put_piece(
+    out: &mut [u8],
+    from: usize,
+    i: usize,
+    n: usize,
+    r: usize,
+    m: usize,
+    base: &[u32],
+    ruby: &[u32],
+) -> usize
+    requires { ⌜ PieceReady (now out) from (span i n r m) (now base) (now ruby) ⌝ }
+    ensures { λ p. ⌜ Wrote (now (out .entry)) from (ofPiece (now (base .entry)) (now (ruby .entry)) (span i n r m)) p (now (out .exit)) ⌝ }
 {
-    let a = put_rows(out, from, b"b", p.base, p.bases, base);
-    put_rows(out, a, b"r", p.ruby, p.rubies, ruby)
+    let a = put_rows(out, from, b"b", i, n, base);
+    put_rows(out, a, b"r", r, m, ruby)
 }
 
-// The line's state once the piece of element x up to c is set. The job has passed the door, so the answer is no refusal.
-fn state_after(
-    s: usize,
-    c: usize,
-    k: usize,
-    x: door::Piece,
-    st: line::State,
-    em: u32,
-    measure: u32,
-    class: &[u32],
-    width: &[u32],
-    before: &[u32],
-    after: &[u32],
-    flag: &[u32],
-    rclass: &[u32],
-    rwidth: &[u32],
-    kind: &[u32],
-    ebase: &[u32],
-    eruby: &[u32],
-    runs: &[u32],
-) -> line::State
-    requires { ⌜ (Into (jobOf em measure (now class) (now width) (now before) (now after) (now flag) (now rclass) (now rwidth) (now kind) (now ebase) (now eruby) (now runs)) s c x) × (st ≡ stateOf (jobOf em measure (now class) (now width) (now before) (now after) (now flag) (now rclass) (now rwidth) (now kind) (now ebase) (now eruby) (now runs)) s (x .base)) × (k < 1024) ⌝ }
-    ensures { λ t. ⌜ t ≡ stateOf (jobOf em measure (now (class .entry)) (now (width .entry)) (now (before .entry)) (now (after .entry)) (now (flag .entry)) (now (rclass .entry)) (now (rwidth .entry)) (now (kind .entry)) (now (ebase .entry)) (now (eruby .entry)) (now (runs .entry))) s c ⌝ }
-{
-    let placed = fill::reach(
-        s,
-        c,
-        k,
-        x,
-        st,
-        em,
-        measure,
-        class,
-        width,
-        before,
-        after,
-        flag,
-        rclass,
-        rwidth,
-        kind,
-        ebase,
-        eruby,
-        runs,
-    );
-    let fill::Placing::At(next) = placed else {
-        // Never reached: the door has judged the piece.
-        return st;
-    };
-    next
-}
-
-// The extent of the line from s up to e, which begins where the walk stands.
-fn extent_of(
-    s: usize,
-    e: usize,
-    from: write::Cursor,
-    em: u32,
-    measure: u32,
-    class: &[u32],
-    width: &[u32],
-    before: &[u32],
-    after: &[u32],
-    flag: &[u32],
-    rclass: &[u32],
-    rwidth: &[u32],
-    kind: &[u32],
-    ebase: &[u32],
-    eruby: &[u32],
-    runs: &[u32],
-) -> u32
-    requires { ⌜ LineBegins (jobOf em measure (now class) (now width) (now before) (now after) (now flag) (now rclass) (now rwidth) (now kind) (now ebase) (now eruby) (now runs)) s e from ⌝ }
-    ensures { λ r. ⌜ r ≡ extentOf (jobOf em measure (now (class .entry)) (now (width .entry)) (now (before .entry)) (now (after .entry)) (now (flag .entry)) (now (rclass .entry)) (now (rwidth .entry)) (now (kind .entry)) (now (ebase .entry)) (now (eruby .entry)) (now (runs .entry))) s e ⌝ }
-{
-    let mut at = from;
-    let mut st = line::START;
-    while at.b < e {
-        let x = fill::element_at(at.k, at.b, at.r, at.u, kind, ebase, eruby, runs);
-        let end = at.b + x.bases;
-        let c = door::fewer(e, end);
-        st = state_after(
-            s,
-            c,
-            at.k,
-            x,
-            st,
-            em,
-            measure,
-            class,
-            width,
-            before,
-            after,
-            flag,
-            rclass,
-            rwidth,
-            kind,
-            ebase,
-            eruby,
-            runs,
-        );
-        at = write::after_element(at.k, x);
-    }
-    basics::larger(st.end, st.reach)
-}
-
-// Where the walk over the elements stands at a line's end, and the place past what is written.
-struct Printed {
-    at: write::Cursor,
-    next: usize,
-}
-
-// The line from s up to e, which begins where the walk stands: its extent, and its pieces' rows. A J that e cuts is not passed: it goes on in the next line.
+// The pieces of the line from s up to e.
 fn put_line(
+    t: &[u32],
     s: usize,
     e: usize,
-    from: write::Cursor,
-    em: u32,
-    measure: u32,
-    class: &[u32],
-    width: &[u32],
-    before: &[u32],
-    after: &[u32],
-    flag: &[u32],
-    rclass: &[u32],
-    rwidth: &[u32],
-    kind: &[u32],
-    ebase: &[u32],
-    eruby: &[u32],
-    runs: &[u32],
     base: &[u32],
     ruby: &[u32],
     out: &mut [u8],
-    start: usize,
-) -> Printed
-    requires { ⌜ LineReady (jobOf em measure (now class) (now width) (now before) (now after) (now flag) (now rclass) (now rwidth) (now kind) (now ebase) (now eruby) (now runs)) s e from (now base) (now ruby) (now out) start ⌝ }
-    ensures { λ r. ⌜ LinePrinted (jobOf em measure (now (class .entry)) (now (width .entry)) (now (before .entry)) (now (after .entry)) (now (flag .entry)) (now (rclass .entry)) (now (rwidth .entry)) (now (kind .entry)) (now (ebase .entry)) (now (eruby .entry)) (now (runs .entry))) s e (now (base .entry)) (now (ruby .entry)) (now (out .entry)) start (r .at) (r .next) (now (out .exit)) ⌝ }
+    from: usize,
+) -> usize
+    requires { ⌜ LineReady (now t) s e (now base) (now ruby) (now out) from ⌝ }
+    ensures { λ r. let u = now (t .entry) in ⌜ Wrote (now (out .entry)) from (piecesText u (now (base .entry)) (now (ruby .entry)) (e - s) s e) r (now (out .exit)) ⌝ }
 {
-    let extent = extent_of(
-        s,
-        e,
-        from,
-        em,
-        measure,
-        class,
-        width,
-        before,
-        after,
-        flag,
-        rclass,
-        rwidth,
-        kind,
-        ebase,
-        eruby,
-        runs,
-    );
-    let mut next = put_one(out, start, b"line", extent);
     let mut at = from;
-    while at.b < e {
-        let x = fill::element_at(at.k, at.b, at.r, at.u, kind, ebase, eruby, runs);
-        let end = at.b + x.bases;
+    let mut i = s;
+    while i < e {
+        let a = cells::cell_at(t, i);
+        let end = i + a.bases as usize;
         let c = door::fewer(e, end);
-        let p = fill::piece_upto(x, s, c, runs);
-        next = put_piece(out, next, p, base, ruby);
-        if e < end {
-            return Printed { at: at, next: next };
-        }
-        at = write::after_element(at.k, x);
+        let r = a.ruby as usize;
+        let q = positions::rubies_upto(t, i, c);
+        at = put_piece(out, at, i, c - i, r, q - r, base, ruby);
+        i = end;
     }
-    Printed { at: at, next: next }
+    at
 }
 
-// The result of an accepted job whose n lines end where the front of `lines` says; `base` and `ruby` have its characters' positions. The answer is the text's length.
+// The result of an accepted job whose n lines end where the front of `ends` says and have the extents that the front of `extents` has; `base` and `ruby` have its
+// characters' positions, and `t` its rows. The answer is the text's length.
 pub fn write_result(
+    t: &[u32],
     n: usize,
-    lines: &[u32],
-    em: u32,
-    measure: u32,
-    class: &[u32],
-    width: &[u32],
-    before: &[u32],
-    after: &[u32],
-    flag: &[u32],
-    rclass: &[u32],
-    rwidth: &[u32],
-    kind: &[u32],
-    ebase: &[u32],
-    eruby: &[u32],
-    runs: &[u32],
+    ends: &[u32],
+    extents: &[u32],
     base: &[u32],
     ruby: &[u32],
     out: &mut [u8],
 ) -> usize
-    requires { ⌜ ResultReady (jobOf em measure (now class) (now width) (now before) (now after) (now flag) (now rclass) (now rwidth) (now kind) (now ebase) (now eruby) (now runs)) n (now lines) (now base) (now ruby) (now out) ⌝ }
-    ensures { λ r. ⌜ Wrote (now (out .entry)) 0 (resultText (jobOf em measure (now (class .entry)) (now (width .entry)) (now (before .entry)) (now (after .entry)) (now (flag .entry)) (now (rclass .entry)) (now (rwidth .entry)) (now (kind .entry)) (now (ebase .entry)) (now (eruby .entry)) (now (runs .entry))) (now (base .entry)) (now (ruby .entry))) r (now (out .exit)) ⌝ }
+    requires { ⌜ TextReady (now t) n (now ends) (now extents) (now base) (now ruby) (now out) ⌝ }
+    ensures { λ r. ⌜ Wrote (now (out .entry)) 0 (rowsText (now (t .entry)) n (now (ends .entry)) (now (extents .entry)) (now (base .entry)) (now (ruby .entry))) r (now (out .exit)) ⌝ }
 {
-    let mut next = put_one(out, 0, b"lines", n as u32);
-    let mut at = write::Cursor {
-        k: 0,
-        b: 0,
-        r: 0,
-        u: 0,
-    };
+    let mut at = put_one(out, 0, b"lines", n as u32);
     let mut s: usize = 0;
     let mut l: usize = 0;
     while l < n {
-        let e = lines[l] as usize;
-        let line = put_line(
-            s,
-            e,
-            at,
-            em,
-            measure,
-            class,
-            width,
-            before,
-            after,
-            flag,
-            rclass,
-            rwidth,
-            kind,
-            ebase,
-            eruby,
-            runs,
-            base,
-            ruby,
-            out,
-            next,
-        );
-        at = line.at;
-        next = line.next;
+        let e = ends[l] as usize;
+        let told = put_one(out, at, b"line", extents[l]);
+        at = put_line(t, s, e, base, ruby, out, told);
         s = e;
         l += 1;
     }
-    next
+    at
 }
 
 // A refusal, by the paper's number and place. The answer is the text's length.

@@ -1,6 +1,7 @@
 pub mod Answer
 pub mod Over
 pub mod Tell
+pub mod Printed
 pub mod Whole
 pub mod Determined
 pub mod Sheet

@@ -14,7 +14,7 @@ use Rattle.job.specs.Refusals.{fault}
 use Rattle.job.specs.Outcome.{Outcome, after, outcome}
 use Rattle.job.specs.Demands.{lines-filled, base-told, ruby-told}
 use Rattle.result.specs.Text.{resultText, refusalText}
-use Rattle.result.specs.Accepted.{accepted, door}
+use Rattle.result.specs.Set.{accepted, door}
 use Rattle.result.specs.Short.{longest, result-short, refusal-short}
 use Rattle.setter.specs.Answer.{setText, textBy, jobText, Told}
 use Rattle.setter.specs.Over.{result-over}

@@ -30,7 +30,13 @@ fn set_lists(
     requires { ⌜ longest ≤ length (now out) ⌝ }
     ensures { λ r. ⌜ Told (jobOf em measure (now (class .entry)) (now (width .entry)) (now (before .entry)) (now (after .entry)) (now (flag .entry)) (now (rclass .entry)) (now (rwidth .entry)) (now (kind .entry)) (now (ebase .entry)) (now (eruby .entry)) (now (runs .entry))) (now (base .entry)) (now (ruby .entry)) (now (lines .entry)) (now (out .entry)) r (now (base .exit)) (now (ruby .exit)) (now (lines .exit)) (now (out .exit)) ⌝ }
 {
-    match engine::set_job(
+    let mut t = [0; 19456];
+    let mut ends = [0; 1024];
+    let mut extents = [0; 1024];
+    match engine::set_table(
+        &mut t,
+        &mut ends,
+        &mut extents,
         em,
         measure,
         class,
@@ -49,26 +55,7 @@ fn set_lists(
         lines,
     ) {
         job::Answer::Refused(why) => result::write_refusal(why, out),
-        job::Answer::Set(n) => result::write_result(
-            n,
-            lines,
-            em,
-            measure,
-            class,
-            width,
-            before,
-            after,
-            flag,
-            rclass,
-            rwidth,
-            kind,
-            ebase,
-            eruby,
-            runs,
-            base,
-            ruby,
-            out,
-        ),
+        job::Answer::Set(n) => result::write_result(&t, n, &ends, &extents, base, ruby, out),
     }
 }
 

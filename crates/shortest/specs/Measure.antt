@@ -51,10 +51,13 @@ module _ (m : ℕ) (job : Job) where
 
   same-break : (s e : ℕ) → Break (measured m job) s e ↔ Break job s e
   unfolding baseCount
-  same-break s e =
-      (λ b. record { ahead = b .ahead; within = b .within; permits = sym (same-permitted e) ∙ b .permits }, λ b. record { ahead = b .ahead; within = b .within; permits = same-permitted e ∙ b .permits })
+  same-break s e = (
+    λ b. record { ahead = b .ahead; within = b .within; permits = sym (same-permitted e) ∙ b .permits },
+    λ b. record { ahead = b .ahead; within = b .within; permits = same-permitted e ∙ b .permits },
+  )
 
-  -- With the measure m in the place of its own, some permitted break gives a line from s that can be set exactly when the needed extent is at most twice m. So that is by how much the measure falls short.
+  -- With the measure m in the place of its own, some permitted break gives a line from s that can be set exactly when the needed extent is at most twice m.
+  -- So that is by how much the measure falls short.
   pub would-do : (s : ℕ) → s < baseCount job → ((e : ℕ) × Break (measured m job) s e × (canSet (measured m job) s e ≡ true)) ↔ (needed job s ≤ 2 * m)
   unfolding canSet
   would-do s h = (to, from)

@@ -1,11 +1,9 @@
 -- By how much a declined line is too long: the extent that the shortest permitted line from a base character has (document 01, "Level two" and refusal 11: "no
 -- permitted break gives a line that can be set").
-use mathlib.Core.Path.{_≡_}
-use mathlib.Core.Bool.{true}
 use mathlib.Core.List.{List, [], _∷_, map}
-use Prim.Native.Nat.{ℕ, _<_, min}
+use Prim.Native.Nat.{ℕ, min}
 use Rattle.door.specs.Job.{Job, baseCount}
-use Rattle.job.specs.Line.{extentOf, permitted, tries}
+use Rattle.job.specs.Line.{extentOf, tries}
 
 -- the least of d and some numbers
 abbrev pub least : ℕ → List ℕ → ℕ
@@ -17,7 +15,3 @@ least d (x ∷ xs) = min x (least d xs)
 unfoldable pub needed : Job → ℕ → ℕ
 unfolding extentOf tries baseCount
 needed job s = least (extentOf job s (baseCount job)) (map (extentOf job s) (tries job s))
-
--- A line can begin at s: at the first base character, or where a line before it may end. So it never begins inside an M or a G.
-abbrev pub CanBegin : Job → ℕ → Type 0
-CanBegin job s = 0 < s → permitted job s ≡ true

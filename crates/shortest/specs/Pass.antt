@@ -1,272 +1,176 @@
--- The walk over the elements that takes the least extent: what is known at an element, and what its breaks add.
-use mathlib.Core.Path.{_≡_, refl, sym, ap, ap₂, _∙_, subst}
-use mathlib.Core.Bool.{true, false, cond, _||_, true≢false}
-use mathlib.Core.List.{List, [], _∷_}
-use Prim.Native.Nat.{ℕ, _+_, _-_, _≤_, _<_, min, max, zero-le}
+-- The pass over the pieces of a line that takes the least extent: what is known at a piece, and what its breaks add.
+use mathlib.Core.Path.{_≡_, refl, sym, ap, _∙_, subst}
+use mathlib.Core.Bool.{Bool, true, false, cond, _||_}
+use mathlib.Core.List.{List}
+use Prim.Native.Nat.{ℕ, suc, _+_, _-_, _*_, _≤_, _<_, min, zero-le}
 use native.Mathlib.Omega.{arith}
-use native.Mathlib.Decide.{decLt}
-use native.Mathlib.Nat.{le-antisymm}
+use borrow.Author.Tests.{eq-eqb}
 use lib.Dec.{eqb}
-use lib.ListN.{length, getD}
-use Rattle.basics.specs.Lists.{each}
-use Rattle.word.specs.Given.{isJ}
+use lib.ListN.{length}
 use Rattle.line.specs.declared.State.{State}
-use Rattle.line.specs.Setting as setting
-use Rattle.door.specs.declared.Piece.{Piece}
-use Rattle.door.specs.Job.{Job, baseCount, elementCount, elements, takesRuns, element}
-use Rattle.door.specs.Passed.{Passed}
-use Rattle.job.specs.Line.{inLine, pieces, permitted}
-use Rattle.job.specs.Pieces.{IsElement, in-by}
-use Rattle.job.specs.Walk.{At, at-first, at-element, at-end, stateOf, state-none, extent-of, permitted-within, best-none}
-use Rattle.fill.specs.declared.Break.{Break}
-use Rattle.fill.specs.Piece.{Into}
-use Rattle.fill.specs.Search.{Here, Counts}
-use Rattle.fill.specs.Search as search
-use Rattle.shortest.specs.declared.Sofar.{Sofar}
-use Rattle.shortest.specs.Needed.{needed, CanBegin}
-use Rattle.shortest.specs.Upto.{largest, leastUpto, least-none, least-step, least-all, least-plain}
+use Rattle.line.specs.Setting.{start, furthest}
+use Rattle.cells.specs.declared.Cell.{Cell}
+use Rattle.cells.specs.Cells.{cellAt, piece, next, rest, stateAt, mayEnd, Advances}
+use Rattle.cells.specs.Sound.{Row, Sound, advances}
+use Rattle.cells.specs.Walk.{stop-whole, stop-within, may-within, may-end, step, next-near, rest-none}
+use Rattle.shortest.specs.Shortest.{leastOf, extentAt, neededOf, least-split, least-same, least-at, least-none, least-never, least-start}
 
--- A line has nothing yet where it begins, or before.
+-- the largest number of 32 bits, past every extent: what is held before the first break
+abbrev pub largest : ℕ
+largest = 4294967295
 
-no-piece : (job : Job) (s e : ℕ) (x : Piece) → e ≤ s → inLine job s e x ≡ []
-no-piece job s e x h = in-by job s e x (max s (x .base) - x .base) 0 refl (none (x .base) (x .base + x .bases))
-  where
-    none : (b d : ℕ) → min e d - (b + (max s b - b)) ≡ 0
-    none b d = omega arith
+-- the extent of a line of the state st and of the piece from i up to c
+abbrev pub extentUpto : ℕ → List ℕ → State → ℕ → ℕ → ℕ
+extentUpto em t st i c = furthest (next st (piece em t i c))
 
-no-pieces : (job : Job) (s e : ℕ) → e ≤ s → pieces job s e ≡ []
-unfolding pieces
-no-pieces job s e h = go (elements job)
-  where
-    go : (xs : List Piece) → each (inLine job s e) xs ≡ []
-    go [] = refl
-    go (x ∷ xs) = rw (no-piece job s e x h) (go xs)
+-- the least of d and the extents at the first k breaks within the element from i on: only a J has any
+unfoldable pub innerLeast : ℕ → List ℕ → State → ℕ → ℕ → ℕ → ℕ
+unfolding leastOf
+innerLeast em t st i d k = leastOf (λ _. cellAt t i .cut) (extentUpto em t st i) d i k
 
-pub state-first : (job : Job) (s e : ℕ) → e ≤ s → stateOf job s e ≡ setting.start
-state-first job s e h = state-none job s e (no-pieces job s e h)
+-- the same up to the end of the piece at i, where the line has the state `then`
+unfoldable pub behind : ℕ → List ℕ → ℕ → ℕ → State → State → ℕ → ℕ
+unfolding innerLeast
+behind em t n i st then d =
+    let a = cellAt t i in
+    let r = innerLeast em t st i d (a .bases - 1) in
+    cond (eqb (i + a .bases) n || a .ends) (min (furthest then) r) r
 
--- the walk stands before element k, those before it having taken b, r and u: the state of the line from s up to there, and the least extent at a break up to there
-pub record Stands (job : Job) (s k b r u : ℕ) (sofar : Sofar) : Type 0 where
-  pub passed : Passed job
-  pub more : s < baseCount job
-  pub begins : CanBegin job s
-  pub at : At job k b r u
-  pub held : u ≤ length (job .run)
-  pub runs : u ≤ b
-  pub state : sofar .st ≡ stateOf job s b
-  pub short : sofar .least ≡ leastUpto job s b
+-- break by break
+module _ (em : ℕ) (t : List ℕ) (st : State) (i d : ℕ) where
+  pub inner-none : (k : ℕ) → k ≡ 0 → innerLeast em t st i d k ≡ d
+  unfolding innerLeast
+  inner-none = least-none (λ _. cellAt t i .cut) (extentUpto em t st i) d i
 
--- that element is x
-pub record Faces (job : Job) (s k : ℕ) (x : Piece) (sofar : Sofar) : Type 0 where
-  pub stands : Stands job s k (x .base) (x .ruby) (x .run) sofar
-  pub index : k < elementCount job
-  pub is : x ≡ element job k (x .base) (x .ruby) (x .run)
+  pub inner-next : cellAt t i .cut ≡ true → (m k : ℕ) → m ≡ suc k → innerLeast em t st i d m ≡ min (extentUpto em t st i (i + m)) (innerLeast em t st i d k)
+  unfolding innerLeast
+  inner-next e m k l = least-at (λ _. cellAt t i .cut) (extentUpto em t st i) d i m k l ∙ rw e
 
--- behind an element that ends at c
-abbrev pub behind : Job → ℕ → ℕ → Sofar
-behind job s c = record { st = stateOf job s c; least = leastUpto job s c }
+  pub inner-whole : cellAt t i .cut ≡ false → (k : ℕ) → innerLeast em t st i d k ≡ d
+  unfolding innerLeast
+  inner-whole e k = ap (λ (x : Bool). leastOf (λ _. x) (extentUpto em t st i) d i k) e ∙ least-never (extentUpto em t st i) d i k
 
-pub stands-first : {job : Job} {s : ℕ} → Passed job × (s < baseCount job) × CanBegin job s → Stands job s 0 0 0 0 (record { st = setting.start; least = largest })
-stands-first {job} {s} q =
-    record {
-      passed = q .0;
-      more = q .1;
-      begins = q .2;
-      at = at-first job;
-      held = zero-le;
-      runs = zero-le;
-      state = sym (state-first job s 0 zero-le);
-      short = sym (least-none job s 0 zero-le);
-    }
+-- a line of the state st stands before row i; a piece takes it on by 524,288 at most
+pub record Stands (em : ℕ) (t : List ℕ) (n i : ℕ) (st : State) : Type 0 where
+  pub sound : Sound em t n
+  pub inside : i < n
+  pub near : furthest st ≤ 524288 * i
 
-pub faces : {job : Job} {s k b r u : ℕ} {sofar : Sofar} → k < elementCount job → Stands job s k b r u sofar → Faces job s k (element job k b r u) sofar
-unfolding element
-faces h q = record { stands = q; index = h; is = refl }
+module _ {em : ℕ} {t : List ℕ} {n i : ℕ} {st : State} (h : Stands em t n i st) where
+  pub row : Row t n i
+  row = h .sound .row i (h .inside)
 
-module _ {job : Job} {s k : ℕ} {x : Piece} {sofar : Sofar} (q : Faces job s k x sofar) where
-  the-element : IsElement job x
-  the-element = subst (IsElement job) (sym (q .is)) (at-element job (q .stands .passed) k (x .base) (x .ruby) (x .run) (q .index) (q .stands .at))
+  pub held : 19 * i + 19 ≤ length t
+  held = omega (arith, h .inside, h .sound .long)
 
-  -- what does not depend on where the line begins is known of a line that begins with the element
-  pub own : Here job (x .base) k x setting.start
-  own =
-      record {
-        passed = q .stands .passed;
-        index = q .index;
-        at = q .stands .at;
-        is = q .is;
-        ahead = omega (arith, the-element .good .counts .some);
-        whole = λ j. omega arith;
-        state = sym (state-first job (x .base) (x .base) (omega arith));
-        held = q .stands .held;
-        runs = q .stands .runs;
-      }
+  pub goes : (c : ℕ) → i < c → c ≤ i + cellAt t i .bases → Advances em t st i c
+  goes c l u = advances em t n (h .sound) i c l u (h .inside) st (h .near)
 
-  -- an element that ends where the line begins, or before, adds nothing
-  pub passes : x .base + x .bases ≤ s → sofar ≡ behind job s (x .base + x .bases)
-  passes h =
-      let st : sofar .st ≡ stateOf job s (x .base + x .bases) = q .stands .state ∙ state-first job s (x .base) (omega arith) ∙ sym (state-first job s (x .base + x .bases) h) in
-      let short : sofar .least ≡ leastUpto job s (x .base + x .bases) = q .stands .short ∙ least-none job s (x .base) (omega arith) ∙ sym (least-none job s (x .base + x .bases) h) in
-      ap₂ {C = Sofar} (λ (t : State) (n : ℕ). record { st = t; least = n }) st short
+-- the pass behind the pieces before row i: the line from s has the state st there, and the breaks from here on are held against d
+pub record Passes (em : ℕ) (t : List ℕ) (n s i : ℕ) (st : State) (d : ℕ) : Type 0 where
+  pub sound : Sound em t n
+  pub from : s ≤ i
+  pub upto : i ≤ n
+  pub near : furthest st ≤ 524288 * i
+  pub state : (c : ℕ) → i < c → c ≤ n → stateAt em t s c ≡ rest em t st i c
+  pub here : s < i → stateAt em t s i ≡ st
+  pub short : leastOf (mayEnd t n) (extentAt em t s) largest s (n - s) ≡ leastOf (mayEnd t n) (extentAt em t s) d i (n - i)
 
-  -- any other stands in the line, and one in which the line begins is a J
-  pub here : s < x .base + x .bases → Here job s k x (sofar .st)
-  here h =
-      record {
-        passed = q .stands .passed;
-        index = q .index;
-        at = q .stands .at;
-        is = q .is;
-        ahead = h;
-        whole = whole;
-        state = q .stands .state;
-        held = q .stands .held;
-        runs = q .stands .runs;
-      }
+pub passes-first : {em : ℕ} {t : List ℕ} {n s : ℕ} → Sound em t n → s < n → Passes em t n s s start largest
+passes-first sound h =
+    record { sound = sound; from = omega arith; upto = omega arith; near = zero-le; state = λ c l u. refl; here = λ l. absurd (omega arith); short = refl }
+
+module _ {em : ℕ} {t : List ℕ} {n s i : ℕ} {st : State} {d : ℕ} (q : Passes em t n s i st d) where
+  -- behind the last piece all breaks have been tried
+  pub passes-end : s < n → n ≤ i → d ≡ neededOf em t n s
+  unfolding neededOf
+  passes-end l h =
+      sym (least-none (mayEnd t n) (extentAt em t s) d i (n - i) (omega arith)) ∙ sym (q .short)
+      ∙ go (n - s) (omega arith)
     where
-      whole : isJ (x .form) ≡ false → s ≤ x .base
-      whole j = go (decLt (x .base) s)
-        where
-          go : Dec (x .base < s) → s ≤ x .base
-          go (yes g) = absurd (true≢false (sym (q .stands .begins (omega arith)) ∙ permitted-within job x the-element s g h ∙ j))
-          go (no g) = omega arith
+      stands : stateAt em t s n ≡ st
+      stands = subst (λ e. s < e → stateAt em t s e ≡ st) (omega (arith, q .upto)) (q .here) l
 
-  -- the walk goes on
-  pub stands-next : Stands job s (k + 1) (x .base + x .bases) (x .ruby + x .rubies) (x .run + takesRuns (x .form) (x .bases)) (behind job s (x .base + x .bases))
-  stands-next =
-      record {
-        passed = q .stands .passed;
-        more = q .stands .more;
-        begins = q .stands .begins;
-        at = search.at-after job (x .base) k x setting.start own;
-        held = search.runs-held job (x .base) k x setting.start own;
-        runs = search.runs-after job (x .base) k x setting.start own;
-        state = refl;
-        short = refl;
-      }
+      near : extentAt em t s n ≤ largest
+      near = omega (arith, ap furthest stands, q .near, q .upto, q .sound .few)
 
-  -- small numbers, for the code
-  pub smalls : (x .base + x .bases < 4096) × (x .ruby + x .rubies < 4096) × (x .run + x .bases < 8192)
-  smalls = search.smalls job (x .base) k x setting.start own
+      go : (m : ℕ) → s + m ≡ n → leastOf (mayEnd t n) (extentAt em t s) largest s m ≡ leastOf (mayEnd t n) (extentAt em t s) (extentAt em t s n) s m
+      go m e =
+          least-start (mayEnd t n) (extentAt em t s) largest s m (m - 1) (omega arith) (rw (eq-eqb (s + m) n e)) (subst (λ c. extentAt em t s c ≤ largest) (sym e) near)
+          ∙ ap (λ c. leastOf (mayEnd t n) (extentAt em t s) (extentAt em t s c) s m) e
 
--- the element's counts can be read
-pub counts : {job : Job} {s k b r u : ℕ} {sofar : Sofar} → k < elementCount job → Stands job s k b r u sofar → Counts k u (job .kind) (job .elementBase) (job .elementRuby) (job .run)
-unfolding element
-counts {job} {s} {k} {b} {r} {u} {sofar} h q =
-    let f = faces h q in
-    let none : Break = record { end = 0; k = 0; b = 0; r = 0; u = 0 } in
-    search.counts-of job b k b r u setting.start none h
-    (record {
-      passed = q .passed;
-      upto = omega arith;
-      at = q .at;
-      ahead = λ _. own f .ahead;
-      whole = λ _ j. own f .whole j;
-      state = own f .state;
-      held = q .held;
-      runs = q .runs;
-      best = record { is = sym (best-none job b b (omega arith)); begins = λ e. absurd (e refl) };
-    })
+  module _ (h : i < n) where
+    pub stands : Stands em t n i st
+    stands = record { sound = q .sound; inside = h; near = q .near }
 
--- behind the last element all breaks have been tried
-pub stands-end : {job : Job} {s k b r u : ℕ} {sofar : Sofar} → elementCount job ≤ k → Stands job s k b r u sofar → sofar .least ≡ needed job s
-stands-end {job} {s} {k} {b} {r} {u} h q = q .short ∙ ap (leastUpto job s) (at-end job (q .passed) k b r u h (q .at) .0) ∙ least-all job (q .passed) s (q .more)
+    abbrev a : Cell
+    a = cellAt t i
 
--- The breaks of an element in the line.
+    abbrev b : ℕ
+    b = i + cellAt t i .bases
 
--- those inside a J, up to c
-pub record Inner (job : Job) (s : ℕ) (x : Piece) (c found : ℕ) : Type 0 where
-  pub from : max s (x .base) ≤ c
-  pub upto : c ≤ x .base + x .bases - 1
-  pub short : found ≡ leastUpto job s c
+    r : Row t n i
+    r = q .sound .row i h
 
-module _ {job : Job} {s k : ℕ} {x : Piece} {st : State} (h : Here job s k x st) where
-  -- one break more, which is permitted
-  open-step : (c : ℕ) → s ≤ c → permitted job (c + 1) ≡ true → leastUpto job s (c + 1) ≡ min (setting.furthest (stateOf job s (c + 1))) (leastUpto job s c)
-  open-step c l may = least-step job s c l ∙ rw (may, extent-of job s (c + 1))
+    abbrev then : State
+    then = next st (piece em t i b)
 
-  -- between two base characters of a J
-  inner-step : isJ (x .form) ≡ true → (c : ℕ) → max s (x .base) ≤ c → c + 1 < x .base + x .bases →
-      leastUpto job s (c + 1) ≡ min (setting.furthest (stateOf job s (c + 1))) (leastUpto job s c)
-  inner-step j c l u = open-step c (first s (x .base) l) (permitted-within job x (search.the-element job s k x st h) (c + 1) (second s (x .base) l) u ∙ j)
-    where
-      first : (s b : ℕ) → max s b ≤ c → s ≤ c
-      first s b h = omega arith
+    -- behind the piece, up to its end, and within it
+    after : (c : ℕ) → b < c → c ≤ n → stateAt em t s c ≡ rest em t then b c
+    after c l u =
+        q .state c (omega arith) u ∙ step em t n (q .sound) st i c (omega arith) u
+        ∙ ap (λ z. rest em t (next st (piece em t i z)) b c) (stop-whole t i c (omega arith))
 
-      second : (s b : ℕ) → max s b ≤ c → b < c + 1
-      second s b h = omega arith
+    at-end : stateAt em t s b ≡ then
+    at-end =
+        q .state b (omega (arith, r .some)) (r .inside) ∙ step em t n (q .sound) st i b (omega (arith, r .some)) (r .inside)
+        ∙ ap (λ z. rest em t (next st (piece em t i z)) b b) (stop-whole t i b (omega arith)) ∙ rest-none em t then b b (omega arith)
 
-  -- before the first of them the line has no break but those of the elements before
-  inner-first : leastUpto job s (max s (x .base)) ≡ leastUpto job s (x .base)
-  inner-first = go (decLt (x .base) s)
-    where
-      go : Dec (x .base < s) → leastUpto job s (max s (x .base)) ≡ leastUpto job s (x .base)
-      go (yes g) = least-none job s (max s (x .base)) (within s (x .base) g) ∙ sym (least-none job s (x .base) (omega arith))
-        where
-          within : (s b : ℕ) → b < s → max s b ≤ s
-          within s b g = omega arith
-      go (no g) = ap (leastUpto job s) (same s (x .base) g)
-        where
-          same : (s b : ℕ) → (b < s → ⊥) → max s b ≡ b
-          same s b g = omega arith
+    inside : (c : ℕ) → i < c → c < b → stateAt em t s c ≡ next st (piece em t i c)
+    inside c l u =
+        let v : c ≤ n = omega (arith, r .inside) in
+        q .state c l v ∙ step em t n (q .sound) st i c l v
+        ∙ ap (λ z. rest em t (next st (piece em t i z)) b c) (stop-within t i c (omega arith)) ∙ rest-none em t (next st (piece em t i c)) b c (omega arith)
 
-  inner-upto : max s (x .base) ≤ x .base + x .bases - 1
-  inner-upto = go s (x .base) (x .bases) (h .ahead) (search.low-end job s k x st h .2)
-    where
-      go : (s b m : ℕ) → s < b + m → 0 < m → max s b ≤ b + m - 1
-      go s b m h k = omega arith
+    -- the breaks of the piece: those within it
+    inner : leastOf (mayEnd t n) (extentAt em t s) d i (a .bases - 1) ≡ innerLeast em t st i d (a .bases - 1)
+    unfolding innerLeast
+    inner =
+        least-same (mayEnd t n) (extentAt em t s) d i (λ _. a .cut) (extentUpto em t st i) (a .bases - 1)
+        (λ c l u. let m : c < b = omega (arith, r .some) in (may-within em t n (q .sound) i h c l m, ap furthest (inside c l m)))
 
-  pub inner-starts : {least : ℕ} → least ≡ leastUpto job s (x .base) → Inner job s x (max s (x .base)) least
-  inner-starts e = record { from = omega arith; upto = inner-upto; short = e ∙ sym inner-first }
+    -- and all of them
+    passed : leastOf (mayEnd t n) (extentAt em t s) d i (a .bases) ≡ behind em t n i st then d
+    unfolding behind
+    passed =
+        least-at (mayEnd t n) (extentAt em t s) d i (a .bases) (a .bases - 1) (omega (arith, r .some))
+        ∙ rw (inner, may-end em t n (q .sound) i h, at-end)
 
-  module _ (j : isJ (x .form) ≡ true) {c found : ℕ} (i : Inner job s x c found) (l : c < x .base + x .bases - 1) where
-    pub inner-ready : (Into job s (c + 1) x) × (st ≡ stateOf job s (x .base)) × (k < 1024)
-    inner-ready =
-        let m = past s (x .base) (i .from) in
-        (search.into-jukugo job s k x st h j (c + 1) (m .0) (m .1) (omega arith), h .state, search.index-small job s k x st h)
-      where
-        past : (s b : ℕ) → max s b ≤ c → (s < c + 1) × (b < c + 1)
-        past s b h = (omega arith, omega arith)
-
-    pub inner-next : Inner job s x (c + 1) (min (setting.furthest (stateOf job s (c + 1))) found)
-    inner-next =
+    -- the pass goes on behind it
+    pub passes-next : Passes em t n s b then (behind em t n i st then d)
+    passes-next =
         record {
-          from = further (max s (x .base)) c (i .from);
-          upto = omega arith;
-          short = ap (min (setting.furthest (stateOf job s (c + 1)))) (i .short) ∙ sym (inner-step j c (i .from) (omega arith));
+          sound = q .sound;
+          from = omega (arith, q .from);
+          upto = r .inside;
+          near = next-near em t n (q .sound) st i b (omega (arith, r .some)) (omega arith) h (q .near);
+          state = after;
+          here = λ _. at-end;
+          short =
+              q .short ∙ ap (leastOf (mayEnd t n) (extentAt em t s) d i) (split n i (a .bases) (r .inside))
+              ∙ least-split (mayEnd t n) (extentAt em t s) d i (a .bases) (n - b)
+              ∙ ap (λ z. leastOf (mayEnd t n) (extentAt em t s) z b (n - b)) passed;
         }
       where
-        further : (a c : ℕ) → a ≤ c → a ≤ c + 1
-        further a c h = omega arith
+        split : (n i b : ℕ) → i + b ≤ n → n - i ≡ b + (n - (i + b))
+        split n i b h = omega arith
 
-  pub inner-ends : {c found : ℕ} → Inner job s x c found → x .base + x .bases - 1 ≤ c → found ≡ leastUpto job s (x .base + x .bases - 1)
-  inner-ends i l = i .short ∙ ap (leastUpto job s) (le-antisymm (i .upto) l)
+-- what is behind a piece, case by case
+module _ (em : ℕ) (t : List ℕ) (n i : ℕ) (st then : State) (d r : ℕ) (e : r ≡ innerLeast em t st i d (cellAt t i .bases - 1)) where
+  pub behind-may : (eqb (i + cellAt t i .bases) n || cellAt t i .ends) ≡ true → min (furthest then) r ≡ behind em t n i st then d
+  unfolding behind
+  behind-may h = rw (h, e)
 
-  -- an element that is no J has none
-  pub inner-none : isJ (x .form) ≡ false → leastUpto job s (x .base + x .bases - 1) ≡ leastUpto job s (x .base)
-  inner-none j = least-plain job x (search.the-element job s k x st h) s j (h .whole j)
-
-  -- "after the last base character of an element whose flag is 1 .. and at the job's end"
-  pub end-step : leastUpto job s (x .base + x .bases)
-      ≡ cond (eqb (x .base + x .bases) (baseCount job) || eqb (getD (job .flag) (x .base + x .bases - 1) 0) 1) (min (setting.furthest (stateOf job s (x .base + x .bases))) (leastUpto job s (x .base + x .bases - 1)))
-      (leastUpto job s (x .base + x .bases - 1))
-  end-step = go (x .base + x .bases - 1) (omega (arith, search.low-end job s k x st h .2)) ∙ rw (search.open-end job s k x st h)
-    where
-      go : (c : ℕ) → c + 1 ≡ x .base + x .bases →
-          leastUpto job s (x .base + x .bases) ≡ cond (permitted job (x .base + x .bases)) (min (setting.furthest (stateOf job s (x .base + x .bases))) (leastUpto job s c)) (leastUpto job s c)
-      go c e =
-          subst (λ (n : ℕ). leastUpto job s n ≡ cond (permitted job n) (min (setting.furthest (stateOf job s n)) (leastUpto job s c)) (leastUpto job s c)) e
-          (least-step job s c (omega (arith, h .ahead)) ∙ ap (λ (m : ℕ). cond (permitted job (c + 1)) (min m (leastUpto job s c)) (leastUpto job s c)) (extent-of job s (c + 1)))
-
-  -- so the element is passed: where the line may end with it,
-  pub ends-open : {bases inner least : ℕ} {next : State} → bases ≡ baseCount job → (eqb (x .base + x .bases) bases || eqb (getD (job .flag) (x .base + x .bases - 1) 0) 1) ≡ true →
-      next ≡ stateOf job s (x .base + x .bases) → inner ≡ leastUpto job s (x .base + x .bases - 1) → least ≡ min (setting.furthest next) inner →
-      _≡_ {A = Sofar} (record { st = next; least = least }) (behind job s (x .base + x .bases))
-  ends-open all may st short is =
-      ap₂ {C = Sofar} (λ (t : State) (n : ℕ). record { st = t; least = n }) st
-      (is ∙ ap₂ (λ (t : State) (n : ℕ). min (setting.furthest t) n) st short ∙ sym (end-step ∙ rw (rw all at may)))
-
-  -- and where it may not
-  pub ends-closed : {bases inner : ℕ} {next : State} → bases ≡ baseCount job → (eqb (x .base + x .bases) bases || eqb (getD (job .flag) (x .base + x .bases - 1) 0) 1) ≡ false →
-      next ≡ stateOf job s (x .base + x .bases) → inner ≡ leastUpto job s (x .base + x .bases - 1) → _≡_ {A = Sofar} (record { st = next; least = inner }) (behind job s (x .base + x .bases))
-  ends-closed all may st short = ap₂ {C = Sofar} (λ (t : State) (n : ℕ). record { st = t; least = n }) st (short ∙ sym (end-step ∙ rw (rw all at may)))
+  pub behind-not : (eqb (i + cellAt t i .bases) n || cellAt t i .ends) ≡ false → r ≡ behind em t n i st then d
+  unfolding behind
+  behind-not h = rw (h, e)

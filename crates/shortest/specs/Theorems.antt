@@ -6,7 +6,7 @@ use mathlib.Core.Logic.{_⊎_, inl, inr, _↔_}
 use Prim.Native.Nat.{ℕ, zero, suc, _+_, _-_, _*_, _≤_, _<_, min}
 use native.Mathlib.Omega.{arith}
 use native.Mathlib.Decide.{decLe, decLt}
-use borrow.Author.Tests.{le-leb, leb-true}
+use borrow.Author.Tests.{le-leb, leb-true, eq-eqb}
 use lib.ListN.{length}
 use Rattle.basics.specs.Lists.{count, keep}
 use Rattle.refusal.specs.declared.Refusal.the-variants.{NoBreak}
@@ -18,8 +18,7 @@ use Rattle.job.specs.Promise.{Break, Chain, Stuck}
 use Rattle.job.specs.Filled.{can-set, set-can}
 use Rattle.job.specs.Outcome.{outcome}
 use Rattle.job.specs.Demands.{stuck-exactly}
-use Rattle.shortest.specs.Needed.{least, needed, CanBegin}
-use Rattle.shortest.specs.Upto.{end-permitted}
+use Rattle.shortest.specs.Needed.{least, needed}
 
 -- The least over the numbers from a on that pass a test.
 
@@ -94,6 +93,11 @@ none-less f p a (suc n) d e l u h = go (p a) refl (decLt a e) (λ g. none-less f
     go false q (yes g) w = w g
     go false q (no g) w = absurd (false≢true (sym q ∙ ap p (same g) ∙ h))
 
+-- the job's end is a break
+end-permitted : (job : Job) → permitted job (baseCount job) ≡ true
+unfolding permitted
+end-permitted job = rw (eq-eqb (baseCount job) (baseCount job) refl)
+
 -- a permitted break ahead whose line has this extent
 abbrev pub Attains : Job → ℕ → ℕ → Type 0
 Attains job s n = (e : ℕ) × Break job s e × (extentOf job s e ≡ n)
@@ -145,24 +149,15 @@ module _ (job : Job) (good : Passed job) (s : ℕ) where
   pub stuck-needs : Stuck job s ↔ ((es : List ℕ) × Chain job 0 es s × (s < baseCount job) × (2 * job .measure < needed job s))
   stuck-needs = (λ k. (k .sofar, k .lines, k .more, stuck-long k), λ (es, c, h, l). long-stuck es c h l)
 
--- Lines that come to s, each ended at a permitted break, leave a place where a line can begin,
-chain-begins : (job : Job) (a d : ℕ) (es : List ℕ) → CanBegin job a → Chain job a es d → CanBegin job d
-chain-begins job a d [] h c = subst (CanBegin job) c h
-chain-begins job a d (e ∷ es) h c = chain-begins job e d es (λ _. c .0 .at .permits) (c .1)
-
--- so where the lines of a job are stuck, a line can begin: what `needed_extent` asks of s.
-pub stuck-begins : (job : Job) (s : ℕ) → Stuck job s → (s < baseCount job) × CanBegin job s
-stuck-begins job s k = (k .more, chain-begins job 0 s (k .sofar) (λ h. absurd (omega arith)) (k .lines))
-
 -- Of a job that is refused with number 11 at s,
 module _ (job : Job) (base ruby line : List ℕ) (s : ℕ) (refused : outcome job base ruby line .answer ≡ Refused (NoBreak s)) where
-  entered : Passed job
+  pub entered : Passed job
   entered = passed job (length base) (length ruby) (length line) (stuck-exactly job base ruby line s .0 refused .0)
 
   -- the extent that is needed there passes the measure,
   pub too-long : 2 * job .measure < needed job s
   too-long = stuck-long job entered s (stuck-exactly job base ruby line s .0 refused .1)
 
-  -- and `needed_extent` tells it: all that it asks holds.
-  pub refused-ready : Passed job × (s < baseCount job) × CanBegin job s
-  refused-ready = let k = stuck-begins job s (stuck-exactly job base ruby line s .0 refused .1) in (entered, k .0, k .1)
+  -- and there is a line from there.
+  pub refused-ahead : s < baseCount job
+  refused-ahead = stuck-exactly job base ruby line s .0 refused .1 .more

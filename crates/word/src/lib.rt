@@ -1,22 +1,22 @@
-// Level one: the word alone (document 01, "Level one"). `measure` answers a word's record by value and writes nothing; `put_base` and
-// `put_ruby` write the places of its characters at a given origin into lent parts. A word is set in its own coordinates, in
-// half units from the start of its longer string. Nothing but the word comes in (em, form, its own characters), so no neighbour
-// can alter what it decides. It relies on `class` for kinds, on `spread` for one string, on `refusal` and on `basics`.
+// Level one: the word alone (document 01, "Level one"). `measure` answers a word's record by value and writes nothing; where its characters stand at a given origin the definitions
+// `baseStarts` and `rubyStarts` say (specs/Word.antt). A word is set in its own coordinates, in half units from the start of its longer string. Nothing but the word comes
+// in (em, form, its own characters), so no neighbour can alter what it decides. It relies on `class` for kinds, on `spread` for one string, on `refusal`
+// and on `basics`.
 ghost use mathlib.Core.Path.{_≡_};
-ghost use mathlib.Core.Bool.{true, false, _&&_, _||_};
+ghost use mathlib.Core.Bool.{true, false, not, _&&_, _||_};
 ghost use Prim.Native.Nat.{_+_, _-_, _^_, _≤_, _<_};
 ghost use lib.ListN.{length, getD};
 ghost use mathlib.Core.List.{[], map};
 ghost use Rattle.basics.specs.Lists.{sum, any, other};
-ghost use Rattle.spread.specs.Gap.{starts};
-ghost use Rattle.spread.specs.Running.{Ready};
-ghost use Rattle.word.specs.Alone.{script, rubyWay, baseWay, split};
-ghost use Rattle.word.specs.Word.{plain, wordBy, groupWord, jukugoWord, wordOf, runStarts, baseStarts, rubyStarts};
+ghost use Rattle.word.specs.Alone.{rubyWay, baseWay, split};
+ghost use Rattle.word.specs.Word.{plain, wordBy, groupWord, jukugoWord};
+ghost use Rattle.word.specs.Numbers.{wordFrom, Measured};
 ghost use Rattle.word.specs.Answer.{answer};
-ghost use Rattle.word.specs.Sized.{Small, Sized, RunsReady};
+ghost use Rattle.word.specs.Sized.{Small, Sized};
+ghost use Rattle.class.specs.Class.{kanaLike};
 ghost use Rattle.word.specs.Kinds.{mixOf, mixedBy, scriptBy, notKanaBy, with};
+ghost use Rattle.word.specs.declared.Answer.the-variants.{Set};
 ghost use Rattle.word.specs.Runs.{runsOf};
-ghost use Rattle.word.specs.First.{Speaks, Judged};
 
 // The kinds of element (document 01, "The job").
 pub enum Form {
@@ -97,8 +97,22 @@ fn with_kind(m: Mix, k: class::Kind) -> Mix
     }
 }
 
-// The kinds of a string's characters, in one pass.
-fn mix_of(cs: &[u32]) -> Mix
+// Every character is kana-like.
+fn all_kana(cs: &[u32]) -> bool
+    ensures { λ r. ⌜ not r ≡ any (λ c. not (kanaLike c)) (now (cs .entry)) ⌝ }
+{
+    let mut i: usize = 0;
+    while i < cs.len() {
+        if !class::is_kana(cs[i]) {
+            return false;
+        }
+        i += 1;
+    }
+    true
+}
+
+// The kinds of a string's characters, one by one.
+fn mix_by_kinds(cs: &[u32]) -> Mix
     ensures { λ r. ⌜ r ≡ mixOf (now (cs .entry)) ⌝ }
 {
     let mut m = Mix {
@@ -113,6 +127,21 @@ fn mix_of(cs: &[u32]) -> Mix
         i += 1;
     }
     m
+}
+
+// The kinds of a string's characters. Most strings are kana-like throughout.
+fn mix_of(cs: &[u32]) -> Mix
+    ensures { λ r. ⌜ r ≡ mixOf (now (cs .entry)) ⌝ }
+{
+    if all_kana(cs) {
+        return Mix {
+            kana: 0 < cs.len(),
+            western: false,
+            space: false,
+            outside: false,
+        };
+    }
+    mix_by_kinds(cs)
 }
 
 // Number 9 of one string.
@@ -199,16 +228,21 @@ fn plain_of(b: u32) -> Word
     }
 }
 
-// The word of two strings, by the way of each where it is the shorter.
-fn word_by(ruby: spread::Way, base: spread::Way, em: u32, bs: &[u32], rs: &[u32]) -> Word
-    requires { ⌜ Small (now bs) (now rs) ⌝ }
-    ensures { λ r. ⌜ r ≡ wordBy ruby base em (now (bs .entry)) (now (rs .entry)) ⌝ }
+// The word of two strings of b and r units and n and m characters, by the way of each where it is the shorter.
+pub fn word_from(
+    ruby: spread::Way,
+    base: spread::Way,
+    em: u32,
+    b: u32,
+    n: u32,
+    r: u32,
+    m: u32,
+) -> Word
+    requires { ⌜ Measured b n r m ⌝ }
+    ensures { λ w. ⌜ w ≡ wordFrom ruby base em b n r m ⌝ }
 {
-    let b = basics::sum_of(bs);
-    let r = basics::sum_of(rs);
     if r <= b {
-        let n = rs.len() as u32;
-        let g = spread::gap_of(ruby, em, b - r, n);
+        let g = spread::gap_of(ruby, em, b - r, m);
         let within = 2 * (b - r) - 2 * g;
         return Word {
             front: 0,
@@ -221,7 +255,6 @@ fn word_by(ruby: spread::Way, base: spread::Way, em: u32, bs: &[u32], rs: &[u32]
             runs: false,
         };
     }
-    let n = bs.len() as u32;
     let g = spread::gap_of(base, em, r - b, n);
     let within = 2 * (r - b) - 2 * g;
     Word {
@@ -234,6 +267,18 @@ fn word_by(ruby: spread::Way, base: spread::Way, em: u32, bs: &[u32], rs: &[u32]
         inruby: 0,
         runs: false,
     }
+}
+
+// The word of two strings by their lists.
+fn word_by(ruby: spread::Way, base: spread::Way, em: u32, bs: &[u32], rs: &[u32]) -> Word
+    requires { ⌜ Small (now bs) (now rs) ⌝ }
+    ensures { λ r. ⌜ r ≡ wordBy ruby base em (now (bs .entry)) (now (rs .entry)) ⌝ }
+{
+    let b = basics::sum_of(bs);
+    let r = basics::sum_of(rs);
+    let n = bs.len() as u32;
+    let m = rs.len() as u32;
+    word_from(ruby, base, em, b, n, r, m)
 }
 
 fn group_of(r: Script, b: Script, em: u32, bs: &[u32], rs: &[u32]) -> Word
@@ -318,8 +363,23 @@ fn western_over(r: Mix, b: Mix) -> bool
     if over { b.western } else { false }
 }
 
+// A P: its word.
+pub fn plain_answer(b: u32) -> Answer
+    requires { ⌜ b ≤ 131072 ⌝ }
+    ensures { λ a. ⌜ a ≡ Set (plain b) ⌝ }
+{
+    Answer::Set(plain_of(b))
+}
+
 // An M: number 7, or its word.
-fn mono_answer(place: u32, em: u32, bs: &[u32], before: &[u32], after: &[u32], rs: &[u32]) -> Answer
+pub fn mono_answer(
+    place: u32,
+    em: u32,
+    bs: &[u32],
+    before: &[u32],
+    after: &[u32],
+    rs: &[u32],
+) -> Answer
     requires { ⌜ Small (now bs) (now rs) ⌝ }
     ensures { λ a. ⌜ a ≡ answer Form.M place (record { em = em; class = []; width = now (bs .entry); before = now (before .entry); after = now (after .entry); rubyClass = []; rubyWidth = now (rs .entry); run = [] }) ⌝ }
 {
@@ -330,7 +390,7 @@ fn mono_answer(place: u32, em: u32, bs: &[u32], before: &[u32], after: &[u32], r
 }
 
 // A G: numbers 7, 9 and 10, or its word.
-fn group_answer(
+pub fn group_answer(
     place: u32,
     em: u32,
     bc: &[u32],
@@ -361,7 +421,7 @@ fn group_answer(
 }
 
 // A J: numbers 7, 8 and 9, or its word. Once 8 has passed its base is kana-like throughout, so 9 is about its ruby alone.
-fn jukugo_answer(
+pub fn jukugo_answer(
     place: u32,
     em: u32,
     bc: &[u32],
@@ -408,117 +468,9 @@ pub fn measure(
     ensures { λ a. ⌜ a ≡ answer form place (record { em = em; class = now (bc .entry); width = now (bs .entry); before = now (before .entry); after = now (after .entry); rubyClass = now (rc .entry); rubyWidth = now (rs .entry); run = now (runs .entry) }) ⌝ }
 {
     match form {
-        Form::P => Answer::Set(plain_of(basics::sum_of(bs))),
+        Form::P => plain_answer(basics::sum_of(bs)),
         Form::M => mono_answer(place, em, bs, before, after, rs),
         Form::G => group_answer(place, em, bc, bs, before, after, rc, rs),
         Form::J => jukugo_answer(place, em, bc, bs, before, after, rc, rs, runs),
     }
-}
-
-// What a string is made of, by its first character: number 9 has let the string pass.
-fn script_by(cs: &[u32]) -> Script
-    requires { ⌜ Speaks (now cs) ⌝ }
-    ensures { λ r. ⌜ r ≡ script (now (cs .entry)) ⌝ }
-{
-    match class::kind_of(cs[0]) {
-        class::Kind::KanaLike => Script::Kana,
-        class::Kind::Western => Script::Western,
-        class::Kind::Space => Script::Kana,
-        class::Kind::Outside => Script::Kana,
-    }
-}
-
-// A J that was judged. Its ruby's classes are asked only where one of its own runs is longer than one em.
-fn jukugo_by(em: u32, bs: &[u32], own: &[u32], rc: &[u32], rs: &[u32]) -> Word
-    requires { ⌜ (Small (now bs) (now rs)) × (sum (now own) ≤ length (now rs)) × (em ≤ sum (now bs)) × (Speaks (now rc)) ⌝ }
-    ensures { λ w. ⌜ w ≡ jukugoWord (script (now (rc .entry))) em (now (bs .entry)) (now (own .entry)) (now (rs .entry)) ⌝ }
-{
-    let b = basics::sum_of(bs);
-    match runs_in(em, own, rs) {
-        Runs::Longer => {
-            let r = script_by(rc);
-            group_of(r, Script::Kana, em, bs, rs)
-        }
-        Runs::Fit(last) => {
-            let first = first_run(own, rs);
-            Word {
-                front: 0,
-                len: 2 * b,
-                ruby: true,
-                from: em - first,
-                upto: 2 * b - (em - last),
-                inbase: 0,
-                inruby: 0,
-                runs: true,
-            }
-        }
-    }
-}
-
-// The word of an element that was judged: what `measure` answers where it refuses nothing, without asking for numbers 7 to 10 again.
-pub fn word_of(
-    form: Form,
-    em: u32,
-    bc: &[u32],
-    bs: &[u32],
-    rc: &[u32],
-    rs: &[u32],
-    runs: &[u32],
-) -> Word
-    requires { ⌜ (Sized form (now bs) (now rs) (now runs)) × (Judged form em (now bc) (now bs) (now rc)) ⌝ }
-    ensures { λ w. ⌜ w ≡ wordOf form (record { em = em; class = now (bc .entry); width = now (bs .entry); before = []; after = []; rubyClass = now (rc .entry); rubyWidth = now (rs .entry); run = now (runs .entry) }) ⌝ }
-{
-    match form {
-        Form::P => plain_of(basics::sum_of(bs)),
-        Form::M => word_by(spread::Way::Solid, spread::Way::Solid, em, bs, rs),
-        Form::G => group_of(script_by(rc), script_by(bc), em, bs, rs),
-        Form::J => jukugo_by(em, bs, runs, rc, rs),
-    }
-}
-
-// The starts of one run, solid over its character of one em, which starts at `at`.
-fn put_run(em: u32, at: u32, ws: &[u32], out: &mut [u32])
-    requires { ⌜ (length (now ws) ≡ length (now out)) × (length (now ws) ≤ 64) × (em ≤ 4096) × (sum (now ws) ≤ em) × (at < 3221225472) ⌝ }
-    ensures { λ _. ⌜ now (out .exit) ≡ starts 0 (at + (em - sum (now (ws .entry)))) (now (ws .entry)) ⌝ }
-{
-    let s = basics::sum_of(ws);
-    spread::put_starts(ws, at + (em - s), 0, out);
-}
-
-// The starts of a J's ruby where no run is longer than one em.
-fn put_runs(em: u32, at: u32, runs: &[u32], ws: &[u32], out: &mut [u32])
-    requires { ⌜ RunsReady em at (now runs) (now ws) (now out) ⌝ }
-    ensures { λ _. ⌜ now (out .exit) ≡ runStarts em at (split (now (runs .entry)) (now (ws .entry))) ⌝ }
-{
-    let mut a: usize = 0;
-    let mut x = at;
-    let mut k: usize = 0;
-    while k < runs.len() {
-        let e = a + runs[k] as usize;
-        put_run(em, x, &ws[a..e], &mut out[a..e]);
-        a = e;
-        x += 2 * em;
-        k += 1;
-    }
-}
-
-// The positions of a word's base characters, the word's origin at `at`.
-pub fn put_base(w: Word, at: u32, bs: &[u32], out: &mut [u32])
-    requires { ⌜ Ready (w .inbase) (at + w .front) (now bs) (now out) ⌝ }
-    ensures { λ _. ⌜ now (out .exit) ≡ baseStarts w at (now (bs .entry)) ⌝ }
-{
-    spread::put_starts(bs, at + w.front, w.inbase, out);
-}
-
-// The positions of its ruby characters.
-pub fn put_ruby(w: Word, em: u32, at: u32, runs: &[u32], rs: &[u32], out: &mut [u32])
-    requires { ⌜ (w .runs ≡ true → RunsReady em at (now runs) (now rs) (now out)) × (w .runs ≡ false → Ready (w .inruby) (at + w .from) (now rs) (now out)) ⌝ }
-    ensures { λ _. ⌜ now (out .exit) ≡ rubyStarts w em at (now (runs .entry)) (now (rs .entry)) ⌝ }
-{
-    let each = w.runs;
-    if each {
-        put_runs(em, at, runs, rs, out);
-        return;
-    }
-    spread::put_starts(rs, at + w.from, w.inruby, out);
 }

@@ -1,22 +1,19 @@
--- The class by its entry, then the width, then the flag. Each is its part of the row.
-use mathlib.Core.Path.{_≡_, sym, ap, _∙_}
+-- The class by the set of those accepted, then the width, then the flag. Each is its part of the row.
+use mathlib.Core.Path.{_≡_, sym, _∙_}
 use mathlib.Core.Bool.{true, false}
-use Rattle.class.specs.declared.Row.{Row}
-use Rattle.class.specs.Class.{rowOf, accepted}
+use Rattle.class.specs.Class.{accepted}
 use borrow.Author.Needs.{needs}
 use Rattle.door.proofs.character_wrong.Statement.{statement}
 use Rattle.door.proofs.character_wrong.Tie as tie
 
 class-ok : (c : tie.Then1) → accepted (c .before .before .args .class) ≡ true
-unfolding rowOf
-class-ok c = sym (ap (λ (r : Row). r .accepted) (c .before .row-of .ensures)) ∙ c .if1 .taken
+class-ok c = sym (c .before .is-accepted .ensures) ∙ c .if1 .taken
 
 class-out : (c : tie.Else1) → accepted (c .before .before .args .class) ≡ false
-unfolding rowOf
-class-out c = sym (ap (λ (r : Row). r .accepted) (c .before .row-of .ensures)) ∙ c .if1 .left
+class-out c = sym (c .before .is-accepted .ensures) ∙ c .if1 .left
 
-row-of-requires : tie.Need-row-of-requires
-row-of-requires c κs = search needs
+is-accepted-requires : tie.Need-is-accepted-requires
+is-accepted-requires c κs = search needs
 
 is-outside-requires : tie.Need-is-outside-requires
 is-outside-requires c κs = search needs
@@ -32,4 +29,4 @@ returns-3 c = rw (class-out c)
 
 pub character-wrong-spec : {M : Type 1} → statement M
 character-wrong-spec =
-    tie.close (tie.spec row-of-requires is-outside-requires returns returns-2 returns-3)
+    tie.close (tie.spec is-accepted-requires is-outside-requires returns returns-2 returns-3)

@@ -62,6 +62,9 @@ loop-again c = (
   omega (arith, ap sum (entries-next (c .before .before .before .before .before .args .runs .now) (c .before .before .before .before .before .args .u) (c .before .before .before .before .before .args .n) (c .before .before .before .loop .j) (c .before .before .loop-test .taken)), c .before .run-at .ensures, c .before .before .before .loop .inv .3),
 )
 
+cast-if2 : tie.Need-cast-if2 Inv-loop μ-loop
+cast-if2 c = search needs
+
 returns-2 : tie.Need-returns-2 Inv-loop μ-loop
 unfolding runsFrom
 returns-2 c = rw (none (c .before), all (c .before), lt-ltb 64 _ (c .if2 .taken))
@@ -85,5 +88,6 @@ runs-from-spec =
     add-j
     loop-less
     loop-again
+    cast-if2
     returns-2
     returns-3)

@@ -1,49 +1,60 @@
--- The door's verdict, the lines found, what is told: three cases, each by its law in `Outcome`. Where the door or the filling refuses, no list has been lent to anything yet.
-use mathlib.Core.Path.{_≡_, refl, sym, _∙_, subst}
+-- What was found, by its two cases: the first refusal of all, where no list has been lent to anything yet, or a table and lines, whose account is told.
+use mathlib.Core.Path.{_≡_, subst}
+use mathlib.Core.List.{List}
+use Prim.Native.Nat.{ℕ}
 use borrow.Author.Needs.{needs}
 use Rattle.door.specs.Job.{Job, jobOf}
-use Rattle.door.specs.Refusals.{ownFaults}
-use Rattle.door.specs.Verdict.{verdict}
-use Rattle.door.specs.declared.Checked.the-variants.{Passed}
-use Rattle.fill.specs.declared.Lines.{Lines}
-use Rattle.fill.specs.Lines.{FillsTo}
+use Rattle.filling.specs.declared.Lines.{Lines}
+use Rattle.engine.specs.Filled.{Fills}
 use Rattle.job_account.specs.Outcome as outcome
 use Rattle.job_account.proofs.account_job.Statement.{statement}
 use Rattle.job_account.proofs.account_job.Tie as tie
 
 abbrev job : tie.Start → Job
 job a =
-    jobOf (a .args .em) (a .args .measure) (a .args .class .now) (a .args .width .now) (a .args .before .now) (a .args .after .now) (a .args .flag .now) (a .args .rclass .now) (a .args .rwidth .now) (a .args .kind .now) (a .args .ebase .now) (a .args .eruby .now) (a .args .runs .now)
+    let x = a .args in
+    jobOf (x .em) (x .measure) (x .class .now) (x .width .now) (x .before .now) (x .after .now) (x .flag .now) (x .rclass .now) (x .rwidth .now) (x .kind .now) (x .ebase .now)
+    (x .eruby .now) (x .runs .now)
 
-passes : (c : tie.After-enum-told) → verdict (ownFaults (job (c .before .before .before .before .before .before .before .before .before .before .before .before .before .before .before .before .before .before)) 1024 2048 (c .before .before .before .room-of .result)) ≡ Passed
-passes c = sym (c .before .before .check-job .ensures) ∙ c .enum-told .given .1
+abbrev start : tie.After-fill-job → tie.Start
+start c = c .before .before .before .before .before .before .before .before .before .before .before .before .before .before .before .before .before .before .before
 
-filled : (c : tie.After-fill-lines) {a : Lines} → c .fill-lines .result ≡ a → FillsTo (job (c .before .before .before .before .before .before .before .before .before .before .before .before .before .before .before .before .before .before .before .before)) (c .fill-lines .last .0) a
-filled c e = subst (FillsTo (job (c .before .before .before .before .before .before .before .before .before .before .before .before .before .before .before .before .before .before .before .before)) (c .fill-lines .last .0)) e (c .fill-lines .ensures)
+-- for how many base characters the lists have room
+abbrev room : tie.After-fill-job → ℕ
+room c = c .before .before .before .before .room-of .result
+
+-- the table, and the ends and extents of its lines
+abbrev table : tie.After-fill-job → List ℕ
+table c = c .fill-job .last .0
+
+abbrev ends : tie.After-fill-job → List ℕ
+ends c = c .fill-job .last .1 .0
+
+abbrev extents : tie.After-fill-job → List ℕ
+extents c = c .fill-job .last .1 .1 .0
+
+-- what was found
+told : (c : tie.After-fill-job) {r : Lines} → c .fill-job .result ≡ r →
+    (was : List ℕ) × Fills (job (start c)) 1024 2048 (room c) was (table c) (ends c) (extents c) r
+told c e = (_, subst (Fills (job (start c)) 1024 2048 (room c) _ (table c) (ends c) (extents c)) e (c .fill-job .ensures))
 
 room-of-requires : tie.Need-room-of-requires
 room-of-requires c κs = search needs
 
-check-job-requires : tie.Need-check-job-requires
-check-job-requires c κs = search needs
+slice-aggregate-fill-job : tie.Need-slice-aggregate-fill-job
+slice-aggregate-fill-job c = search needs
+
+slice-aggregate-fill-job-2 : tie.Need-slice-aggregate-fill-job-2
+slice-aggregate-fill-job-2 c = search needs
+
+slice-aggregate-fill-job-3 : tie.Need-slice-aggregate-fill-job-3
+slice-aggregate-fill-job-3 c = search needs
+
+fill-job-requires : tie.Need-fill-job-requires
+fill-job-requires c κs = search needs
 
 enum-known-why : tie.Need-enum-known-why
 enum-known-why c = search needs
-
-returns : tie.Need-returns
-returns c = outcome.door-refuses (job (c .before .before .before .before .before .before .before .before .before .before .before .before .before .before .before .before .before .before .before)) (c .before .before .before .before .before .before .before .before .before .before .before .before .before .before .before .before .before .before .before .args .rows .now) (c .before .before .before .before .before .before .before .before .before .before .before .before .before .before .before .before .before .before .before .args .told .now) (c .before .before .before .before .before .before .before .before .before .before .before .before .before .before .before .before .before .before .before .args .extents .now) (c .before .before .before .before .room-of .result) (c .before .before .before .before .room-of .ensures) (sym (c .before .before .before .check-job .ensures) ∙ c .before .why .given .1)
-
-enum-told : tie.Need-enum-told
-enum-told c = search needs
-
-slice-aggregate-fill-lines : tie.Need-slice-aggregate-fill-lines
-slice-aggregate-fill-lines c = search needs
-
-fill-lines-requires : tie.Need-fill-lines-requires
-fill-lines-requires c κs = (outcome.goes-on (job (c .before .before .before .before .before .before .before .before .before .before .before .before .before .before .before .before .before .before .before)) (c .before .before .before .before .before .before .before .before .before .before .before .before .before .before .before .before .before .before .before .args .rows .now) (c .before .before .before .before .before .before .before .before .before .before .before .before .before .before .before .before .before .before .before .args .told .now) (c .before .before .before .before .before .before .before .before .before .before .before .before .before .before .before .before .before .before .before .args .extents .now) (c .before .before .before .before .room-of .result) (c .before .before .before .before .room-of .ensures) (passes (c .before)), refl)
-
-enum-known-why-2 : tie.Need-enum-known-why-2
-enum-known-why-2 c = search needs
 
 enum-known-n : tie.Need-enum-known-n
 enum-known-n c = search needs
@@ -51,11 +62,35 @@ enum-known-n c = search needs
 slice-aggregate-tell-lines : tie.Need-slice-aggregate-tell-lines
 slice-aggregate-tell-lines c = search needs
 
-tell-lines-requires : tie.Need-tell-lines-requires
-tell-lines-requires c κs = outcome.ready (job (c .before .before .before .before .before .before .before .before .before .before .before .before .before .before .before .before .before .before .before .before .before .before .before .before .before .before .before .before)) (c .before .before .before .before .before .before .before .before .before .before .before .before .before .before .before .before .before .before .before .before .before .before .before .before .before .before .before .before .args .rows .now) (c .before .before .before .before .before .before .before .before .before .before .before .before .before .before .before .before .before .before .before .before .before .before .before .before .before .before .before .before .args .told .now) (c .before .before .before .before .before .before .before .before .before .before .before .before .before .before .before .before .before .before .before .before .before .before .before .before .before .before .before .before .args .extents .now) (c .before .before .before .before .before .before .before .before .before .before .before .before .before .room-of .result) (c .before .before .before .before .before .before .before .before .before .before .before .before .before .room-of .ensures) (passes (c .before .before .before .before .before .before .before .before .before .before)) _ _ (filled (c .before .before .before .before .before .before .before .before) (c .before .before .before .before .before .n .given .1))
+slice-aggregate-tell-lines-2 : tie.Need-slice-aggregate-tell-lines-2
+slice-aggregate-tell-lines-2 c = search needs
 
-returns-2 : tie.Need-returns-2
-returns-2 c = outcome.line-refuses (job (c .before .before .before .before .before .before .before .before .before .before .before .before .before .before .before .before .before .before .before .before .before .before .before .before)) (c .before .before .before .before .before .before .before .before .before .before .before .before .before .before .before .before .before .before .before .before .before .before .before .before .args .rows .now) (c .before .before .before .before .before .before .before .before .before .before .before .before .before .before .before .before .before .before .before .before .before .before .before .before .args .told .now) (c .before .before .before .before .before .before .before .before .before .before .before .before .before .before .before .before .before .before .before .before .before .before .before .before .args .extents .now) (c .before .before .before .before .before .before .before .before .before .room-of .result) (c .before .before .before .before .before .before .before .before .before .room-of .ensures) (passes (c .before .before .before .before .before .before)) (filled (c .before .before .before .before) (c .before .why2 .given .1))
+tell-lines-requires : tie.Need-tell-lines-requires
+tell-lines-requires c κs =
+    let n = c .before .before .before .before .before in
+    let f = n .before .before .before .before .before in
+    let x = start f .args in
+    let w = told f (n .n .given .1) in
+    outcome.ready (job (start f)) (x .rows .now) (x .told .now) (x .extents .now) (room f) (f .before .before .before .before .room-of .ensures) (w .0)
+    (table f) (ends f) (extents f) (n .n .given .0 .0) (w .1)
+
+slice-aggregate-put-extents : tie.Need-slice-aggregate-put-extents
+slice-aggregate-put-extents c = search needs
+
+put-extents-requires : tie.Need-put-extents-requires
+put-extents-requires c κs =
+    let n = c .before .before .before .before .before .before .before .before .before .before .before .before in
+    let f = n .before .before .before .before .before in
+    let x = start f .args in
+    let w = told f (n .n .given .1) in
+    outcome.room-extents (job (start f)) (x .rows .now) (x .told .now) (x .extents .now) (room f) (f .before .before .before .before .room-of .ensures) (w .0)
+    (table f) (ends f) (extents f) (n .n .given .0 .0) (w .1)
+
+returns : tie.Need-returns
+returns c =
+    let f = c .before .before .before .before .before .before in
+    let x = start f .args in
+    outcome.refused (job (start f)) (x .rows .now) (x .told .now) (x .extents .now) (room f) (f .before .before .before .before .room-of .ensures) (told f (c .before .why .given .1) .1)
 
 same-length : tie.Need-same-length
 same-length c = search needs
@@ -66,26 +101,35 @@ same-length-2 c = search needs
 same-length-3 : tie.Need-same-length-3
 same-length-3 c = search needs
 
-returns-3 : tie.Need-returns-3
-returns-3 c = outcome.tells (job (c .before .before .before .before .before .before .before .before .before .before .before .before .before .before .before .before .before .before .before .before .before .before .before .before .before .before .before .before .before .before .before .before .before .before .before)) (c .before .before .before .before .before .before .before .before .before .before .before .before .before .before .before .before .before .before .before .before .before .before .before .before .before .before .before .before .before .before .before .before .before .before .before .args .rows .now) (c .before .before .before .before .before .before .before .before .before .before .before .before .before .before .before .before .before .before .before .before .before .before .before .before .before .before .before .before .before .before .before .before .before .before .before .args .told .now) (c .before .before .before .before .before .before .before .before .before .before .before .before .before .before .before .before .before .before .before .before .before .before .before .before .before .before .before .before .before .before .before .before .before .before .before .args .extents .now) (c .before .before .before .before .before .before .before .before .before .before .before .before .before .before .before .before .before .before .before .before .room-of .result) (c .before .before .before .before .before .before .before .before .before .before .before .before .before .before .before .before .before .before .before .before .room-of .ensures) (passes (c .before .before .before .before .before .before .before .before .before .before .before .before .before .before .before .before .before)) (filled (c .before .before .before .before .before .before .before .before .before .before .before .before .before .before .before) (c .before .before .before .before .before .before .before .before .before .before .before .before .n .given .1)) (c .before .before .before .before .before .before .tell-lines .ensures)
+returns-2 : tie.Need-returns-2
+returns-2 c =
+    let p = c .before .before in
+    let q = p .before .before .before .before .before .before .before in
+    let n = q .before .before .before .before .before .before in
+    let f = n .before .before .before .before .before in
+    let x = start f .args in
+    let w = told f (n .n .given .1) in
+    outcome.tells (job (start f)) (x .rows .now) (x .told .now) (x .extents .now) (room f) (f .before .before .before .before .room-of .ensures) (w .0)
+    (table f) (ends f) (extents f) (n .n .given .0 .0) (w .1) _ _ _ (q .tell-lines .ensures) (p .put-extents .ensures)
 
 pub account-job-spec : {M : Type 1} → statement M
 account-job-spec =
     tie.close
     (tie.spec
     room-of-requires
-    check-job-requires
+    slice-aggregate-fill-job
+    slice-aggregate-fill-job-2
+    slice-aggregate-fill-job-3
+    fill-job-requires
     enum-known-why
-    returns
-    enum-told
-    slice-aggregate-fill-lines
-    fill-lines-requires
-    enum-known-why-2
     enum-known-n
     slice-aggregate-tell-lines
+    slice-aggregate-tell-lines-2
     tell-lines-requires
-    returns-2
+    slice-aggregate-put-extents
+    put-extents-requires
+    returns
     same-length
     same-length-2
     same-length-3
-    returns-3)
+    returns-2)

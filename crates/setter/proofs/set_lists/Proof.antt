@@ -1,29 +1,61 @@
 -- The entry point's answer decides which text is written. A refusal's is the text of the refusal that the list gives; an accepted job can be printed, and what is printed are its own positions.
-use Rattle.door.specs.Job.{jobOf}
-use Rattle.result.specs.Short.{refusal-short}
-use Rattle.result.specs.Accepted.{set-ready}
-use Rattle.setter.specs.Tell.{told-refused, told-set}
+use Rattle.door.specs.Job.{Job, jobOf}
 use borrow.Author.Needs.{needs}
 use native.Mathlib.Omega.{arith}
+use Rattle.result.specs.Short.{refusal-short}
+use Rattle.setter.specs.Tell.{told-refused, told-set}
+use Rattle.setter.specs.Printed.{ready, printed}
 use Rattle.setter.proofs.set_lists.Statement.{statement}
 use Rattle.setter.proofs.set_lists.Tie as tie
 
-set-job-requires : tie.Need-set-job-requires
-set-job-requires c κs = search needs
+abbrev job : tie.Start → Job
+job a =
+    let x = a .args in
+    jobOf (x .em) (x .measure) (x .class .now) (x .width .now) (x .before .now) (x .after .now) (x .flag .now) (x .rclass .now) (x .rwidth .now) (x .kind .now) (x .ebase .now) (x .eruby .now) (x .runs .now)
+
+abbrev start : tie.After-set-table → tie.Start
+start c = c .before .before .before .before .before .before .before .before .before .before .before .before .before .before .before .before .before .before .before .before .before .before
+
+slice-aggregate-set-table : tie.Need-slice-aggregate-set-table
+slice-aggregate-set-table c = search needs
+
+slice-aggregate-set-table-2 : tie.Need-slice-aggregate-set-table-2
+slice-aggregate-set-table-2 c = search needs
+
+slice-aggregate-set-table-3 : tie.Need-slice-aggregate-set-table-3
+slice-aggregate-set-table-3 c = search needs
+
+set-table-requires : tie.Need-set-table-requires
+set-table-requires c κs = search needs
 
 enum-known-why : tie.Need-enum-known-why
 enum-known-why c = search needs
 
 write-refusal-requires : tie.Need-write-refusal-requires
-write-refusal-requires c κs = omega (arith, refusal-short (c .before .before .why .given .0 .0), c .before .before .before .before .before .before .before .before .before .before .before .before .before .before .before .before .before .before .before .before .before .before .before .before .before .before .before .before .before .pre)
+write-refusal-requires c κs =
+    let w = c .before .before in
+    let f = w .before .before .before .before .before .before .before .before .before .before .before in
+    omega (arith, refusal-short (w .why .given .0 .0), start f .pre)
 
 enum-known-n : tie.Need-enum-known-n
 enum-known-n c = search needs
 
+slice-aggregate-write-result : tie.Need-slice-aggregate-write-result
+slice-aggregate-write-result c = search needs
+
+slice-aggregate-write-result-2 : tie.Need-slice-aggregate-write-result-2
+slice-aggregate-write-result-2 c = search needs
+
+slice-aggregate-write-result-3 : tie.Need-slice-aggregate-write-result-3
+slice-aggregate-write-result-3 c = search needs
+
 write-result-requires : tie.Need-write-result-requires
 write-result-requires c κs =
-    let a = c .before .before .before .before .before .before .before .before .before .before .before .before .before .before .before .before .before .before .before .before .before .before .before .before .before .before .before .before .before .before .before .before .args in
-    set-ready (jobOf (a .em) (a .measure) (a .class .now) (a .width .now) (a .before .now) (a .after .now) (a .flag .now) (a .rclass .now) (a .rwidth .now) (a .kind .now) (a .ebase .now) (a .eruby .now) (a .runs .now)) (a .base .now) (a .ruby .now) (a .lines .now) _ (c .before .before .before .before .before .before .before .before .before .before .before .before .before .set-job .ensures) (c .before .before .before .before .before .n .given .1) (c .before .before .before .before .before .before .before .before .before .before .before .before .before .before .before .before .before .before .before .before .before .before .before .before .before .before .before .before .before .before .before .before .pre)
+    let n = c .before .before .before .before .before .before .before in
+    let f = n .before .before .before .before .before .before .before .before .before .before .before in
+    let x = start f .args in
+    ready (job (start f)) (x .base .now) (x .ruby .now) (x .lines .now) _ (f .set-table .last .0) (f .set-table .last .1 .0) (f .set-table .last .1 .1 .0) _ (f .set-table .ensures .0) (f .set-table .ensures .1)
+    (n .n .given .1) (start f .pre)
 
 same-length : tie.Need-same-length
 same-length c = search needs
@@ -38,7 +70,10 @@ same-length-4 : tie.Need-same-length-4
 same-length-4 c = search needs
 
 returns : tie.Need-returns
-returns c = told-refused (c .before .before .before .before .before .before .before .before .before .before .before .before .before .set-job .ensures) (c .before .before .before .before .before .why .given .1) (c .before .before .write-refusal .ensures)
+returns c =
+    let w = c .before .before .before .before .before in
+    let f = w .before .before .before .before .before .before .before .before .before .before .before in
+    told-refused (f .set-table .ensures .0) (w .why .given .1) (c .before .before .write-refusal .ensures)
 
 same-length-5 : tie.Need-same-length-5
 same-length-5 c = search needs
@@ -53,16 +88,28 @@ same-length-8 : tie.Need-same-length-8
 same-length-8 c = search needs
 
 returns-2 : tie.Need-returns-2
-returns-2 c = told-set (c .before .before .before .before .before .before .before .before .before .before .before .before .before .before .before .before .set-job .ensures) (c .before .before .before .before .before .before .before .before .n .given .1) (c .before .before .write-result .ensures)
+returns-2 c =
+    let n = c .before .before .before .before .before .before .before .before .before .before in
+    let f = n .before .before .before .before .before .before .before .before .before .before .before in
+    let x = start f .args in
+    told-set (f .set-table .ensures .0) (n .n .given .1)
+    (printed (job (start f)) (x .base .now) (x .ruby .now) (x .lines .now) _ (f .set-table .last .0) (f .set-table .last .1 .0) (f .set-table .last .1 .1 .0) _ (f .set-table .ensures .0) (f .set-table .ensures .1)
+    (n .n .given .1) (c .before .before .write-result .ensures))
 
 pub set-lists-spec : {M : Type 1} → statement M
 set-lists-spec =
     tie.close
     (tie.spec
-    set-job-requires
+    slice-aggregate-set-table
+    slice-aggregate-set-table-2
+    slice-aggregate-set-table-3
+    set-table-requires
     enum-known-why
     write-refusal-requires
     enum-known-n
+    slice-aggregate-write-result
+    slice-aggregate-write-result-2
+    slice-aggregate-write-result-3
     write-result-requires
     same-length
     same-length-2

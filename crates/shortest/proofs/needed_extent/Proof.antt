@@ -1,88 +1,60 @@
--- From element to element the walk knows the line's state and the least extent at a permitted break up to there (`Stands`). Behind the last element that is the least over all of them, which is what is needed.
-use mathlib.Core.Path.{_≡_, _∙_}
-use Prim.Native.Nat.{_-_, _<_}
-use Rattle.door.specs.Job.{Job, jobOf, baseCount, elementCount, element}
-use Rattle.fill.specs.Search.{same-element}
-use Rattle.shortest.specs.Pass as pass
-use borrow.Author.Needs.{needs}
+-- What is known at each piece, `Passes`, goes on from one to the next. Behind the last piece all breaks of the line have been tried.
+use mathlib.Core.Path.{ap}
+use Prim.Native.Nat.{_+_, _-_, _<_, _≤_}
 use native.Mathlib.Omega.{arith}
+use Rattle.shortest.specs.Pass.{Passes, Stands, row, held, goes, passes-first, passes-end, passes-next, stands}
 use Rattle.shortest.proofs.needed_extent.Statement.{statement}
 use Rattle.shortest.proofs.needed_extent.Tie as tie
 
 abbrev Inv-loop : tie.InvT-loop
-Inv-loop s em measure class width before after flag rclass rwidth kind ebase eruby runs elements bases sofar₀ k₀ b₀ r₀ u₀ sofar k b r u =
-    pass.Stands (jobOf em measure class width before after flag rclass rwidth kind ebase eruby runs) s k b r u sofar
+Inv-loop t n s em st₀ i₀ least₀ st i least = Passes em t n s i st least
 
 abbrev μ-loop : tie.MeasureT-loop
-μ-loop s em measure class width before after flag rclass rwidth kind ebase eruby runs elements bases sofar₀ k₀ b₀ r₀ u₀ sofar k b r u =
-    elements - k
+μ-loop t n s em st₀ i₀ least₀ st i least = n - i
 
--- the function's entry
-abbrev start : tie.After-shared-slice-known11 Inv-loop μ-loop → tie.Start Inv-loop μ-loop
-start c = c .before .before .before .before .before .before .before .before .before .before .before
+here : (c : tie.In-loop Inv-loop μ-loop) → let l = c .before in let a = l .before .before .args in Stands (a .em) (a .t .now) (a .n) (l .loop .i) (l .loop .st)
+here c = stands (c .before .loop .inv) (c .loop-test .taken)
 
-abbrev job : tie.Start Inv-loop μ-loop → Job
-job a =
-    jobOf (a .args .em) (a .args .measure) (a .args .class .now) (a .args .width .now) (a .args .before .now) (a .args .after .now) (a .args .flag .now) (a .args .rclass .now) (a .args .rwidth .now) (a .args .kind .now) (a .args .ebase .now) (a .args .eruby .now) (a .args .runs .now)
-
--- both counts are the job's
-elements-are : (c : tie.After-element-count Inv-loop μ-loop) → c .element-count .result ≡ elementCount (job (start (c .before)))
-unfolding elementCount
-elements-are c = c .element-count .ensures
-
-bases-are : (c : tie.After-base-count Inv-loop μ-loop) → c .base-count .result ≡ baseCount (job (start (c .before .before)))
-unfolding baseCount
-bases-are c = c .base-count .ensures
-
--- there is an element
-more : (c : tie.In-loop Inv-loop μ-loop) → c .before .loop .k < elementCount (job (start (c .before .before .before .before)))
-more c = omega (arith, c .loop-test .taken, elements-are (c .before .before .before))
-
--- the element that is read is the job's
-the : (c : tie.After-element-at Inv-loop μ-loop) → c .element-at .result ≡ element (job (start (c .before .before .before .before .before))) (c .before .before .loop .k) (c .before .before .loop .b) (c .before .before .loop .r) (c .before .before .loop .u)
-the c = c .element-at .ensures ∙ same-element (job (start (c .before .before .before .before .before))) (c .before .before .loop .k) (c .before .before .loop .b) (c .before .before .loop .r) (c .before .before .loop .u)
-
-faces : (c : tie.After-element-at Inv-loop μ-loop) →
-    let l = c .before .before .loop in
-    let a = start (c .before .before .before .before .before) in
-    pass.Faces (job a) (a .args .s) (l .k) (c .element-at .result) (l .sofar)
-faces c = rw (the c) (pass.faces (more (c .before)) (c .before .before .loop .inv))
-
-element-count-requires : tie.Need-element-count-requires Inv-loop μ-loop
-element-count-requires c κs = search needs
-
-base-count-requires : tie.Need-base-count-requires Inv-loop μ-loop
-base-count-requires c κs = search needs
+-- the row's own numbers
+bases : (c : tie.After-cell-at Inv-loop μ-loop) →
+    let l = c .before .before in
+    let a = l .before .before .args in
+    (0 < c .cell-at .result .bases) × (l .loop .i + c .cell-at .result .bases ≤ a .n) × (a .n ≤ 1024)
+bases c = let r = row (here (c .before)) in rw (c .cell-at .ensures) (r .some, r .inside, c .before .before .loop .inv .sound .few)
 
 loop-holds : tie.Need-loop-holds Inv-loop μ-loop
-loop-holds c = pass.stands-first (start (c .before .before) .pre)
+loop-holds c = let a = c .before in passes-first (a .pre .0) (a .pre .1)
 
-element-at-requires : tie.Need-element-at-requires Inv-loop μ-loop
-element-at-requires c κs = pass.counts (more c) (c .before .loop .inv)
+cell-at-requires : tie.Need-cell-at-requires Inv-loop μ-loop
+cell-at-requires c κs = held (here c)
 
-pass-element-requires : tie.Need-pass-element-requires Inv-loop μ-loop
-pass-element-requires c κs = (faces c, bases-are (c .before .before .before))
+cast-c : tie.Need-cast-c Inv-loop μ-loop
+cast-c c = omega (arith, bases (c .before))
 
-add-b : tie.Need-add-b Inv-loop μ-loop
-add-b c = omega (arith, pass.smalls (faces (c .before .before)) .0)
+add-c : tie.Need-add-c Inv-loop μ-loop
+add-c c = omega (arith, bases (c .before))
 
-add-r : tie.Need-add-r Inv-loop μ-loop
-add-r c = omega (arith, pass.smalls (faces (c .before .before .before)) .1)
+advance-requires : tie.Need-advance-requires Inv-loop μ-loop
+advance-requires c κs =
+    let x = c .before in
+    goes (here (x .before)) (x .before .before .loop .i + x .cell-at .result .bases) (omega (arith, bases x .0)) (omega (arith, ap (λ z. z .bases) (x .cell-at .ensures)))
 
-runs-end-requires : tie.Need-runs-end-requires Inv-loop μ-loop
-runs-end-requires c κs = omega (arith, pass.smalls (faces (c .before .before .before)) .2)
-
-add-k : tie.Need-add-k Inv-loop μ-loop
-add-k c = omega (arith, c .before .before .before .before .before .loop-test .taken)
+least-behind-requires : tie.Need-least-behind-requires Inv-loop μ-loop
+least-behind-requires c κs = here (c .before .before .before)
 
 loop-less : tie.Need-loop-less Inv-loop μ-loop
-loop-less c = omega (arith, c .before .before .before .before .before .loop-test .taken)
+loop-less c =
+    let x = c .before .before .before .before in
+    omega (arith, bases x, x .before .loop-test .taken)
 
 loop-again : tie.Need-loop-again Inv-loop μ-loop
-loop-again c = rw (c .runs-end .ensures, c .before .before .before .pass-element .ensures) (pass.stands-next (faces (c .before .before .before .before)))
+loop-again c =
+    let b = c .before in
+    let x = b .before .before .before in
+    rw (b .least-behind .ensures, b .before .advance .ensures, x .cell-at .ensures) (passes-next (x .before .before .loop .inv) (x .before .loop-test .taken))
 
 returns : tie.Need-returns Inv-loop μ-loop
-returns c = pass.stands-end (omega (arith, c .loop-test .left, elements-are (c .before .before .before))) (c .before .loop .inv)
+returns c = let l = c .before in passes-end (l .loop .inv) (l .before .before .pre .1) (c .loop-test .left)
 
 pub needed-extent-spec : {M : Type 1} → statement M
 needed-extent-spec =
@@ -90,15 +62,12 @@ needed-extent-spec =
     (tie.spec
     Inv-loop
     μ-loop
-    element-count-requires
-    base-count-requires
     loop-holds
-    element-at-requires
-    pass-element-requires
-    add-b
-    add-r
-    runs-end-requires
-    add-k
+    cell-at-requires
+    cast-c
+    add-c
+    advance-requires
+    least-behind-requires
     loop-less
     loop-again
     returns)

@@ -13,8 +13,8 @@ enum-told c = search needs
 sum-of-requires : tie.Need-sum-of-requires
 sum-of-requires c κs = search needs
 
-plain-of-requires : tie.Need-plain-of-requires
-plain-of-requires c κs = search needs
+plain-answer-requires : tie.Need-plain-answer-requires
+plain-answer-requires c κs = search needs
 
 enum-told-2 : tie.Need-enum-told-2
 enum-told-2 c = search needs
@@ -36,7 +36,7 @@ jukugo-answer-requires c κs = (small _ _ _ _ (rw (c .enum-told4 .given .1)) (c 
 
 returns : tie.Need-returns
 unfolding answer wordOf
-returns c = rw (c .before .before .enum-told .given .1, c .plain-of .ensures, c .before .sum-of .ensures)
+returns c = rw (c .before .before .enum-told .given .1, c .plain-answer .ensures, c .before .sum-of .ensures)
 
 returns-2 : tie.Need-returns-2
 unfolding answer wordOf
@@ -56,7 +56,7 @@ measure-spec =
     (tie.spec
     enum-told
     sum-of-requires
-    plain-of-requires
+    plain-answer-requires
     enum-told-2
     mono-answer-requires
     enum-told-3

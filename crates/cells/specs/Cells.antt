@@ -1,0 +1,178 @@
+-- Rows, and a line by rows: it begins at a base character s with what the row says of its element from here on, goes on at the next element, and ends at c, where
+-- that cuts a J with the part of it up to c.
+use mathlib.Core.Path.{_≡_}
+use mathlib.Core.Bool.{Bool, true, false, cond, _&&_, _||_}
+use mathlib.Core.List.{List, [], _∷_}
+use Prim.Native.Nat.{ℕ, zero, suc, _+_, _-_, _*_, _≤_, _<_, min}
+use lib.Dec.{eqb, leb, ltb}
+use lib.ListN.{length, getD}
+use Rattle.spread.specs.declared.Way.{Way}
+use Rattle.spread.specs.declared.Way.the-variants.{Solid, Spread, Limited}
+use Rattle.spread.specs.Gap.{gap, inner}
+use Rattle.word.specs.declared.Word.{Word}
+use Rattle.line.specs.declared.Element.{Element}
+use Rattle.line.specs.declared.State.{State}
+use Rattle.line.specs.Setting.{start, put, origin, furthest, total}
+use Rattle.cells.specs.declared.Cell.{Cell}
+use Rattle.cells.specs.declared.Step.{Step}
+
+-- row i
+abbrev pub cellAt : List ℕ → ℕ → Cell
+cellAt t i =
+    let at = 19 * i in
+    record {
+      bases = getD t at 0;
+      cut = eqb (getD t (at + 1) 0) 1;
+      ends = eqb (getD t (at + 2) 0) 1;
+      word =
+          record {
+            front = getD t (at + 3) 0;
+            len = getD t (at + 4) 0;
+            ruby = eqb (getD t (at + 5) 0) 1;
+            from = getD t (at + 6) 0;
+            upto = getD t (at + 7) 0;
+            inbase = getD t (at + 8) 0;
+            inruby = getD t (at + 9) 0;
+            runs = eqb (getD t (at + 10) 0) 1;
+          };
+      before = getD t (at + 11) 0;
+      after = getD t (at + 12) 0;
+      ruby = getD t (at + 13) 0;
+      rubies = getD t (at + 14) 0;
+      own = getD t (at + 15) 0;
+      wide = getD t (at + 16) 0;
+      over = getD t (at + 17) 0;
+      western = eqb (getD t (at + 18) 0) 1;
+    }
+
+-- a word of b units in n base characters under r units in m ruby characters, by the way of each string where it is the shorter
+unfoldable pub byNumbers : Way → Way → ℕ → ℕ → ℕ → ℕ → ℕ → Word
+byNumbers ruby base em b n r m =
+    let g = gap ruby em (b - r) m in
+    let h = gap base em (r - b) n in
+    cond (leb r b)
+    (record { front = 0; len = 2 * b; ruby = true; from = g; upto = g + 2 * r + inner (b - r) g; inbase = 0; inruby = inner (b - r) g; runs = false })
+    (record { front = h; len = 2 * b + inner (r - b) h; ruby = true; from = 0; upto = 2 * r; inbase = inner (r - b) h; inruby = 0; runs = false })
+
+-- each run over its own character of one em
+unfoldable pub eachOver : ℕ → ℕ → ℕ → ℕ → Word
+eachOver em b first last = record { front = 0; len = 2 * b; ruby = true; from = em - first; upto = 2 * b - (em - last); inbase = 0; inruby = 0; runs = true }
+
+abbrev pub rubyWay : Bool → Way
+rubyWay western = cond western Solid Limited
+
+-- n base characters of a J, each one em wide, with m ruby characters of r units: "a part of one character is set as M, a part of more as J"
+unfoldable pub partBy : ℕ → ℕ → ℕ → ℕ → Bool → ℕ → ℕ → Bool → Word
+unfolding byNumbers eachOver
+partBy em n r m same first last western =
+    cond (eqb n 1) (byNumbers Solid Solid em (em * n) n r m)
+    (cond same (eachOver em (em * n) first last)
+    (byNumbers (rubyWay western) Spread em (em * n) n r m))
+
+-- how many runs of its J up to and with its own are longer than one em
+abbrev pub overWith : ℕ → Cell → ℕ
+overWith em z = z .over + cond (ltb em (z .own)) 1 0
+
+-- the base characters i up to c of a J, by the rows of the first and the last of them
+unfoldable pub part : ℕ → List ℕ → ℕ → ℕ → Word
+unfolding partBy
+part em t i c =
+    let a = cellAt t i in
+    let z = cellAt t (c - 1) in
+    partBy em (c - i) (z .wide + z .own - a .wide) (z .ruby + z .rubies - a .ruby) (eqb (a .over) (overWith em z)) (a .own) (z .own) (a .western)
+
+-- the word of the piece from i up to c, its element's end or a break within it: no other element than a J is ever cut
+unfoldable pub wordAt : ℕ → List ℕ → ℕ → ℕ → Word
+unfolding part
+wordAt em t i c = cond (cellAt t i .cut) (part em t i c) (cellAt t i .word)
+
+-- a word as a line sees it
+abbrev pub elementOf : Word → ℕ → ℕ → Element
+elementOf w before after = record { front = w .front; len = w .len; ruby = w .ruby; from = w .from; upto = w .upto; before = before; after = after }
+
+abbrev pub piece : ℕ → List ℕ → ℕ → ℕ → Element
+piece em t i c = elementOf (wordAt em t i c) (cellAt t i .before) (cellAt t i .after)
+
+-- one piece more
+abbrev pub next : State → Element → State
+next st e = put st e (origin st e)
+
+-- a word after the line so far
+abbrev pub stepOf : Word → ℕ → ℕ → State → Step
+stepOf w before after st = let e = elementOf w before after in record { word = w; at = origin st e; st = next st e }
+
+-- the piece from i up to c after the line so far
+abbrev pub stepAt : ℕ → List ℕ → State → ℕ → ℕ → Step
+stepAt em t st i c = stepOf (wordAt em t i c) (cellAt t i .before) (cellAt t i .after) st
+
+-- the piece from i ends with its element, or where the line does
+abbrev pub stop : List ℕ → ℕ → ℕ → ℕ
+stop t i c = min c (i + cellAt t i .bases)
+
+-- from i on up to c, at most k pieces
+unfoldable pub walk : ℕ → List ℕ → ℕ → State → ℕ → ℕ → State
+unfolding wordAt
+walk em t zero st i c = st
+walk em t (suc k) st i c = cond (ltb i c) (walk em t k (next st (piece em t i (stop t i c))) (i + cellAt t i .bases) c) st
+
+abbrev pub rest : ℕ → List ℕ → State → ℕ → ℕ → State
+rest em t st i c = walk em t (c - i) st i c
+
+-- the line from s up to c
+abbrev pub stateAt : ℕ → List ℕ → ℕ → ℕ → State
+stateAt em t s c = rest em t start s c
+
+-- a line may end before base character c of n: at the job's end, or by the row of the one before it
+abbrev pub mayEnd : List ℕ → ℕ → ℕ → Bool
+mayEnd t n c = let a = cellAt t (c - 1) in eqb c n || cond (eqb (a .bases) 1) (a .ends) (a .cut)
+
+-- the line from s up to c ends within the limit, in half units
+abbrev pub holds : ℕ → ℕ → List ℕ → ℕ → ℕ → Bool
+holds em limit t s c = leb (furthest (stateAt em t s c)) limit
+
+-- the last of the k numbers behind s that passes a test, or d
+unfoldable pub lastOf : (ℕ → Bool) → ℕ → ℕ → ℕ → ℕ
+lastOf p d s zero = d
+lastOf p d s (suc k) = cond (p (s + suc k)) (s + suc k) (lastOf p d s k)
+
+abbrev pub breaks : ℕ → ℕ → List ℕ → ℕ → ℕ → ℕ → Bool
+breaks em limit t n s c = mayEnd t n c && holds em limit t s c
+
+-- where the line from s ends, of n base characters: the furthest permitted break whose line can be set, or 0
+unfoldable pub endOf : ℕ → ℕ → List ℕ → ℕ → ℕ → ℕ
+unfolding lastOf walk
+endOf em limit t n s = lastOf (breaks em limit t n s) 0 s (n - s)
+
+-- the ends of at most k lines from s on
+unfoldable pub endsFrom : ℕ → ℕ → List ℕ → ℕ → ℕ → ℕ → List ℕ
+unfolding endOf
+endsFrom em limit t n zero s = []
+endsFrom em limit t n (suc k) s = let e = endOf em limit t n s in cond (eqb e 0) [] (e ∷ endsFrom em limit t n k e)
+
+-- the ends of all lines of a table of n rows
+unfoldable pub linesOf : ℕ → ℕ → List ℕ → ℕ → List ℕ
+unfolding endsFrom
+linesOf em limit t n = endsFrom em limit t n n 0
+
+-- What a part is measured by: the ruby from the run of one row up to and with that of another.
+
+pub record Ran (a z : Cell) : Type 0 where
+  pub more : a .ruby < z .ruby + z .rubies
+  pub narrow : z .wide + z .own ≤ 262144
+  pub few : z .over ≤ 1024
+  pub ends : z .ruby + z .rubies ≤ 4096
+
+pub record Cuts (em : ℕ) (t : List ℕ) (i c : ℕ) : Type 0 where
+  pub small : em ≤ 4096
+  pub ahead : i < c
+  pub few : c ≤ i + 32
+  pub held : 19 * c ≤ length t
+  pub ran : Ran (cellAt t i) (cellAt t (c - 1))
+
+-- What a line asks for, to be taken on by the piece from i up to c.
+pub record Advances (em : ℕ) (t : List ℕ) (st : State) (i c : ℕ) : Type 0 where
+  pub held : 19 * i + 19 ≤ length t
+  pub cuts : cellAt t i .cut ≡ true → Cuts em t i c
+  pub plain : cellAt t i .word .ruby ≡ false → cellAt t i .cut ≡ false → (cellAt t i .word .front ≡ 0) × (cellAt t i .before ≤ cellAt t i .word .len)
+  pub short : total (piece em t i c) ≤ 524288
+  pub near : furthest st ≤ 536870912

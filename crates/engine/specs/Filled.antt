@@ -1,0 +1,149 @@
+-- What the door, the layout and the filling found, one after the other: the first refusal of all, or a table that holds the job and the ends of its lines.
+use mathlib.Core.Path.{_≡_, refl, sym, ap, _∙_, subst}
+use mathlib.Core.Bool.{Bool, true, false, cond}
+use mathlib.Core.List.{List, [], _∷_, _++_, append-assoc}
+use mathlib.Core.Option.{some}
+use Prim.Native.Nat.{ℕ, _+_, _*_, _≤_, _<_}
+use native.Mathlib.Omega.{arith}
+use lib.Dec.{eqb}
+use lib.ListN.{length, getD, take, drop}
+use Rattle.basics.specs.Lists.{lastOr}
+use Rattle.refusal.specs.declared.Refusal.{Refusal}
+use Rattle.refusal.specs.declared.Refusal.the-variants.{NoBreak}
+use Rattle.door.specs.declared.Checked.the-variants as checked
+use Rattle.door.specs.Job.{Job, jobOf, baseCount, rubyCount, elementCount, elements}
+use Rattle.door.specs.Refusals.{jobFaults, charFaults, elementsFaults, leftFaults, ownFaults}
+use Rattle.door.specs.Verdict.{verdict, passed-none, append-none, front-refused, front-passed}
+use Rattle.door.specs.Passed.{Passed, limits, base-good, ruby-good}
+use Rattle.door.specs.Whole.{ahead}
+use Rattle.job.specs.declared.Answer.{Answer}
+use Rattle.job.specs.declared.Answer.the-variants as answer
+use Rattle.job.specs.Line.{ends}
+use Rattle.job.specs.Refusals.{linesFaults, fault}
+use Rattle.join.specs.Rows.{Holds}
+use Rattle.join.specs.Join.{sound, lines-join, faults-join}
+use Rattle.layout.specs.Walk.{Ready}
+use Rattle.layout.specs.Measure.{unmeasured, same-faults, measured}
+use Rattle.cells.specs.Cells.{linesOf}
+use Rattle.filling.specs.declared.Lines.{Lines}
+use Rattle.filling.specs.declared.Lines.the-variants as filling
+use Rattle.filling.specs.Lines.{over, toldOf, extentsOf}
+use Rattle.engine.specs.Fault as fault
+
+-- tables with room for the rows and the lines of a job that is not too large
+pub record Room (job : Job) (t found far : List ℕ) : Type 0 where
+  pub rows : baseCount job ≤ 1024 → 19 * baseCount job ≤ length t
+  pub ends : baseCount job ≤ 1024 → baseCount job ≤ length found
+  pub extents : baseCount job ≤ 1024 → baseCount job ≤ length far
+
+-- the job has no fault, its table is laid, and its k lines are found with their extents
+pub record Full (job : Job) (base ruby lines : ℕ) (wasFar t found far : List ℕ) (k : ℕ) : Type 0 where
+  pub own : ownFaults job base ruby lines ≡ []
+  pub passed : Passed job
+  pub holds : Holds job t
+  pub none : linesFaults job ≡ []
+  pub many : k ≡ length (ends job)
+  pub is : take k found ≡ ends job
+  pub told : far ≡ over (extentsOf (job .em) t 0 (ends job)) wasFar
+
+abbrev pub Fills : Job → ℕ → ℕ → ℕ → List ℕ → List ℕ → List ℕ → List ℕ → Lines → Type 0
+Fills job base ruby lines wasFar t found far (filling.Refused q) = fault job base ruby lines ≡ some q
+Fills job base ruby lines wasFar t found far (filling.Filled k) = Full job base ruby lines wasFar t found far k
+
+-- what a table and its lists keep of an accepted job
+abbrev pub Keeps : Job → ℕ → ℕ → ℕ → List ℕ → List ℕ → List ℕ → List ℕ → Answer → Type 0
+Keeps job base ruby lines wasFar t found far (answer.Refused q) = Unit
+Keeps job base ruby lines wasFar t found far (answer.Set n) = Full job base ruby lines wasFar t found far n
+
+-- no character's refusal depends on the runs
+pub any-runs : (job : Job) (base ruby lines : ℕ) →
+    ahead (jobOf (job .em) (job .measure) (job .class) (job .width) (job .before) (job .after) (job .flag) (job .rubyClass) (job .rubyWidth) (job .kind) (job .elementBase) (job .elementRuby) []) base ruby lines
+    ≡ ahead job base ruby lines
+unfolding jobFaults charFaults baseCount rubyCount elementCount
+any-runs job base ruby lines = refl
+
+module _ (job : Job) (base ruby lines : ℕ) where
+  abbrev rest : List Refusal
+  rest = elementsFaults job 0 (elements job) ++ leftFaults job
+
+  own-groups : ownFaults job base ruby lines ≡ ahead job base ruby lines ++ rest
+  unfolding ownFaults
+  own-groups = sym (append-assoc (jobFaults job base ruby lines) (charFaults job) rest)
+
+  -- the characters are refused
+  pub by-characters : {q : Refusal} → verdict (ahead job base ruby lines) ≡ checked.Refused q → fault job base ruby lines ≡ some q
+  by-characters e = fault.by-door job base ruby lines (ap verdict own-groups ∙ front-refused (ahead job base ruby lines) rest e)
+
+  module _ (passes : verdict (ahead job base ruby lines) ≡ checked.Passed) where
+    first : (jobFaults job base ruby lines ≡ []) × (charFaults job ≡ [])
+    first = append-none (jobFaults job base ruby lines) (charFaults job) (passed-none (ahead job base ruby lines) passes)
+
+    pub few : baseCount job ≤ 1024
+    few = limits job base ruby lines (first .0) .bases
+
+    -- what the layout asks for
+    pub ready : (t : List ℕ) → 19 * baseCount job ≤ length t → Ready (unmeasured job) t
+    unfolding baseCount rubyCount elementCount
+    ready t h =
+        let l = limits job base ruby lines (first .0) in
+        record {
+          few = l .bases;
+          fewRuby = l .rubies;
+          fewElements = l .elements;
+          some = λ i k. base-good job (first .1) i k .some;
+          narrow = λ i k. base-good job (first .1) i k .narrow;
+          narrowRuby = λ i k. ruby-good job (first .1) i k .narrow;
+          room = h;
+        }
+
+    -- an element is refused
+    pub by-elements : {q : Refusal} → verdict (elementsFaults (unmeasured job) 0 (elements (unmeasured job)) ++ leftFaults (unmeasured job)) ≡ checked.Refused q → fault job base ruby lines ≡ some q
+    by-elements e =
+        fault.by-door job base ruby lines (ap verdict own-groups ∙ front-passed (ahead job base ruby lines) rest passes ∙ ap verdict (sym (same-faults job)) ∙ e)
+
+    module _ (laid : verdict (elementsFaults (unmeasured job) 0 (elements (unmeasured job)) ++ leftFaults (unmeasured job)) ≡ checked.Passed) where
+      own-passes : verdict (ownFaults job base ruby lines) ≡ checked.Passed
+      own-passes = ap verdict own-groups ∙ front-passed (ahead job base ruby lines) rest passes ∙ ap verdict (sym (same-faults job)) ∙ laid
+
+      pub passed : Passed job
+      passed = fault.goes-on job base ruby lines own-passes
+
+      module _ (t : List ℕ) (h : Holds (unmeasured job) t) where
+        pub table : Holds job t
+        table = measured job t h
+
+        -- what the filling told
+        pub fills : (was found wasFar far : List ℕ) (a : Lines) →
+            let es = linesOf (job .em) (2 * job .measure) t (baseCount job) in
+            (a ≡ toldOf (baseCount job) es) × (found ≡ over es was) × (far ≡ over (extentsOf (job .em) t 0 es) wasFar) → Fills job base ruby lines wasFar t found far a
+        fills was found wasFar far a w =
+            let e = lines-join job passed t table in
+            go a (w .0 ∙ ap (toldOf (baseCount job)) e) (w .1 ∙ ap (λ es. over es was) e) (w .2 ∙ ap (λ es. over (extentsOf (job .em) t 0 es) wasFar) e)
+          where
+            take-front : (xs ys : List ℕ) → take (length xs) (xs ++ ys) ≡ xs
+            take-front [] ys = refl
+            take-front (x ∷ xs) ys = ap (λ (l : List ℕ). x ∷ l) (take-front xs ys)
+
+            is-filled : (b : Bool) (k z n : ℕ) → filling.Filled n ≡ cond {A = Lines} b (filling.Filled k) (filling.Refused (NoBreak z)) → (n ≡ k) × (b ≡ true)
+            is-filled true k z n e = (cc, refl)
+            is-filled false k z n e = absurd (let y : _≡_ {A = ℕ} 0 1 = cc in omega arith)
+
+            is-stuck : (b : Bool) (k z : ℕ) (q : Refusal) → filling.Refused q ≡ cond {A = Lines} b (filling.Filled k) (filling.Refused (NoBreak z)) → (q ≡ NoBreak z) × (b ≡ false)
+            is-stuck true k z q e = absurd (let y : _≡_ {A = ℕ} 0 1 = cc in omega arith)
+            is-stuck false k z q e = (cc, refl)
+
+            go : (a : Lines) → a ≡ toldOf (baseCount job) (ends job) → found ≡ over (ends job) was → far ≡ over (extentsOf (job .em) t 0 (ends job)) wasFar → Fills job base ruby lines wasFar t found far a
+            go (filling.Refused q) e f g =
+                let b = is-stuck (eqb (lastOr 0 (ends job)) (baseCount job)) (length (ends job)) (lastOr 0 (ends job)) q e in
+                fault.by-line job base ruby lines own-passes (faults-join job passed t table ∙ rw (b .1, b .0))
+            go (filling.Filled k) e f g =
+                let b = is-filled (eqb (lastOr 0 (ends job)) (baseCount job)) (length (ends job)) (lastOr 0 (ends job)) k e in
+                record {
+                  own = passed-none (ownFaults job base ruby lines) own-passes;
+                  passed = passed;
+                  holds = table;
+                  none = faults-join job passed t table ∙ rw (b .1);
+                  many = b .0;
+                  is = rw (b .0, f) (take-front (ends job) (drop (length (ends job)) was));
+                  told = g;
+                }

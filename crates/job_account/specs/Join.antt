@@ -1,0 +1,246 @@
+-- Where table and job meet: for a job that passed the door and a table that holds it, what is told by rows is the account of the job's lines. Element by element, what is told of
+-- the line before it and what its piece and those behind it add make up the whole.
+use mathlib.Core.Path.{_≡_, refl, sym, ap, ap₂, _∙_, subst}
+use mathlib.Core.List.{List, [], _∷_, _++_, append-nil, append-assoc}
+use Prim.Native.Nat.{ℕ, zero, suc, _+_, _-_, _≤_, _<_, min, max}
+use native.Mathlib.Omega.{arith}
+use native.Mathlib.Decide.{decLt}
+use borrow.Author.Tests.{lt-ltb, le-leb, lt-leb}
+use lib.ListN.{length, length-append}
+use lib.Seq.{append-snoc}
+use Rattle.line.specs.Setting.{start, furthest}
+use Rattle.cells.specs.Cells.{cellAt, piece, stop}
+use Rattle.door.specs.declared.Piece.{Piece}
+use Rattle.door.specs.Job.{Job, baseCount, elements}
+use Rattle.door.specs.Passed.{Passed, BaseTiled}
+use Rattle.job.specs.Line.{pieces, seen, byLine}
+use Rattle.job.specs.Pieces.{IsElement, is-element, into, none-before}
+use Rattle.job.specs.Walk.{stateOf, state-more, state-none, extent-of}
+use Rattle.job.specs.Promise.{Chain}
+use Rattle.account.specs.Step.{nothing}
+use Rattle.filling.specs.Lines.{extentsOf}
+use Rattle.join.specs.Rows.{upto, Holds}
+use Rattle.join.specs.Join as join
+use Rattle.job_account.specs.declared.Told.{Told}
+use Rattle.job_account.specs.declared.Place.{Place}
+use Rattle.job_account.specs.First.{firstIn, first-in, first-end}
+use Rattle.job_account.specs.Rows.{row, startIn, rowIn, rowsIn}
+use Rattle.job_account.specs.Theorems.{accountIn}
+use Rattle.job_account.specs.Tell.{countIn, standingIn}
+use Rattle.job_account.specs.Tell as tell
+use Rattle.job_account.specs.Table.{toldOf, toldAt, same, rowsFrom, lineRows, piecesFrom, piecesIn, endedFrom, endedIn, behind, rowsBy, countsBy}
+use Rattle.job_account.specs.Line.{no-rows, no-pieces, none-ended}
+use Rattle.job_account.specs.Lines.{countsFrom, extentsFrom}
+
+-- the rows from i on, of at most n pieces, once the line from s up to z is told
+abbrev rowsOn : Job → List ℕ → ℕ → ℕ → ℕ → ℕ → ℕ → List ℕ
+rowsOn job t s e n z i = rowsFrom (job .em) t (firstIn job s) n (countIn job s z) (stateOf job s z) (standingIn job s z) i e
+
+-- what is told of the line from s up to z, and the pieces from i on, make up the line from s up to e
+record Joined (job : Job) (t : List ℕ) (s e n z i : ℕ) : Type 0 where
+  rows : rowsIn job s z ++ rowsOn job t s e n z i ≡ rowsIn job s e
+  many : countIn job s z + piecesFrom t n i e ≡ countIn job s e
+  ended : firstIn job s + countIn job s z + endedFrom t n i e ≡ firstIn job e
+
+-- a whole line
+pub record LineJoined (job : Job) (t : List ℕ) (s e : ℕ) : Type 0 where
+  pub rows : lineRows (job .em) t (firstIn job s) s e ≡ rowsIn job s e
+  pub many : piecesIn t s e ≡ countIn job s e
+  pub ended : firstIn job s + endedIn t s e ≡ firstIn job e
+
+module _ (job : Job) (door : Passed job) (t : List ℕ) (table : Holds job t) (s e : ℕ) where
+  -- nothing more is told where the line ends
+  done : (n z i : ℕ) → z ≡ e → e ≤ i → firstIn job s + countIn job s z ≡ firstIn job e → Joined job t s e n z i
+  done n z i h l f =
+      record {
+        rows = ap (λ r. rowsIn job s z ++ r) (no-rows (job .em) t (firstIn job s) n (countIn job s z) (stateOf job s z) (standingIn job s z) i e l) ∙ append-nil (rowsIn job s z) ∙ ap (rowsIn job s) h;
+        many = omega (arith, no-pieces t n i e l, ap (countIn job s) h);
+        ended = omega (arith, none-ended t n i e l, f);
+      }
+
+  -- the piece of an element in the line
+  module _ (front : List Piece) (x : Piece) (xs : List Piece) (split : elements job ≡ front ++ (x ∷ xs)) (i : ℕ) (from : max s (x .base) ≡ i) (before : i < x .base + x .bases)
+      (ahead : i < e) (index : firstIn job s + countIn job s (x .base) ≡ length front) where
+    at : IsElement job x
+    at = is-element job door front xs x split
+
+    abbrev d : ℕ
+    d = min e (x .base + x .bases)
+
+    abbrev n : ℕ
+    n = countIn job s (x .base)
+
+    lies : (x .base ≤ i) × (i < d) × (d ≤ x .base + x .bases)
+    lies = (low s (x .base) from, least e (x .base + x .bases) ahead before, most e (x .base + x .bases))
+      where
+        low : (s b : ℕ) → max s b ≡ i → b ≤ i
+        low s b e = omega arith
+
+        least : (e z : ℕ) → i < e → i < z → i < min e z
+        least e z h k = omega arith
+
+        most : (e z : ℕ) → min e z ≤ z
+        most e z = omega arith
+
+    row-end : i + cellAt t i .bases ≡ x .base + x .bases
+    row-end = omega (arith, join.bases-at job door t table x at i (lies .0) before)
+
+    stop-is : stop t i e ≡ d
+    stop-is = ap (min e) row-end
+
+    abbrev p : Piece
+    p = upto job x i (min e (x .base + x .bases))
+
+    -- one piece more
+    more : pieces job s d ≡ pieces job s (x .base) ++ (p ∷ [])
+    more = into job x at s d (omega (arith, lies .0, lies .1)) (lies .2) ∙ ap (λ z. pieces job s (x .base) ++ z) (join.the-piece job door t table x at s i d from (lies .1) (lies .2))
+
+    seen-is : piece (job .em) t i d ≡ seen job p
+    seen-is = join.piece-join job door t table x at i d (lies .0) (lies .1) (lies .2)
+
+    told : toldAt (job .em) t i d (stateOf job s (x .base)) n (standingIn job s (x .base))
+        ≡ record { account = accountIn job s d n; start = startIn job s d n; st = stateOf job s d; before = standingIn job s d }
+    told =
+        ap (λ z. toldOf z (stateOf job s (x .base)) n (standingIn job s (x .base))) seen-is
+        ∙ same (tell.account-is job door s (x .base) d p more) (tell.start-is job door s (x .base) d p more) (sym (state-more job s (x .base) d p more))
+        (tell.stands-is job door s (x .base) d p more)
+
+    one-more : countIn job s d ≡ n + 1
+    one-more = tell.one-more job door s (x .base) d p more
+
+    -- its row, and those behind it
+    step : (m : ℕ) → rowsOn job t s e (suc m) (x .base) i ≡ rowIn job s d n ++ rowsOn job t s e m d (x .base + x .bases)
+    unfolding rowsFrom
+    step m =
+        rw (lt-ltb i e ahead, stop-is)
+        (ap₂ (λ (r : Told) z. row (firstIn job s) (firstIn job s + n) (r .start) (r .account) ++ rowsFrom (job .em) t (firstIn job s) m (n + 1) (r .st) (r .before) z e) told row-end
+        ∙ ap (λ z. rowIn job s d n ++ rowsFrom (job .em) t (firstIn job s) m z (stateOf job s d) (standingIn job s d) (x .base + x .bases) e) (sym one-more))
+
+    rows-on : (m : ℕ) → rowsIn job s (x .base) ++ rowsOn job t s e (suc m) (x .base) i ≡ rowsIn job s d ++ rowsOn job t s e m d (x .base + x .bases)
+    rows-on m =
+        ap (λ r. rowsIn job s (x .base) ++ r) (step m)
+        ∙ sym (append-assoc (rowsIn job s (x .base)) (rowIn job s d n) (rowsOn job t s e m d (x .base + x .bases)))
+        ∙ ap (λ r. r ++ rowsOn job t s e m d (x .base + x .bases)) (sym (tell.rows-more job door s (x .base) d p more))
+
+    pieces-on : (m : ℕ) → piecesFrom t (suc m) i e ≡ suc (piecesFrom t m (x .base + x .bases) e)
+    unfolding piecesFrom
+    pieces-on m = rw (lt-ltb i e ahead) (ap (λ (z : ℕ). suc (piecesFrom t m z e)) row-end)
+
+    ended-on : (m : ℕ) → x .base + x .bases ≤ e → endedFrom t (suc m) i e ≡ suc (endedFrom t m (x .base + x .bases) e)
+    unfolding endedFrom
+    ended-on m h = rw (lt-ltb i e ahead, row-end, le-leb (x .base + x .bases) e h)
+
+    ended-cut : (m : ℕ) → e < x .base + x .bases → endedFrom t (suc m) i e ≡ 0
+    unfolding endedFrom
+    ended-cut m h = rw (lt-ltb i e ahead, row-end, lt-leb (x .base + x .bases) e h)
+
+    on : (m : ℕ) → (x .base + x .bases ≤ e → firstIn job s + countIn job s (x .base + x .bases) ≡ length front + 1 → Joined job t s e m (x .base + x .bases) (x .base + x .bases)) →
+        Joined job t s e (suc m) (x .base) i
+    on m rest = go (decLt e (x .base + x .bases))
+      where
+        short : (e z : ℕ) → e < z → min e z ≡ e
+        short e z l = omega arith
+
+        long : (e z : ℕ) → z ≤ e → min e z ≡ z
+        long e z l = omega arith
+
+        go : Dec (e < x .base + x .bases) → Joined job t s e (suc m) (x .base) i
+        go (yes l) =
+            let is = short e (x .base + x .bases) l in
+            record {
+              rows =
+                  rows-on m
+                  ∙ ap (λ r. rowsIn job s d ++ r) (no-rows (job .em) t (firstIn job s) m (countIn job s d) (stateOf job s d) (standingIn job s d) (x .base + x .bases) e (omega arith))
+                  ∙ append-nil (rowsIn job s d) ∙ ap (rowsIn job s) is;
+              many = omega (arith, pieces-on m, no-pieces t m (x .base + x .bases) e (omega arith), one-more, ap (countIn job s) is);
+              ended = omega (arith, ended-cut m l, index, first-in job door front x xs split e (omega (arith, lies .0)) l);
+            }
+        go (no l) =
+            let is = long e (x .base + x .bases) (omega arith) in
+            let more = ap (countIn job s) is in
+            let r = rest (omega arith) (omega (arith, index, one-more, more)) in
+            record {
+              rows = rows-on m ∙ ap (λ z. rowsIn job s z ++ rowsOn job t s e m z (x .base + x .bases)) is ∙ r .rows;
+              many = omega (arith, pieces-on m, one-more, more, r .many);
+              ended = omega (arith, ended-on m (omega arith), one-more, more, r .ended);
+            }
+
+  -- on from an element's end
+  walks : (front xs : List Piece) → elements job ≡ front ++ xs → (i : ℕ) → BaseTiled i xs (baseCount job) → s ≤ i → i ≤ e → e ≤ baseCount job →
+      firstIn job s + countIn job s i ≡ length front → (n : ℕ) → e ≤ i + n → Joined job t s e n i i
+  walks front [] q i b l u w index n room =
+      let is : i ≡ e = omega arith in
+      done n i i is (omega arith) (index ∙ ap length (sym (q ∙ append-nil front)) ∙ sym (first-end job door) ∙ ap (firstIn job) (omega arith))
+  walks front (x ∷ xs) q i b l u w index n room =
+      let some = is-element job door front xs x q .good .counts .some in
+      go (decLt i e) n room some (λ m j k v. walks (front ++ (x ∷ [])) xs (q ∙ sym (append-snoc front x xs)) (x .base + x .bases)
+      (subst (λ z. BaseTiled (z + x .bases) xs (baseCount job)) (sym (b .0)) (b .1)) (omega (arith, b .0)) j w (k ∙ sym (length-append front (x ∷ []))) m v)
+    where
+      most : (s b i : ℕ) → b ≡ i → s ≤ i → max s b ≡ i
+      most s b i z l = omega arith
+
+      go : Dec (i < e) → (n : ℕ) → e ≤ i + n → 0 < x .bases →
+          ((m : ℕ) → x .base + x .bases ≤ e → firstIn job s + countIn job s (x .base + x .bases) ≡ length front + 1 → e ≤ x .base + x .bases + m →
+          Joined job t s e m (x .base + x .bases) (x .base + x .bases)) →
+          Joined job t s e n i i
+      go (no m) n r some g =
+          let is : i ≡ e = omega arith in
+          done n i i is (omega arith) (index ∙ sym (first-in job door front x xs q e (omega (arith, b .0)) (omega (arith, b .0))))
+      go (yes m) zero r some g = absurd (omega arith)
+      go (yes m) (suc n) r some g =
+          subst (λ z. Joined job t s e (suc n) z i) (b .0)
+          (on front x xs q i (most s (x .base) i (b .0) l) (omega (arith, b .0)) m (ap (λ z. firstIn job s + countIn job s z) (b .0) ∙ index) n
+          (λ j k. g n j k (omega (arith, b .0))))
+
+  -- THE JOIN: what is told of a line by rows is the account of the job's line
+  pub line-join : s < e → e ≤ baseCount job → LineJoined job t s e
+  line-join l u = begun (join.covers job door t table s (omega arith))
+    where
+      one : (s e : ℕ) → s < e → e - s ≡ suc (e - s - 1)
+      one s e l = omega arith
+
+      over : (s b : ℕ) → b ≤ s → max s b ≡ s
+      over s b h = omega arith
+
+      begun : join.Covers job s → LineJoined job t s e
+      begun v =
+          let x = v .x in
+          let at = is-element job door (v .front) (v .rest) x (v .split) in
+          let empty = none-before job x at s (v .from) in
+          let none = tell.count-none job s (x .base) empty in
+          let first = first-in job door (v .front) x (v .rest) (v .split) s (v .from) (v .ahead) in
+          let j = on (v .front) x (v .rest) (v .split) s (over s (x .base) (v .from)) (v .ahead) l (omega (arith, none, first)) (e - s - 1)
+          (λ h k. walks (v .front ++ (x ∷ [])) (v .rest) (v .split ∙ sym (append-snoc (v .front) x (v .rest))) (x .base + x .bases) (v .tiled)
+          (omega (arith, v .ahead)) h u (k ∙ sym (length-append (v .front) (x ∷ []))) (e - s - 1) (omega (arith, v .ahead))) in
+          record {
+            rows =
+                ap₂ (λ n c. rowsFrom (job .em) t (firstIn job s) n c start nothing s e) (one s e l) (sym none)
+                ∙ ap₂ (λ st b. rowsFrom (job .em) t (firstIn job s) (suc (e - s - 1)) (countIn job s (x .base)) st b s e)
+                (sym (state-none job s (x .base) empty)) (sym (tell.stands-none job s (x .base) empty))
+                ∙ ap (λ r. r ++ rowsOn job t s e (suc (e - s - 1)) (x .base) s) (sym (tell.rows-none job s (x .base) empty))
+                ∙ j .rows;
+            many = ap (λ (n : ℕ). piecesFrom t n s e) (one s e l) ∙ omega (arith, none, j .many);
+            ended = ap (λ (n : ℕ). firstIn job s + endedFrom t n s e) (one s e l) ∙ omega (arith, none, j .ended);
+          }
+
+-- Line by line.
+module _ (job : Job) (door : Passed job) (t : List ℕ) (table : Holds job t) where
+  pub rows-join : (at : Place) (s : ℕ) (es : List ℕ) (d : ℕ) → at .k ≡ firstIn job s → Chain job s es d → rowsBy (job .em) t at s es ≡ byLine (rowsIn job) s es
+  rows-join at s [] d f c = refl
+  rows-join at s (e ∷ es) d f c =
+      let a = c .0 .at in
+      let j = line-join job door t table s e (a .ahead) (a .within) in
+      ap₂ (λ x y. x ++ y) (ap (λ k. lineRows (job .em) t k s e) f ∙ j .rows) (rows-join (behind t s e at) e es d (ap (λ k. k + endedIn t s e) f ∙ j .ended) (c .1))
+
+  pub counts-join : (at : Place) (s : ℕ) (es : List ℕ) (d : ℕ) → Chain job s es d → countsBy t at s es ≡ countsFrom job (at .q) s es
+  counts-join at s [] d c = refl
+  counts-join at s (e ∷ es) d c =
+      let a = c .0 .at in
+      let j = ap (λ n. at .q + n) (line-join job door t table s e (a .ahead) (a .within) .many) in
+      ap₂ (λ x y. x ∷ y) j (counts-join (behind t s e at) e es d (c .1) ∙ ap (λ q. countsFrom job q e es) j)
+
+  pub extents-join : (s : ℕ) (es : List ℕ) (d : ℕ) → Chain job s es d → extentsOf (job .em) t s es ≡ extentsFrom job s es
+  extents-join s [] d c = refl
+  extents-join s (e ∷ es) d c =
+      let a = c .0 .at in
+      ap₂ (λ x y. x ∷ y) (ap furthest (join.state-join job door t table s e (a .ahead) (a .within)) ∙ sym (extent-of job s e)) (extents-join e es d (c .1))

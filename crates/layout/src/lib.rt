@@ -1,0 +1,381 @@
+// The table of a job's lists: a row for each base character (`rowOf` of `join`). It goes over the elements once, in the order of the refusal list from number 5 on: an
+// element is counted, its characters have to be there, level one's answer is taken apart, and its rows are written. Behind it nobody sees the lists. It
+// relies on `door` for the counts, on `word` for level one, on `class` for depths and kinds, and on `cells` for rows.
+ghost use mathlib.Core.Path.{_≡_};
+ghost use mathlib.Core.Bool.{true, false};
+ghost use mathlib.Core.List.{_++_};
+ghost use Prim.Native.Nat.{_+_, _-_, _*_, _≤_, _<_};
+ghost use Rattle.basics.specs.Lists.{sum};
+ghost use lib.ListN.{length};
+ghost use Rattle.word.specs.Given.{isJ};
+ghost use Rattle.door.specs.Job.{jobOf, baseCount, rubyCount, elements, entries};
+ghost use Rattle.door.specs.Refusals.{elementsFaults, leftFaults};
+ghost use Rattle.door.specs.Verdict.{verdict};
+ghost use Rattle.door.specs.declared.Checked.the-variants.{Passed};
+ghost use Rattle.cells.specs.Put.{Puts};
+ghost use Rattle.join.specs.Rows.{rowBy, Holds};
+ghost use Rattle.layout.specs.Lay.{wordRow, runRow, pastRun, runsOnly, Filled, HasRuns, ElementReady, PlainReady, plainRow, Standing, Stepped};
+ghost use Rattle.layout.specs.Walk.{Ready};
+use refusal::Refusal;
+
+// No word: a J of two characters or more is measured by its sums, and by parts.
+const NONE: word::Word = word::Word {
+    front: 0,
+    len: 0,
+    ruby: false,
+    from: 0,
+    upto: 0,
+    inbase: 0,
+    inruby: 0,
+    runs: false,
+};
+
+// The rows of an M or a G.
+fn put_word(t: &mut [u32], p: door::Piece, w: word::Word, ends: bool)
+    requires { ⌜ (19 * (p .base + p .bases) ≤ length (now t)) × (p .base + p .bases ≤ 4096) × (p .ruby ≤ 4096) × (p .rubies ≤ 4096) ⌝ }
+    ensures { λ _. ⌜ Filled (wordRow p w ends 0 0) (p .base) (p .base + p .bases) (now (t .entry)) (now (t .exit)) ⌝ }
+{
+    let e = p.base + p.bases;
+    let mut i = p.base;
+    while i < e {
+        cells::put_cell(
+            t,
+            i,
+            cells::Cell {
+                bases: (e - i) as u32,
+                cut: false,
+                ends,
+                word: w,
+                before: 0,
+                after: 0,
+                ruby: p.ruby as u32,
+                rubies: p.rubies as u32,
+                own: 0,
+                wide: 0,
+                over: 0,
+                western: false,
+            },
+        );
+        i += 1;
+    }
+}
+
+// How far a J's ruby is laid: its characters, the width of its runs so far, and how many of those are longer than one em.
+pub struct Cursor {
+    pub ruby: usize,
+    pub wide: u32,
+    pub over: u32,
+}
+
+// The width of the run of ruby characters r up to e.
+fn run_width(r: usize, e: usize, rwidth: &[u32]) -> u32
+    requires { ⌜ (r ≤ e) × (e ≤ 4096) × (e ≤ length (now rwidth)) × (sum (entries (now rwidth) r (e - r)) ≤ 262144) ⌝ }
+    ensures { λ w. ⌜ w ≡ sum (entries (now (rwidth .entry)) r (e - r)) ⌝ }
+{
+    basics::sum_of(&rwidth[r..e])
+}
+
+// The row of base character i of a J: its own run has `run` ruby characters of the width `own`.
+fn run_row(
+    p: door::Piece,
+    w: word::Word,
+    ends: bool,
+    i: usize,
+    at: Cursor,
+    run: u32,
+    own: u32,
+    western: bool,
+) -> cells::Cell
+    requires { ⌜ (i ≤ p .base + p .bases) × (p .base + p .bases ≤ 4096) × (at .ruby ≤ 4096) ⌝ }
+    ensures { λ r. ⌜ r ≡ runRow p w ends i at run own western ⌝ }
+{
+    let bases = (p.base + p.bases - i) as u32;
+    let ruby = at.ruby as u32;
+    if 1 < p.bases {
+        return cells::Cell {
+            bases,
+            cut: true,
+            ends,
+            word: NONE,
+            before: 0,
+            after: 0,
+            ruby,
+            rubies: run,
+            own,
+            wide: at.wide,
+            over: at.over,
+            western,
+        };
+    }
+    cells::Cell {
+        bases,
+        cut: false,
+        ends,
+        word: w,
+        before: 0,
+        after: 0,
+        ruby,
+        rubies: run,
+        own,
+        wide: at.wide,
+        over: at.over,
+        western,
+    }
+}
+
+// One run more.
+fn past_run(at: Cursor, run: u32, own: u32, em: u32) -> Cursor
+    requires { ⌜ (at .ruby ≤ 4096) × (at .wide + own ≤ 262144) × (at .over ≤ 1024) ⌝ }
+    ensures { λ r. ⌜ r ≡ pastRun at run own em ⌝ }
+{
+    let ruby = at.ruby + run as usize;
+    let wide = at.wide + own;
+    if em < own {
+        return Cursor {
+            ruby,
+            wide,
+            over: at.over + 1,
+        };
+    }
+    Cursor {
+        ruby,
+        wide,
+        over: at.over,
+    }
+}
+
+// The rows of a J.
+fn put_runs(
+    t: &mut [u32],
+    p: door::Piece,
+    w: word::Word,
+    ends: bool,
+    em: u32,
+    rclass: &[u32],
+    rwidth: &[u32],
+    runs: &[u32],
+)
+    requires { ⌜ (isJ (p .form) ≡ true) × HasRuns (runsOnly em (now rclass) (now rwidth) (now runs)) p (now t) ⌝ }
+    ensures { λ _. ⌜ Filled (rowBy (runsOnly em (now (rclass .entry)) (now (rwidth .entry)) (now (runs .entry))) p w ends 0 0) (p .base) (p .base + p .bases) (now (t .entry)) (now (t .exit)) ⌝ }
+{
+    let n = p.base + p.bases;
+    let mut at = Cursor {
+        ruby: p.ruby,
+        wide: 0,
+        over: 0,
+    };
+    let mut i = p.base;
+    while i < n {
+        let run = runs[p.run + (i - p.base)];
+        let r = at.ruby;
+        let own = run_width(r, r + run as usize, rwidth);
+        let western = class::is_western(rclass[r]);
+        let row = run_row(p, w, ends, i, at, run, own, western);
+        cells::put_cell(t, i, row);
+        at = past_run(at, run, own, em);
+        i += 1;
+    }
+}
+
+fn is_jukugo(p: door::Piece) -> bool
+    ensures { λ r. ⌜ r ≡ isJ (p .form) ⌝ }
+{
+    let form = p.form;
+    match form {
+        word::Form::P => false,
+        word::Form::M => false,
+        word::Form::G => false,
+        word::Form::J => true,
+    }
+}
+
+// The rows of a word with ruby.
+fn put_element(
+    t: &mut [u32],
+    p: door::Piece,
+    w: word::Word,
+    ends: bool,
+    em: u32,
+    rclass: &[u32],
+    rwidth: &[u32],
+    runs: &[u32],
+)
+    requires { ⌜ ElementReady (runsOnly em (now rclass) (now rwidth) (now runs)) p (now t) ⌝ }
+    ensures { λ _. ⌜ Filled (rowBy (runsOnly em (now (rclass .entry)) (now (rwidth .entry)) (now (runs .entry))) p w ends 0 0) (p .base) (p .base + p .bases) (now (t .entry)) (now (t .exit)) ⌝ }
+{
+    if is_jukugo(p) {
+        put_runs(t, p, w, ends, em, rclass, rwidth, runs);
+    } else {
+        put_word(t, p, w, ends);
+    }
+}
+
+// The row of a P, base character b, before which r ruby characters were taken.
+fn put_plain(
+    t: &mut [u32],
+    b: usize,
+    r: usize,
+    em: u32,
+    class: &[u32],
+    width: &[u32],
+    before: &[u32],
+    after: &[u32],
+    flag: &[u32],
+)
+    requires { ⌜ PlainReady b r (now class) (now width) (now before) (now after) (now flag) (now t) ⌝ }
+    ensures { λ _. ⌜ Puts (now (t .entry)) b (plainRow b r em (now (class .entry)) (now (width .entry)) (now (before .entry)) (now (after .entry)) (now (flag .entry))) (now (t .exit)) ⌝ }
+{
+    let answer = word::plain_answer(width[b]);
+    let word::Answer::Set(w) = answer else {
+        return; // unreachable: level one has no row for a P
+    };
+    let d = class::depths_on(b == 0, class[b], width[b], before[b], after[b], em);
+    cells::put_cell(
+        t,
+        b,
+        cells::Cell {
+            bases: 1,
+            cut: false,
+            ends: flag[b] == 1,
+            word: w,
+            before: d.before,
+            after: d.after,
+            ruby: r as u32,
+            rubies: 0,
+            own: 0,
+            wide: 0,
+            over: 0,
+            western: false,
+        },
+    );
+}
+
+// Element k, a word with ruby, those before it having taken b base characters, r ruby characters and u runs, of `bases` and `rubies` in all: numbers 5, 6, and 7 to 10 as
+// level one gives them, or its rows.
+fn lay_word(
+    t: &mut [u32],
+    k: usize,
+    b: usize,
+    r: usize,
+    u: usize,
+    bases: usize,
+    rubies: usize,
+    em: u32,
+    class: &[u32],
+    width: &[u32],
+    before: &[u32],
+    after: &[u32],
+    flag: &[u32],
+    rclass: &[u32],
+    rwidth: &[u32],
+    kind: &[u32],
+    ebase: &[u32],
+    eruby: &[u32],
+    runs: &[u32],
+) -> door::Step
+    requires { let job = jobOf em 0 (now class) (now width) (now before) (now after) (now flag) (now rclass) (now rwidth) (now kind) (now ebase) (now eruby) (now runs) in ⌜ Standing bases rubies job k b r u (now t) ⌝ }
+    ensures { λ s. let job = jobOf em 0 (now (class .entry)) (now (width .entry)) (now (before .entry)) (now (after .entry)) (now (flag .entry)) (now (rclass .entry)) (now (rwidth .entry)) (now (kind .entry)) (now (ebase .entry)) (now (eruby .entry)) (now (runs .entry)) in ⌜ Stepped bases rubies job k b r u (now (t .entry)) (now (t .exit)) s ⌝ }
+{
+    let place = k as u32;
+    let counted = door::count_element(kind[k], ebase[k], eruby[k], b, r, u, runs);
+    let door::Counted::Is(p) = counted else {
+        return door::Step::Stop(Refusal::Element(place));
+    };
+    if door::runs_out(p, bases, rubies) {
+        return door::Step::Stop(Refusal::Supply(place));
+    }
+    let answer = door::measure_piece(
+        place,
+        p,
+        em,
+        class,
+        width,
+        before,
+        after,
+        rclass,
+        rwidth,
+        runs,
+    );
+    let word::Answer::Set(w) = answer else {
+        let word::Answer::Refused(why) = answer else {
+            return door::Step::Stop(Refusal::Element(place)); // unreachable: an answer is one of the two
+        };
+        return door::Step::Stop(why);
+    };
+    let e = p.base + p.bases - 1;
+    let ends = flag[e] == 1;
+    put_element(t, p, w, ends, em, rclass, rwidth, runs);
+    door::Step::Next(p)
+}
+
+// The rows of a job's elements, or the first of their refusals; characters have passed numbers 3 and 4.
+pub fn layout(
+    t: &mut [u32],
+    em: u32,
+    class: &[u32],
+    width: &[u32],
+    before: &[u32],
+    after: &[u32],
+    flag: &[u32],
+    rclass: &[u32],
+    rwidth: &[u32],
+    kind: &[u32],
+    ebase: &[u32],
+    eruby: &[u32],
+    runs: &[u32],
+) -> door::Checked
+    requires { let job = jobOf em 0 (now class) (now width) (now before) (now after) (now flag) (now rclass) (now rwidth) (now kind) (now ebase) (now eruby) (now runs) in ⌜ Ready job (now t) ⌝ }
+    ensures { λ c. let job = jobOf em 0 (now (class .entry)) (now (width .entry)) (now (before .entry)) (now (after .entry)) (now (flag .entry)) (now (rclass .entry)) (now (rwidth .entry)) (now (kind .entry)) (now (ebase .entry)) (now (eruby .entry)) (now (runs .entry)) in ⌜ (c ≡ verdict (elementsFaults job 0 (elements job) ++ leftFaults job)) × (c ≡ Passed → Holds job (now (t .exit))) ⌝ }
+{
+    let elements = door::element_count(kind, ebase, eruby);
+    let bases = door::base_count(class, width, before, after, flag);
+    let rubies = door::ruby_count(rclass, rwidth);
+    let mut k: usize = 0;
+    let mut b: usize = 0;
+    let mut r: usize = 0;
+    let mut u: usize = 0;
+    while k < elements {
+        if kind[k] == 80 {
+            if bases <= b {
+                return door::Checked::Refused(Refusal::Supply(k as u32));
+            }
+            put_plain(t, b, r, em, class, width, before, after, flag);
+            b += 1;
+            k += 1;
+            continue;
+        }
+        match lay_word(
+            t,
+            k,
+            b,
+            r,
+            u,
+            bases,
+            rubies,
+            em,
+            class,
+            width,
+            before,
+            after,
+            flag,
+            rclass,
+            rwidth,
+            kind,
+            ebase,
+            eruby,
+            runs,
+        ) {
+            door::Step::Stop(why) => return door::Checked::Refused(why),
+            door::Step::Next(p) => {
+                b += p.bases;
+                r += p.rubies;
+                u = door::runs_end(p);
+                k += 1;
+            }
+        }
+    }
+    if door::left_over(b, r, bases, rubies) {
+        return door::Checked::Refused(Refusal::Supply(elements as u32));
+    }
+    door::Checked::Passed
+}

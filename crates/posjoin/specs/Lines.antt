@@ -1,0 +1,80 @@
+-- All lines of a job, as the writing of them by rows asks for them and as it leaves them.
+use mathlib.Core.Path.{_≡_, refl, sym, ap, _∙_}
+use mathlib.Core.List.{List, [], _∷_}
+use Prim.Native.Nat.{ℕ, _≤_, _<_}
+use native.Mathlib.Omega.{arith}
+use lib.ListN.{length, take, length-take}
+use Rattle.cells.specs.Cells.{cellAt}
+use Rattle.door.specs.declared.Piece.{Piece}
+use Rattle.door.specs.Job.{Job, baseCount, rubyCount, elements}
+use Rattle.door.specs.Passed.{Passed, BaseTiled, RubyTiled}
+use Rattle.job.specs.Line.{baseIn, rubyIn, ends}
+use Rattle.job.specs.Line as line
+use Rattle.job.specs.Refusals.{linesFaults}
+use Rattle.job.specs.Outcome as outcome
+use Rattle.job.specs.Pieces.{is-element}
+use Rattle.job.specs.Promise.{Chain, Filled}
+use Rattle.job.specs.Filled.{chain-few}
+use Rattle.job.specs.Declined.{filled}
+use Rattle.join.specs.Rows.{Holds}
+use Rattle.join.specs.Join as join
+use Rattle.positions.specs.Positions.{over, baseOf, rubyOf, byLine}
+use Rattle.positions.specs.Ready.{Chained, LinesReady}
+use Rattle.posjoin.specs.Piece.{sheetOf}
+use Rattle.posjoin.specs.Ready.{first-row, writable}
+use Rattle.posjoin.specs.Join.{bases-join, rubies-join}
+
+module _ (job : Job) (passed : Passed job) (t : List ℕ) (table : Holds job t) where
+  -- the first row's ruby is the job's first
+  first-ruby : 0 < baseCount job → cellAt t 0 .ruby ≡ 0
+  first-ruby some = go (elements job) refl (passed .tiled) (passed .rubies)
+    where
+      go : (xs : List Piece) → elements job ≡ xs → BaseTiled 0 xs (baseCount job) → RubyTiled 0 xs (rubyCount job) → cellAt t 0 .ruby ≡ 0
+      go [] e b r = absurd (omega arith)
+      go (x ∷ xs) e b r = ap (λ (z : ℕ). cellAt t z .ruby) (sym (b .0)) ∙ first-row job passed t table x (is-element job passed [] xs x e) ∙ r .0
+
+  -- lines that end where the job permits it
+  chained : (s : ℕ) (es : List ℕ) (d : ℕ) → Chain job s es d → Chained t (baseCount job) s es
+  chained s [] d c = tt
+  chained s (e ∷ es) d c =
+      let a = c .0 .at in
+      (a .ahead, a .within, join.may-join job passed t table e (omega (arith, a .ahead)) (a .within) ∙ a .permits, chained e es d (c .1))
+
+-- The job passes the door, the table holds it, `found` has at its front the ends of its k lines, no line is refused, and no result list is too short (12).
+module _ (job : Job) (passed : Passed job) (t : List ℕ) (table : Holds job t) (k : ℕ) (found : List ℕ) (is : take k found ≡ ends job) (many : k ≡ length (ends job))
+    (fault : linesFaults job ≡ []) where
+  all : Filled job (ends job)
+  all = filled job passed fault
+
+  pub few-lines : k ≤ baseCount job
+  few-lines = omega (arith, many, chain-few job 0 (baseCount job) (ends job) all)
+
+  pub found-long : k ≤ length found
+  found-long = omega (arith, many, ap length is, length-take k found)
+
+  -- the lines can be written
+  pub lines-ready : (base ruby : List ℕ) → baseCount job ≤ length base → rubyCount job ≤ length ruby → LinesReady (sheetOf job t) k found base ruby
+  lines-ready base ruby bases rubies =
+      record {
+        n = baseCount job;
+        m = rubyCount job;
+        table = writable job passed t table;
+        room = bases;
+        roomRuby = rubies;
+        held = found-long;
+        few = omega (arith, few-lines, passed .fewBase);
+        chained = rw is (chained job passed t table 0 (ends job) (baseCount job) all);
+        first = first-ruby job passed t table;
+      }
+
+  -- and what is written is what the job's meaning has
+  pub lines-written : (base ruby : List ℕ) {base2 ruby2 : List ℕ} →
+      (base2 ≡ over (byLine (baseOf (sheetOf job t)) 0 (take k found)) base) × (ruby2 ≡ over (byLine (rubyOf (sheetOf job t)) 0 (take k found)) ruby) →
+      (base2 ≡ outcome.over (line.byLine (baseIn job) 0 (ends job)) base) × (ruby2 ≡ outcome.over (line.byLine (rubyIn job) 0 (ends job)) ruby)
+  lines-written base ruby w = (
+    w .0 ∙ ap (λ l. over l base) (ap (byLine (baseOf (sheetOf job t)) 0) is ∙ bases-join job passed t table (ends job) (baseCount job) all),
+    w .1 ∙ ap (λ l. over l ruby) (ap (byLine (rubyOf (sheetOf job t)) 0) is ∙ rubies-join job passed t table (ends job) (baseCount job) all),
+  )
+
+  pub ends-written : (lines : List ℕ) {lines2 : List ℕ} → lines2 ≡ over (take k found) lines → lines2 ≡ outcome.over (ends job) lines
+  ends-written lines w = w ∙ ap (λ l. over l lines) is

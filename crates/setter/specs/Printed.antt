@@ -1,0 +1,52 @@
+-- An accepted job is printed from the table that the entry point leaves: it can be, and what is printed is its text.
+use mathlib.Core.Path.{_≡_, sym, ap, _∙_, subst}
+use mathlib.Core.List.{List, _++_}
+use Prim.Native.Nat.{ℕ, _≤_}
+use native.Mathlib.Omega.{arith}
+use lib.ListN.{length, drop, length-append}
+use Rattle.text.specs.Print.{Wrote}
+use Rattle.door.specs.Job.{Job, baseCount, rubyCount}
+use Rattle.job.specs.declared.Answer.the-variants.{Set}
+use Rattle.job.specs.Line.{ends, baseIn, rubyIn, byLine}
+use Rattle.job.specs.Outcome.{Outcome, outcome}
+use Rattle.job.specs.Demands.{base-told, ruby-told}
+use Rattle.filling.specs.Lines.{extentsOf, length-extents}
+use Rattle.engine.specs.Filled.{Full, Keeps}
+use Rattle.result.specs.Text.{resultText}
+use Rattle.result.specs.ByRows.{rowsText}
+use Rattle.result.specs.Lines.{TextReady}
+use Rattle.result.specs.Short.{longest}
+use Rattle.result.specs.Set.{accepted}
+use Rattle.result.specs.Accepted.{rows-text, text-ready}
+
+module _ (job : Job) (base ruby lines wasFar t found far : List ℕ) (o : Outcome) (e : o ≡ outcome job base ruby lines)
+    (kept : Keeps job (length base) (length ruby) (length lines) wasFar t found far (o .answer)) {n : ℕ} (set : o .answer ≡ Set n) where
+  full : Full job (length base) (length ruby) (length lines) wasFar t found far n
+  full = subst (Keeps job (length base) (length ruby) (length lines) wasFar t found far) set kept
+
+  far-long : n ≤ length far
+  far-long =
+      let f = full in
+      let xs = extentsOf (job .em) t 0 (ends job) in
+      omega (arith, f .many, ap length (f .told), length-append xs (drop (length xs) wasFar), length-extents (job .em) t 0 (ends job))
+
+  long : (baseCount job ≤ length (o .base)) × (rubyCount job ≤ length (o .ruby))
+  long =
+      let ok = accepted job base ruby lines (ap (λ (x : Outcome). x .answer) (sym e) ∙ set) in
+      let b = base-told job base ruby lines ok in
+      let r = ruby-told job base ruby lines ok in
+      let newBase = byLine (baseIn job) 0 (ends job) in
+      let newRuby = byLine (rubyIn job) 0 (ends job) in (
+        omega (arith, ap (λ (x : Outcome). length (x .base)) e, ap length (b .0), b .1, length-append newBase (drop (length newBase) base)),
+        omega (arith, ap (λ (x : Outcome). length (x .ruby)) e, ap length (r .0), r .1, length-append newRuby (drop (length newRuby) ruby)),
+      )
+
+  pub ready : {out : List ℕ} → longest ≤ length out → TextReady t n found far (o .base) (o .ruby) out
+  ready {out} h =
+      let f = full in
+      text-ready job (f .passed) t (f .holds) (o .base) (o .ruby) n found far wasFar (f .is) (f .many) (f .none) (f .told) out far-long (long .0) (long .1) h
+
+  pub printed : {out now : List ℕ} {r : ℕ} → Wrote out 0 (rowsText t n found far (o .base) (o .ruby)) r now → Wrote out 0 (resultText job (o .base) (o .ruby)) r now
+  printed {out} {now} {r} w =
+      let f = full in
+      subst (λ xs. Wrote out 0 xs r now) (rows-text job (f .passed) t (f .holds) (o .base) (o .ruby) n found far wasFar (f .is) (f .many) (f .none) (f .told)) w
