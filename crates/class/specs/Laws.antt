@@ -33,7 +33,7 @@ pub tabled-at {ℓ} : {A : Type ℓ} (f : ℕ → A) (d : A) (n : ℕ) (xs : Lis
 tabled-at f d n xs e k h = ap (λ (l : List _). getD l k d) e ∙ from f d n 0 k h ∙ ap f (zero-add k)
 
 -- two rules that agree at 0 to 30, which antt computes, and past 30, agree
-agree {ℓ} : {A : Type ℓ} (f g : ℕ → A) → tabled f 0 31 ≡ tabled g 0 31 → ((c : ℕ) → 30 < c → f c ≡ g c) → (c : ℕ) → f c ≡ g c
+pub agree {ℓ} : {A : Type ℓ} (f g : ℕ → A) → tabled f 0 31 ≡ tabled g 0 31 → ((c : ℕ) → 30 < c → f c ≡ g c) → (c : ℕ) → f c ≡ g c
 agree f g e h c = go (decLt c 31)
   where
     go : Dec (c < 31) → f c ≡ g c
@@ -86,7 +86,7 @@ isSpace Western = false
 isSpace Space = true
 isSpace Outside = false
 
-kind-past : (c : ℕ) → 30 < c → kindOf c ≡ Outside
+pub kind-past : (c : ℕ) → 30 < c → kindOf c ≡ Outside
 unfolding rowOf
 kind-past c h = ap (λ (r : Row). r .kind) (past c h)
 

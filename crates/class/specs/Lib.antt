@@ -2,3 +2,4 @@ pub mod Class
 pub mod Depth
 pub mod Laws
 pub mod Entry
+pub mod Digits

@@ -4,11 +4,13 @@
 // total: any u32 is asked as it is. It relies on no other crate.
 ghost use mathlib.Core.Path.{_≡_};
 ghost use mathlib.Core.Bool.{_&&_};
-ghost use Prim.Native.Nat.{_≤_};
-ghost use Rattle.class.specs.Class.{accepted, western, kanaLike, blankBefore, blankAfter, rowOf, kindOf, depthsOn};
+ghost use Prim.Native.Nat.{_<_, _≤_};
+ghost use Rattle.class.specs.Class.{accepted, western, kanaLike, blankBefore, blankAfter, rowOf, kindOf, quarters, depthsOn};
 ghost use Rattle.class.specs.Depth.{blankBy, depthBy};
 ghost use Rattle.class.specs.Entry.{entryOf, rowBy, liesBefore, liesAfter, isWhole};
-ghost use Rattle.class.specs.Laws.{isKana, isWestern};
+ghost use lib.Dec.{ltb};
+ghost use Rattle.class.specs.Laws.{tabled};
+ghost use Rattle.class.specs.Digits.{codeOf, kindCode, digits, digitAt};
 
 pub enum Kind {
     KanaLike,
@@ -222,18 +224,110 @@ pub fn row_of(class: u32) -> Row
     row_by(entry_of(class))
 }
 
+// A loop over characters would have the table laid out anew for each of them. So what such loops ask is asked of the table as a number, two binary digits
+// for each class, class 0 lowest; the compiler works that number out, and leaves it where the loop over the table was.
+
+fn code_of(k: Kind) -> u64
+    ensures { λ r. ⌜ r ≡ codeOf k ⌝ }
+{
+    match k {
+        Kind::KanaLike => 0,
+        Kind::Western => 1,
+        Kind::Space => 2,
+        Kind::Outside => 3,
+    }
+}
+
+// The kinds of all classes of the table.
+fn kinds_in(table: [Entry; 31]) -> u64
+    requires { ⌜ table ≡ tabled entryOf 0 31 ⌝ }
+    ensures { λ r. ⌜ r ≡ digits kindCode 31 ⌝ }
+{
+    let mut kinds: u64 = 0;
+    let mut place: u64 = 1;
+    let mut class: u32 = 0;
+    while class < 31 {
+        let e = table[class as usize];
+        let kind = e.kind;
+        kinds = kinds + code_of(kind) * place;
+        place = place * 4;
+        class += 1;
+    }
+    kinds
+}
+
+fn depth_of(e: Entry) -> u64
+    ensures { λ r. ⌜ r ≡ e .quarters ⌝ }
+{
+    e.quarters as u64
+}
+
+// The depths of all classes of the table, in quarter ems.
+fn quarters_in(table: [Entry; 31]) -> u64
+    requires { ⌜ table ≡ tabled entryOf 0 31 ⌝ }
+    ensures { λ r. ⌜ r ≡ digits quarters 31 ⌝ }
+{
+    let mut depths: u64 = 0;
+    let mut place: u64 = 1;
+    let mut class: u32 = 0;
+    while class < 31 {
+        let e = table[class as usize];
+        depths = depths + depth_of(e) * place;
+        place = place * 4;
+        class += 1;
+    }
+    depths
+}
+
+// The digit of a class below 31.
+fn digit_at(number: u64, class: u32) -> u64
+    requires { ⌜ class < 31 ⌝ }
+    ensures { λ r. ⌜ r ≡ digitAt number class ⌝ }
+{
+    (number >> (2 * class)) % 4
+}
+
+fn code_at(class: u32) -> u64
+    ensures { λ r. ⌜ r ≡ kindCode class ⌝ }
+{
+    if 30 < class {
+        return 3;
+    }
+    digit_at(kinds_in(TABLE), class)
+}
+
 pub fn kind_of(class: u32) -> Kind
     ensures { λ r. ⌜ r ≡ kindOf class ⌝ }
 {
-    let e = entry_of(class);
-    e.kind
+    let c = code_at(class);
+    if c == 0 {
+        return Kind::KanaLike;
+    }
+    if c == 1 {
+        return Kind::Western;
+    }
+    if c == 2 {
+        return Kind::Space;
+    }
+    Kind::Outside
 }
 
 pub fn is_accepted(class: u32) -> bool
     ensures { λ r. ⌜ r ≡ accepted class ⌝ }
 {
-    let e = entry_of(class);
-    e.accepted
+    code_at(class) < 3
+}
+
+pub fn is_kana(class: u32) -> bool
+    ensures { λ r. ⌜ r ≡ kanaLike class ⌝ }
+{
+    code_at(class) == 0
+}
+
+pub fn is_western(class: u32) -> bool
+    ensures { λ r. ⌜ r ≡ western class ⌝ }
+{
+    code_at(class) == 1
 }
 
 // May there be a blank before, or after?
@@ -253,40 +347,14 @@ pub fn may_have_after(class: u32) -> bool
     lies_after(sides)
 }
 
-fn kana_by(k: Kind) -> bool
-    ensures { λ r. ⌜ r ≡ isKana k ⌝ }
+// May ruby lie on a class at all?
+fn is_deep(class: u32) -> bool
+    ensures { λ r. ⌜ r ≡ ltb 0 (quarters class) ⌝ }
 {
-    match k {
-        Kind::KanaLike => true,
-        Kind::Western => false,
-        Kind::Space => false,
-        Kind::Outside => false,
+    if 30 < class {
+        return false;
     }
-}
-
-pub fn is_kana(class: u32) -> bool
-    ensures { λ r. ⌜ r ≡ kanaLike class ⌝ }
-{
-    let k = kind_of(class);
-    kana_by(k)
-}
-
-fn western_by(k: Kind) -> bool
-    ensures { λ r. ⌜ r ≡ isWestern k ⌝ }
-{
-    match k {
-        Kind::KanaLike => false,
-        Kind::Western => true,
-        Kind::Space => false,
-        Kind::Outside => false,
-    }
-}
-
-pub fn is_western(class: u32) -> bool
-    ensures { λ r. ⌜ r ≡ western class ⌝ }
-{
-    let k = kind_of(class);
-    western_by(k)
+    0 < digit_at(quarters_in(TABLE), class)
 }
 
 // The blank on a side of a P character, in units.
@@ -330,14 +398,13 @@ fn is_opening(first: bool, whole: bool) -> bool
 pub fn depths_on(first: bool, class: u32, width: u32, before: u32, after: u32, em: u32) -> Depths
     ensures { λ r. ⌜ r ≡ depthsOn first class width before after em ⌝ }
 {
-    let e = entry_of(class);
-    if e.quarters == NONE {
+    if !is_deep(class) {
         return Depths {
             before: 0,
             after: 0,
         };
     }
-    let r = row_by(e);
+    let r = row_of(class);
     if is_opening(first, r.whole) {
         return Depths {
             before: 0,

@@ -1,18 +1,17 @@
--- The entry is the rule's, and the answer is its field.
-use mathlib.Core.Path.{ap}
+-- A class is accepted whose kind is not outside (`accepted-code`).
+use mathlib.Core.Path.{ap, _∙_}
+use Prim.Native.Nat.{ℕ}
 use borrow.Author.Needs.{needs}
-use Rattle.class.specs.declared.Entry.{Entry}
-use Rattle.class.specs.Class.{rowOf}
-use Rattle.class.specs.Entry.{entryOf}
+use lib.Dec.{ltb}
+use Rattle.class.specs.Digits.{accepted-code}
 use Rattle.class.proofs.is_accepted.Statement.{statement}
 use Rattle.class.proofs.is_accepted.Tie as tie
 
-entry-of-requires : tie.Need-entry-of-requires
-entry-of-requires c κs = search needs
+code-at-requires : tie.Need-code-at-requires
+code-at-requires c κs = search needs
 
 returns : tie.Need-returns
-unfolding rowOf entryOf
-returns c = ap (λ (e : Entry). e .accepted) (c .entry-of .ensures)
+returns c = ap (λ (n : ℕ). ltb n 3) (c .code-at .ensures) ∙ accepted-code (c .before .args .class)
 
 pub is-accepted-spec : {M : Type 1} → statement M
-is-accepted-spec = tie.close (tie.spec entry-of-requires returns)
+is-accepted-spec = tie.close (tie.spec code-at-requires returns)

@@ -1,18 +1,17 @@
--- The kind is the rule's, and a class is Western as its kind says (`western-law`).
-use mathlib.Core.Path.{_∙_, sym}
+-- A class is Western as the number of its kind says (`western-code`).
+use mathlib.Core.Path.{ap, _∙_}
+use Prim.Native.Nat.{ℕ}
 use borrow.Author.Needs.{needs}
-use Rattle.class.specs.Laws.{western-law}
+use lib.Dec.{eqb}
+use Rattle.class.specs.Digits.{western-code}
 use Rattle.class.proofs.is_western.Statement.{statement}
 use Rattle.class.proofs.is_western.Tie as tie
 
-kind-of-requires : tie.Need-kind-of-requires
-kind-of-requires c κs = search needs
-
-western-by-requires : tie.Need-western-by-requires
-western-by-requires c κs = search needs
+code-at-requires : tie.Need-code-at-requires
+code-at-requires c κs = search needs
 
 returns : tie.Need-returns
-returns c = rw (c .western-by .ensures, c .before .kind-of .ensures) (sym (western-law (c .before .before .args .class)))
+returns c = ap (λ (n : ℕ). eqb n 1) (c .code-at .ensures) ∙ western-code (c .before .args .class)
 
 pub is-western-spec : {M : Type 1} → statement M
-is-western-spec = tie.close (tie.spec kind-of-requires western-by-requires returns)
+is-western-spec = tie.close (tie.spec code-at-requires returns)
