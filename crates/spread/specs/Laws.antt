@@ -50,8 +50,8 @@ pub ends-fit : (l : Bool) (r : Ratio) (em D n : ℕ) → held l em (front r D n)
 ends-fit l r em D n = omega (arith, shares-le D (r .a) (r .c) (whole r n) (omega arith), held-le l em (front r D n), held-le l em (rear r D n))
 
 -- S is small, and not 0 from two characters on
-pub middle-small : (m n : ℕ) → m ≤ 7 → n ≤ 64 → m * (n - 1) ≤ 441
-middle-small m n p q = mul-le-mul {n₁ = m} {m₁ = n - 1} {n₂ = 7} {m₂ = 63} p (omega arith)
+pub middle-small : (m n : ℕ) → m ≤ 7 → n ≤ 4096 → m * (n - 1) ≤ 28665
+middle-small m n p q = mul-le-mul {n₁ = m} {m₁ = n - 1} {n₂ = 7} {m₂ = 4095} p (omega arith)
 
 pub whole-some : (r : Ratio) (n : ℕ) → 0 < r .a + r .m + r .c → 0 < n → (n ≡ 1 → ⊥) → 0 < whole r n
 whole-some r n h l e = go (r .m) refl

@@ -55,7 +55,7 @@ fn ratio_of(which: Which, ratios: [[u32; 3]; 2]) -> Ratio
 
 // S = a + m(n - 1) + c.
 fn whole_of(r: Ratio, n: u32) -> u32
-    requires { ⌜ (Sound r) × (0 < n) × (n ≤ 64) ⌝ }
+    requires { ⌜ (Sound r) × (0 < n) × (n ≤ 4096) ⌝ }
     ensures { λ s. ⌜ s ≡ whole r n ⌝ }
 {
     r.a + r.m * (n - 1) + r.c
@@ -82,7 +82,7 @@ fn hold(limited: bool, em: u32, g: u32) -> u32
 
 // The gaps of a string of n characters that is spread.
 fn spread_of(limited: bool, r: Ratio, em: u32, d: u32, n: u32) -> Gaps
-    requires { ⌜ (Sound r) × (d ≤ 262144) × (0 < n) × (n ≤ 64) ⌝ }
+    requires { ⌜ (Sound r) × (d ≤ 262144) × (0 < n) × (n ≤ 4096) ⌝ }
     ensures { λ g. ⌜ g ≡ gapsBy limited r em d n ⌝ }
 {
     if n == 1 {
@@ -120,7 +120,7 @@ fn spread_of(limited: bool, r: Ratio, em: u32, d: u32, n: u32) -> Gaps
 
 // The gaps of the shorter string by its way and its ratio: d is the difference of the sums in units, n the string's characters.
 pub fn gaps_of(which: Which, way: Way, ratios: [[u32; 3]; 2], em: u32, d: u32, n: u32) -> Gaps
-    requires { ⌜ (Housed (ratiosOf ratios)) × (d ≤ 262144) × (0 < n) × (n ≤ 64) ⌝ }
+    requires { ⌜ (Housed (ratiosOf ratios)) × (d ≤ 262144) × (0 < n) × (n ≤ 4096) ⌝ }
     ensures { λ g. ⌜ g ≡ gaps way (ratioFor which (ratiosOf ratios)) em d n ⌝ }
 {
     match way {

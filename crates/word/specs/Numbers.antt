@@ -23,8 +23,8 @@ word-from r b h em bs rs = refl
 -- what the callers have made sure of: each string has a character, and the sums are those of a word
 pub record Measured (B n R m : ℕ) : Type 0 where
   pub some : 0 < n
-  pub few : n ≤ 32
+  pub few : n ≤ 4096
   pub narrow : B ≤ 131072
   pub reads : 0 < m
-  pub fewRuby : m ≤ 64
+  pub fewRuby : m ≤ 4096
   pub narrowRuby : R ≤ 262144
