@@ -11,7 +11,9 @@ use lib.ListN.{length, getD}
 use Rattle.basics.specs.Lists.{sum, count, any, each, All}
 use Rattle.basics.specs.Laws.{or-none, all-count}
 use Rattle.class.specs.Class.{accepted, blankBefore, blankAfter}
-use Rattle.refusal.specs.declared.Refusal.the-variants.{Range, Count, Short, Character, Blanks, Element, Supply, BlankInside, JukugoBase, Mixed, WesternOver}
+use Rattle.spread.specs.declared.Ratio.{Ratio as RatioNumbers}
+use Rattle.spread.specs.Ratio.{Sound, Housed}
+use Rattle.refusal.specs.declared.Refusal.the-variants.{Range, Ratio, Count, Short, Character, Blanks, Element, Supply, BlankInside, JukugoBase, Mixed, WesternOver}
 use Rattle.word.specs.declared.Form.{Form}
 use Rattle.word.specs.declared.Form.the-variants.{P, M, G, J}
 use Rattle.word.specs.declared.Answer.the-variants.{Set}
@@ -21,7 +23,7 @@ use Rattle.word.specs.Answer.{blankInside, jukugoBase, mixedIn, westernOver, an
 use Rattle.word.specs.Promise as alone
 use Rattle.door.specs.declared.Piece.{Piece}
 use Rattle.door.specs.Job.{Job, baseCount, rubyCount, elementCount, takesBase, takesRuby, takesRuns, known, element, elementsFrom, elements, given}
-use Rattle.door.specs.Refusals.{_when_, outside, emWrong, measureWrong, listShort, baseWrong, rubyWrong, blanksWrong, countsOut, countsWrong, runOut, leftOver, baseFaults, rubyFaults, elementFaults, jobFaults, charFaults, elementsFaults, leftFaults, ownFaults}
+use Rattle.door.specs.Refusals.{_when_, outside, emWrong, measureWrong, ratioWrong, listShort, houseFaults, sizeFaults, baseWrong, rubyWrong, blanksWrong, countsOut, countsWrong, runOut, leftOver, baseFaults, rubyFaults, elementFaults, jobFaults, charFaults, elementsFaults, leftFaults, ownFaults}
 use Rattle.door.specs.Verdict.{append-none, each-none, when-none}
 use Rattle.door.specs.Entries.{length-entries, none-zero, some-sum}
 
@@ -71,6 +73,7 @@ RubyTiled = Tiled (λ p. p .ruby) (λ p. p .rubies)
 pub record Passed (job : Job) : Type 0 where
   pub em : job .em ≤ 4096
   pub measure : job .measure ≤ 4000000
+  pub house : Housed (job .ratios)
   pub fewBase : baseCount job ≤ 1024
   pub fewRuby : rubyCount job ≤ 2048
   pub fewElements : elementCount job ≤ 1024
@@ -284,32 +287,54 @@ groups job base ruby lines e =
 pub record Limits (job : Job) (base ruby lines : ℕ) : Type 0 where
   pub em : emWrong job ≡ false
   pub measure : measureWrong job ≡ false
+  pub house : Housed (job .ratios)
   pub bases : baseCount job ≤ 1024
   pub rubies : rubyCount job ≤ 2048
   pub elements : elementCount job ≤ 1024
   pub long : listShort job base ruby lines ≡ false
+
+-- a ratio that number 15 lets pass
+sound : (r : RatioNumbers) → ratioWrong r ≡ false → Sound r
+sound r e =
+    let p = or-none (ltb 7 (r .a)) _ e in
+    let q = or-none (ltb 7 (r .m)) _ (p .1) in
+    let s = or-none (ltb 7 (r .c)) _ (q .1) in
+    record { front = ltb-false _ _ (p .0); middle = ltb-false _ _ (q .0); rear = ltb-false _ _ (s .0); some = more (r .a) (r .m) (r .c) (s .1) }
+  where
+    more : (a m c : ℕ) → (eqb a 0 && (eqb m 0 && eqb c 0)) ≡ false → 0 < a + m + c
+    more zero zero zero e = absurd (true≢false e)
+    more zero zero (suc c) e = omega arith
+    more zero (suc m) c e = omega arith
+    more (suc a) m c e = omega arith
 
 pub limits : (job : Job) (base ruby lines : ℕ) → jobFaults job base ruby lines ≡ [] → Limits job base ruby lines
 unfolding jobFaults
 limits job base ruby lines e =
     let em = Range 0 when emWrong job in
     let measure = Range 1 when measureWrong job in
+    let spreads = Ratio 0 when ratioWrong (job .ratios .ruby) in
     let bases = Count 0 when ltb 1024 (baseCount job) in
     let rubies = Count 1 when ltb 2048 (rubyCount job) in
     let many = Count 2 when ltb 1024 (elementCount job) in
-    let short = Short when listShort job base ruby lines in
-    let e₅ = append-none (em ++ measure ++ bases ++ rubies ++ many) short e in
-    let e₄ = append-none (em ++ measure ++ bases ++ rubies) many (e₅ .0) in
-    let e₃ = append-none (em ++ measure ++ bases) rubies (e₄ .0) in
-    let e₂ = append-none (em ++ measure) bases (e₃ .0) in
-    let e₁ = append-none em measure (e₂ .0) in
+    let both = append-none (houseFaults job) (sizeFaults job base ruby lines) e in
+    let h₃ = append-none (em ++ measure ++ spreads) _ (both .0) in
+    let h₂ = append-none (em ++ measure) spreads (h₃ .0) in
+    let h₁ = append-none em measure (h₂ .0) in
+    let s₃ = append-none (bases ++ rubies ++ many) _ (both .1) in
+    let s₂ = append-none (bases ++ rubies) many (s₃ .0) in
+    let s₁ = append-none bases rubies (s₂ .0) in
     record {
-      em = when-none (Range 0) (emWrong job) (e₁ .0);
-      measure = when-none (Range 1) (measureWrong job) (e₁ .1);
-      bases = ltb-false _ _ (when-none (Count 0) (ltb 1024 (baseCount job)) (e₂ .1));
-      rubies = ltb-false _ _ (when-none (Count 1) (ltb 2048 (rubyCount job)) (e₃ .1));
-      elements = ltb-false _ _ (when-none (Count 2) (ltb 1024 (elementCount job)) (e₄ .1));
-      long = when-none Short (listShort job base ruby lines) (e₅ .1);
+      em = when-none (Range 0) (emWrong job) (h₁ .0);
+      measure = when-none (Range 1) (measureWrong job) (h₁ .1);
+      house =
+          record {
+            ruby = sound (job .ratios .ruby) (when-none (Ratio 0) (ratioWrong (job .ratios .ruby)) (h₂ .1));
+            base = sound (job .ratios .base) (when-none (Ratio 1) (ratioWrong (job .ratios .base)) (h₃ .1));
+          };
+      bases = ltb-false _ _ (when-none (Count 0) (ltb 1024 (baseCount job)) (s₁ .0));
+      rubies = ltb-false _ _ (when-none (Count 1) (ltb 2048 (rubyCount job)) (s₁ .1));
+      elements = ltb-false _ _ (when-none (Count 2) (ltb 1024 (elementCount job)) (s₂ .1));
+      long = when-none Short (listShort job base ruby lines) (s₃ .1);
     }
 
 pub passed : (job : Job) (base ruby lines : ℕ) → ownFaults job base ruby lines ≡ [] → Passed job
@@ -320,6 +345,7 @@ passed job base ruby lines e =
     record {
       em = within 2 4096 (job .em) (or-none (eqb (job .em % 2) 1) (outside 2 4096 (job .em)) (l .em) .1) .1;
       measure = within 1 4000000 (job .measure) (l .measure) .1;
+      house = l .house;
       fewBase = l .bases;
       fewRuby = l .rubies;
       fewElements = l .elements;

@@ -7,7 +7,8 @@ use lib.ListN.{getD}
 use Rattle.basics.specs.Lists.{sum, count, any, each}
 use Rattle.class.specs.Class.{accepted, western, kanaLike, blankBefore, blankAfter}
 use Rattle.refusal.specs.declared.Refusal.{Refusal}
-use Rattle.refusal.specs.declared.Refusal.the-variants.{Range, Count, Short, Character, Blanks, Element, Supply, BlankInside, JukugoBase, Mixed, WesternOver}
+use Rattle.refusal.specs.declared.Refusal.the-variants.{Range, Ratio, Count, Short, Character, Blanks, Element, Supply, BlankInside, JukugoBase, Mixed, WesternOver}
+use Rattle.spread.specs.declared.Ratio.{Ratio as RatioNumbers}
 use Rattle.word.specs.declared.Form.{Form}
 use Rattle.word.specs.declared.Form.the-variants.{P, M, G, J}
 use Rattle.word.specs.Answer.{blankInside, jukugoBase, mixedIn, westernOver}
@@ -23,6 +24,10 @@ emWrong job = eqb (job .em % 2) 1 || outside 2 4096 (job .em)
 
 abbrev pub measureWrong : Job → Bool
 measureWrong job = outside 1 4000000 (job .measure)
+
+-- 15: "a ratio number over 7 or all three 0"
+abbrev pub ratioWrong : RatioNumbers → Bool
+ratioWrong r = ltb 7 (r .a) || (ltb 7 (r .m) || (ltb 7 (r .c) || (eqb (r .a) 0 && (eqb (r .m) 0 && eqb (r .c) 0))))
 
 -- 12: "base list or line list below the base count, ruby list below the ruby count"; base, ruby and lines are the lengths of the result lists
 abbrev pub listShort : Job → ℕ → ℕ → ℕ → Bool
@@ -70,16 +75,25 @@ abbrev pub _when_ : Refusal → Bool → List Refusal
 r when true = r ∷ []
 r when false = []
 
--- "1, 2 and 12, each by lowest place": "At most 1,024 base characters, 2,048 ruby characters, 1,024 elements"
-unfoldable pub jobFaults : Job → ℕ → ℕ → ℕ → List Refusal
-unfolding baseCount rubyCount elementCount
-jobFaults job base ruby lines =
+-- "1, 2 and 12, each by lowest place", and 15 "checked after 1, place 0 for the ruby ratio, 1 for the base"
+abbrev pub houseFaults : Job → List Refusal
+houseFaults job =
     Range 0 when emWrong job
     ++ Range 1 when measureWrong job
-    ++ Count 0 when ltb 1024 (baseCount job)
+    ++ Ratio 0 when ratioWrong (job .ratios .ruby)
+    ++ Ratio 1 when ratioWrong (job .ratios .base)
+
+-- "At most 1,024 base characters, 2,048 ruby characters, 1,024 elements"
+abbrev pub sizeFaults : Job → ℕ → ℕ → ℕ → List Refusal
+sizeFaults job base ruby lines =
+    Count 0 when ltb 1024 (baseCount job)
     ++ Count 1 when ltb 2048 (rubyCount job)
     ++ Count 2 when ltb 1024 (elementCount job)
     ++ Short when listShort job base ruby lines
+
+unfoldable pub jobFaults : Job → ℕ → ℕ → ℕ → List Refusal
+unfolding baseCount rubyCount elementCount
+jobFaults job base ruby lines = houseFaults job ++ sizeFaults job base ruby lines
 
 -- "then base characters and then ruby characters in turn, 3 before 4"; "ruby ones 1,024 + index"
 abbrev pub baseFaults : Job → ℕ → List Refusal

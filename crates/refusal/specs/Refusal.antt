@@ -4,10 +4,11 @@ use mathlib.Core.Bool.{cond}
 use Prim.Native.Nat.{ℕ}
 use lib.Dec.{eqb}
 use Rattle.refusal.specs.declared.Refusal.{Refusal}
-use Rattle.refusal.specs.declared.Refusal.the-variants.{Range, Count, Short, Character, Blanks, Element, Supply, BlankInside, JukugoBase, Mixed, WesternOver, NoBreak, Form}
+use Rattle.refusal.specs.declared.Refusal.the-variants.{Range, Ratio, Count, Short, Character, Blanks, Element, Supply, BlankInside, JukugoBase, Mixed, WesternOver, NoBreak, Form}
 
 abbrev pub numberOf : Refusal → ℕ
 numberOf (Range p) = 1
+numberOf (Ratio p) = 15
 numberOf (Count p) = 2
 numberOf Short = 12
 numberOf (Character p) = 3
@@ -24,6 +25,7 @@ numberOf (Form p) = 13
 -- 12 has the place 0, whichever list is short
 abbrev pub placeOf : Refusal → ℕ
 placeOf (Range p) = p
+placeOf (Ratio p) = p
 placeOf (Count p) = p
 placeOf Short = 0
 placeOf (Character p) = p
@@ -41,6 +43,7 @@ placeOf (Form p) = p
 byPaper : ℕ → ℕ → Refusal
 byPaper n p =
     cond (eqb n 1) (Range p)
+    (cond (eqb n 15) (Ratio p)
     (cond (eqb n 2) (Count p)
     (cond (eqb n 3) (Character p)
     (cond (eqb n 4) (Blanks p)
@@ -51,11 +54,12 @@ byPaper n p =
     (cond (eqb n 9) (Mixed p)
     (cond (eqb n 10) (WesternOver p)
     (cond (eqb n 11) (NoBreak p)
-    (cond (eqb n 13) (Form p) Short)))))))))))
+    (cond (eqb n 13) (Form p) Short))))))))))))
 
 back : (r : Refusal) → byPaper (numberOf r) (placeOf r) ≡ r
 unfolding byPaper
 back (Range p) = refl
+back (Ratio p) = refl
 back (Count p) = refl
 back Short = refl
 back (Character p) = refl
