@@ -3,13 +3,15 @@ use mathlib.Core.Path.{_≡_, refl, sym, ap, _∙_}
 use mathlib.Core.List.{List, [], _∷_, _++_, append-assoc}
 use Prim.Native.Nat.{ℕ, zero, suc, _+_, _≤_, min}
 use native.Mathlib.Omega.{arith}
+use lib.Dec.{ltb}
 use lib.ListN.{length}
 use Rattle.basics.specs.Lists.{each, count}
 use Rattle.refusal.specs.declared.Refusal.{Refusal}
 use Rattle.door.specs.declared.Piece.{Piece}
 use Rattle.door.specs.declared.Checked.the-variants.{Passed, Refused}
 use Rattle.door.specs.Job.{Job, baseCount, rubyCount, elementCount, takesRuns, element, elementsFrom, elements}
-use Rattle.door.specs.Refusals.{baseFaults, rubyFaults, elementFaults, jobFaults, charFaults, elementsFaults, leftFaults, ownFaults}
+use Rattle.refusal.specs.declared.Refusal.the-variants.{Count, Short}
+use Rattle.door.specs.Refusals.{_when_, listShort, baseFaults, rubyFaults, elementFaults, jobFaults, charFaults, elementsFaults, leftFaults, ownFaults}
 use Rattle.door.specs.Verdict.{verdict, passed-none, front-refused, front-passed}
 use Rattle.door.specs.Values.{houseRows, sizeRows, basesOnly, rubiesOnly, BaseHolds, RubyHolds}
 use Rattle.door.specs.Elements.{partsOnly}
@@ -75,9 +77,18 @@ module _ (job : Job) (base ruby lines : ℕ) where
   abbrev pub ahead : List Refusal
   ahead = jobFaults job base ruby lines ++ charFaults job
 
+  own : jobFaults job base ruby lines ≡ house ++ sizes
+  unfolding jobFaults
+  own =
+      let c = Count 0 when ltb 1024 (baseCount job) in
+      let d = Count 1 when ltb 2048 (rubyCount job) in
+      let e = Count 2 when ltb 1024 (elementCount job) in
+      let s = Short when listShort job base ruby lines in
+      ap (λ (l : List Refusal). l ++ e ++ s) (append-assoc house c d) ∙ ap (λ (l : List Refusal). l ++ s) (append-assoc house (c ++ d) e) ∙ append-assoc house (c ++ d ++ e) s
+
   groups : ahead ≡ house ++ (sizes ++ (bases ++ rubies))
-  unfolding jobFaults charFaults
-  groups = append-assoc house sizes (bases ++ rubies)
+  unfolding charFaults
+  groups = ap (λ (l : List Refusal). l ++ (bases ++ rubies)) own ∙ append-assoc house sizes (bases ++ rubies)
 
   pub house-end : {q : Refusal} → verdict house ≡ Refused q → Refused q ≡ verdict ahead
   house-end e = sym (ap verdict groups ∙ front-refused house _ e)
@@ -88,8 +99,7 @@ module _ (job : Job) (base ruby lines : ℕ) where
 
     module _ (two : verdict sizes ≡ Passed) where
       limited : jobFaults job base ruby lines ≡ []
-      unfolding jobFaults
-      limited = rw (passed-none house one, passed-none sizes two)
+      limited = own ∙ rw (passed-none house one, passed-none sizes two)
 
       pub base-holds : BaseHolds (baseCount job) (job .class) (job .width) (job .before) (job .after) (job .flag)
       base-holds =
