@@ -24,7 +24,7 @@ use Rattle.join.specs.Rows.{Holds}
 use Rattle.join.specs.Join.{sound, lines-join, faults-join}
 use Rattle.layout.specs.Walk.{Ready}
 use Rattle.layout.specs.Measure.{unmeasured, same-faults, measured}
-use Rattle.cells.specs.Cells.{linesOf}
+use Rattle.cells.specs.Cells.{size, linesOf}
 use Rattle.filling.specs.declared.Lines.{Lines}
 use Rattle.filling.specs.declared.Lines.the-variants as filling
 use Rattle.filling.specs.Lines.{over, toldOf, extentsOf}
@@ -32,7 +32,7 @@ use Rattle.engine.specs.Fault as fault
 
 -- tables with room for the rows and the lines of a job that is not too large
 pub record Room (job : Job) (t found far : List ℕ) : Type 0 where
-  pub rows : baseCount job ≤ 1024 → 19 * baseCount job ≤ length t
+  pub rows : baseCount job ≤ 1024 → size (baseCount job) ≤ length t
   pub ends : baseCount job ≤ 1024 → baseCount job ≤ length found
   pub extents : baseCount job ≤ 1024 → baseCount job ≤ length far
 
@@ -82,7 +82,7 @@ module _ (job : Job) (base ruby lines : ℕ) where
     few = limits job base ruby lines (first .0) .bases
 
     -- what the layout asks for
-    pub ready : (t : List ℕ) → 19 * baseCount job ≤ length t → Ready (unmeasured job) t
+    pub ready : (t : List ℕ) → size (baseCount job) ≤ length t → Ready (unmeasured job) t
     unfolding baseCount rubyCount elementCount
     ready t h =
         let l = limits job base ruby lines (first .0) in

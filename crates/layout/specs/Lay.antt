@@ -15,7 +15,7 @@ use Rattle.word.specs.Word.{plain}
 use Rattle.word.specs.declared.Word.{Word}
 use Rattle.word.specs.Given.{isJ}
 use Rattle.cells.specs.declared.Cell.{Cell}
-use Rattle.cells.specs.Cells.{cellAt}
+use Rattle.cells.specs.Cells.{size, cellAt}
 use Rattle.cells.specs.Put.{Puts}
 use Rattle.door.specs.declared.Piece.{Piece}
 use Rattle.door.specs.declared.Step.{Step}
@@ -87,7 +87,7 @@ runsOnly em rubyClass rubyWidth run = partsOnly em [] [] [] [] rubyClass rubyWid
 
 -- A J whose runs lie within their lists.
 pub record HasRuns (job : Job) (x : Piece) (t : List ℕ) : Type 0 where
-  pub held : 19 * (x .base + x .bases) ≤ length t
+  pub held : size (x .base + x .bases) ≤ length t
   pub small : x .base + x .bases ≤ 4096
   pub few : x .bases ≤ 32
   pub runs : x .run + x .bases ≤ length (job .run)
@@ -138,7 +138,7 @@ past-run job x k at run own a r o =
 
 -- what the rows of a word with ruby ask for
 pub record ElementReady (job : Job) (x : Piece) (t : List ℕ) : Type 0 where
-  pub held : 19 * (x .base + x .bases) ≤ length t
+  pub held : size (x .base + x .bases) ≤ length t
   pub small : x .base + x .bases ≤ 4096
   pub ruby : x .ruby ≤ 4096
   pub rubies : x .rubies ≤ 4096
@@ -226,7 +226,7 @@ pub record PlainReady (b r : ℕ) (cs ws bs ss fs t : List ℕ) : Type 0 where
   pub after : b < length ss
   pub flag : b < length fs
   pub narrow : getD ws b 0 ≤ 4096
-  pub held : 19 * b + 19 ≤ length t
+  pub held : size (b + 1) ≤ length t
 
 -- the row of base character b, a P before which r ruby characters were taken
 abbrev pub plainRow : ℕ → ℕ → ℕ → List ℕ → List ℕ → List ℕ → List ℕ → List ℕ → Cell
@@ -253,7 +253,7 @@ plainRow b r em class width before after flag =
 pub record Standing (bases rubies : ℕ) (job : Job) (k b r u : ℕ) (t : List ℕ) : Type 0 where
   pub stands : Stands bases rubies job k b r u
   pub flags : bases ≤ length (job .flag)
-  pub room : 19 * bases ≤ length t
+  pub room : size bases ≤ length t
   pub ruby : getD (job .kind) k 0 ≡ 80 → ⊥
 
 -- the rows of an element are written, and no other

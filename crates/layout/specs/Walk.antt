@@ -15,7 +15,7 @@ use Rattle.refusal.specs.declared.Refusal.{Refusal}
 use Rattle.class.specs.Class.{depthsOn}
 use Rattle.word.specs.declared.Form.the-variants.{P}
 use Rattle.word.specs.Word as word
-use Rattle.cells.specs.Cells.{cellAt}
+use Rattle.cells.specs.Cells.{size, cellAt}
 use Rattle.cells.specs.Put.{Puts}
 use Rattle.door.specs.declared.Piece.{Piece}
 use Rattle.door.specs.Job.{Job, baseCount, rubyCount, elementCount, entries, element, elementsFrom, elements, takesRuns}
@@ -41,7 +41,7 @@ pub record Ready (job : Job) (t : List ℕ) : Type 0 where
   pub some : (i : ℕ) → i < baseCount job → 1 ≤ getD (job .width) i 0
   pub narrow : (i : ℕ) → i < baseCount job → getD (job .width) i 0 ≤ 4096
   pub narrowRuby : (i : ℕ) → i < rubyCount job → getD (job .rubyWidth) i 0 ≤ 4096
-  pub room : 19 * baseCount job ≤ length t
+  pub room : size (baseCount job) ≤ length t
 
 pub holds : (job : Job) (t : List ℕ) → Ready job t → loop.Holds (elementCount job) (baseCount job) (rubyCount job) job
 holds job t h =

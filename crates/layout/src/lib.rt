@@ -32,7 +32,7 @@ const NONE: word::Word = word::Word {
 
 // The rows of an M or a G.
 fn put_word(t: &mut [u32], p: door::Piece, w: word::Word, ends: bool)
-    requires { ⌜ (19 * (p .base + p .bases) ≤ length (now t)) × (p .base + p .bases ≤ 4096) × (p .ruby ≤ 4096) × (p .rubies ≤ 4096) ⌝ }
+    requires { ⌜ (size (p .base + p .bases) ≤ length (now t)) × (p .base + p .bases ≤ 4096) × (p .ruby ≤ 4096) × (p .rubies ≤ 4096) ⌝ }
     ensures { λ _. ⌜ Filled (wordRow p w ends 0 0) (p .base) (p .base + p .bases) (now (t .entry)) (now (t .exit)) ⌝ }
 {
     let e = p.base + p.bases;
