@@ -17,6 +17,23 @@ use Rattle.cells.specs.Cells.{size, ratiosAt, cellAt}
 abbrev pub headed : List ℕ → Ratios → List ℕ
 headed t h = set (set (set (set (set (set t 0 (h .ruby .a)) 1 (h .ruby .m)) 2 (h .ruby .c)) 3 (h .base .a)) 4 (h .base .m)) 5 (h .base .c)
 
+pub length-headed : (t : List ℕ) (h : Ratios) → length (headed t h) ≡ length t
+length-headed t h = simp length-set
+
+pub head-written : (t : List ℕ) (h : Ratios) → size 0 ≤ length t → ratiosAt (headed t h) ≡ h
+head-written t h l = go t (h .ruby .a) (h .ruby .m) (h .ruby .c) (h .base .a) (h .base .m) (h .base .c) l
+  where
+    go : (t : List ℕ) (a m c d n e : ℕ) → 6 ≤ length t →
+        let r : Ratios = record { ruby = record { a = a; m = m; c = c }; base = record { a = d; m = n; c = e } } in
+        ratiosAt (headed t r) ≡ r
+    go [] a m c d n e l = absurd (omega arith)
+    go (_ ∷ []) a m c d n e l = absurd (omega arith)
+    go (_ ∷ _ ∷ []) a m c d n e l = absurd (omega arith)
+    go (_ ∷ _ ∷ _ ∷ []) a m c d n e l = absurd (omega arith)
+    go (_ ∷ _ ∷ _ ∷ _ ∷ []) a m c d n e l = absurd (omega arith)
+    go (_ ∷ _ ∷ _ ∷ _ ∷ _ ∷ []) a m c d n e l = absurd (omega arith)
+    go (_ ∷ _ ∷ _ ∷ _ ∷ _ ∷ _ ∷ t) a m c d n e l = refl
+
 abbrev pub bitOf : Bool → ℕ
 bitOf b = cond b 1 0
 

@@ -48,6 +48,26 @@ jobOf em measure ratios class width before after flag rubyClass rubyWidth kind e
       run = run;
     }
 
+-- the job with another measure
+abbrev pub withMeasure : ℕ → Job → Job
+withMeasure measure job =
+    record {
+      em = job .em;
+      measure = measure;
+      ratios = job .ratios;
+      class = job .class;
+      width = job .width;
+      before = job .before;
+      after = job .after;
+      flag = job .flag;
+      rubyClass = job .rubyClass;
+      rubyWidth = job .rubyWidth;
+      kind = job .kind;
+      elementBase = job .elementBase;
+      elementRuby = job .elementRuby;
+      run = job .run;
+    }
+
 -- "Where a kind's fields come in several lists, its count is the shortest list's length"
 unfoldable pub baseCount : Job → ℕ
 baseCount job = min (length (job .class)) (min (length (job .width)) (min (length (job .before)) (min (length (job .after)) (length (job .flag)))))
