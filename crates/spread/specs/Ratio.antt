@@ -1,5 +1,5 @@
 -- The ratios that a job carries (R-4): "one for spread ruby and one for spread base, each of three numbers a, m, c from 0 to 7".
-use mathlib.Core.List.{List, []}
+use mathlib.Core.List.{List, [], _∷_}
 use Prim.Native.Nat.{ℕ, _+_, _≤_, _<_}
 use lib.ListN.{getD}
 use Rattle.spread.specs.declared.Which.{Which}
@@ -25,6 +25,9 @@ ratioFor Base r = r .base
 -- 1:2:1, for both: what document 01 has, and every sheet of form one
 abbrev pub oneTwoOne : Ratio
 oneTwoOne = record { a = 1; m = 2; c = 1 }
+
+abbrev pub usualLists : List (List ℕ)
+usualLists = (1 ∷ 2 ∷ 1 ∷ []) ∷ (1 ∷ 2 ∷ 1 ∷ []) ∷ []
 
 abbrev pub usual : Ratios
 usual = record { ruby = oneTwoOne; base = oneTwoOne }

@@ -21,6 +21,9 @@ pub enum Which {
     Base,
 }
 
+// 1:2:1 for both, as document 01 has it: what a sheet without ratios means.
+pub const USUAL: [[u32; 3]; 2] = [[1, 2, 1], [1, 2, 1]];
+
 // A house ratio (R-4): the parts of the gap in front, of each gap within and of the gap behind.
 pub struct Ratio {
     pub a: u32,

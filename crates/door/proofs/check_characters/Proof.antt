@@ -73,7 +73,7 @@ enum-told-2 : tie.Need-enum-told-2
 enum-told-2 c = search needs
 
 returns : tie.Need-returns
-returns c = 
+returns c =
     let ch = c .before .before in
     let a = start ch in
     c .enum-told2 .given .1 ∙ whole.house-end (job a) (a .args .base) (a .args .ruby) (a .args .lines) (house ch ∙ c .enum-told2 .given .1)
@@ -97,7 +97,7 @@ enum-told-4 : tie.Need-enum-told-4
 enum-told-4 c = search needs
 
 returns-2 : tie.Need-returns-2
-returns-2 c = 
+returns-2 c =
     let cs = c .before .before in
     let bc = cs .before .before .before in
     let a = origin bc in
@@ -118,7 +118,7 @@ enum-told-6 : tie.Need-enum-told-6
 enum-told-6 c = search needs
 
 returns-3 : tie.Need-returns-3
-returns-3 c = 
+returns-3 c =
     let cb = c .before .before in
     let bc = cb .before .before .before .before .before .before in
     let a = origin bc in
@@ -135,7 +135,7 @@ check-rubies-requires c κs =
     (whole.ruby-holds (job a) (x .base) (x .ruby) (x .lines) (one (rc .before .before)) (two second))
 
 returns-4 : tie.Need-returns-4
-returns-4 c = 
+returns-4 c =
     let third = c .before in
     let cb = third .before .before in
     let second = cb .before in

@@ -31,13 +31,13 @@ ratio-wrong-requires-2 : tie.Need-ratio-wrong-requires-2
 ratio-wrong-requires-2 c κs = search needs
 
 returns-4 : tie.Need-returns-4
-returns-4 c = 
+returns-4 c =
     let r = c .before .before .before in
     let e = r .before .before .before in
     rw (← e .before .before .before .em-wrong .ensures, e .before .before .if1 .left, ← e .before .is-outside .ensures, e .if2 .left, ← r .before .ratio-wrong .ensures, r .if3 .left, ← c .before .ratio-wrong2 .ensures, c .if4 .taken)
 
 returns-5 : tie.Need-returns-5
-returns-5 c = 
+returns-5 c =
     let r = c .before .before .before in
     let e = r .before .before .before in
     rw (← e .before .before .before .em-wrong .ensures, e .before .before .if1 .left, ← e .before .is-outside .ensures, e .if2 .left, ← r .before .ratio-wrong .ensures, r .if3 .left, ← c .before .ratio-wrong2 .ensures, c .if4 .left)

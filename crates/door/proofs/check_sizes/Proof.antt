@@ -17,13 +17,13 @@ too-short-requires : tie.Need-too-short-requires
 too-short-requires c κs = search needs
 
 returns-4 : tie.Need-returns-4
-returns-4 c = 
+returns-4 c =
     let e = c .before .before in
     let x = e .before .before .before .args in
     rw (le-ltb 1024 (x .bases) (e .before .before .if1 .left), le-ltb 2048 (x .rubies) (e .before .if2 .left), le-ltb 1024 (x .elements) (e .if3 .left), ← c .before .too-short .ensures, c .if4 .taken)
 
 returns-5 : tie.Need-returns-5
-returns-5 c = 
+returns-5 c =
     let e = c .before .before in
     let x = e .before .before .before .args in
     rw (le-ltb 1024 (x .bases) (e .before .before .if1 .left), le-ltb 2048 (x .rubies) (e .before .if2 .left), le-ltb 1024 (x .elements) (e .if3 .left), ← c .before .too-short .ensures, c .if4 .left)
