@@ -5,7 +5,8 @@
  * for <stdint.h>, which C99 and C++11 have; a C89 compiler without it needs the types uint8_t and uint32_t declared before.
  *
  * All numbers are those of the scope document ("document 01"): widths are whole units, positions are half units from the
- * start of the line, places count from 0 except where the document says "line from 1".
+ * start of the line, places count from 0 except where the document says "line from 1". The ratios and number 15 are those of
+ * the request R-4.
  *
  * What a caller must guarantee, since no proof can see it:
  *   - each pointer is not null and is aligned for its type, also where its length is 0, and may be read (or, for the lists
