@@ -191,8 +191,8 @@ static u32 sum_over(u32 sum, const u32 *list, u32 n)
 
 /* A job: its ratios and its eleven lists, each of these with its length. */
 #define JOB \
-    EM, measure, ruby_ratio, base_ratio, class_, bases, width, bases, before, bases, after, bases, flag, bases, rclass, rubies, rwidth, rubies, \
-        kind, elements, ebase, elements, eruby, elements, run, runs
+    EM, measure, ruby_ratio, base_ratio, class_, bases, width, bases, before, bases, after, bases, flag, bases, rclass, rubies, \
+        rwidth, rubies, kind, elements, ebase, elements, eruby, elements, run, runs
 
 #ifdef ACCOUNT
 static bv_answer asked(void)

@@ -288,10 +288,10 @@ struct gaps {
 };
 
 /*
- * "With S = a + m(n - 1) + c, the front gap is floor(2D * a / S), the rear gap floor(2D * c / S)". With one character, or with m = 0,
- * the rear gap takes what is left; one character is centred if a and c are 0, and so it is wherever they are equal. Then, too, one
- * division does for both gaps, and with m = 0 it gives D. "The half-em limit stays where it stood, at either end, and only if m is
- * not 0." D is at most 262,144, so that no product is too large.
+ * "With S = a + m(n - 1) + c, the front gap is floor(2D * a / S), the rear gap floor(2D * c / S)". With one character, or with
+ * m = 0, the rear gap takes what is left; one character is centred if a and c are 0, and so it is wherever they are equal. Then,
+ * too, one division does for both gaps, and with m = 0 it gives D. "The half-em limit stays where it stood, at either end, and
+ * only if m is not 0." D is at most 262,144, so that no product is too large.
  */
 WITHIN static struct gaps gaps_of(int way, u32 most, const struct ratio *by, u32 d, u32 n)
 {
@@ -392,7 +392,8 @@ static u32 jukugo(struct word *w, const struct job *j, u32 b, u32 n, u32 r, u32 
 
 /*
  * n of the `all` base characters of a J: "a part of one character is set as M, a part of more as J". A J of one character is
- * no part: with a run longer than one em it is set as G, which differs from M by the front gap. Returns how many ruby characters it has.
+ * no part: with a run longer than one em it is set as G, which differs from M by the front gap. Returns how many ruby
+ * characters it has.
  */
 static u32 part(struct word *w, const struct job *j, u32 b, u32 n, u32 all, u32 r, u32 u)
 {

@@ -1,15 +1,15 @@
 /*
- * House ratios through bolyverit.h: one line is set with 1:2:1, with shoulder-set readings (0:0:1) and with 1:3:1, and printed as
- * the setting program does, each after its ratios. Two calls with a ratio that is none follow.
+ * House ratios through bolyverit.h: one line is set with 1:2:1, with shoulder-set readings (0:0:1) and with 1:3:1, and printed
+ * as the setting program does, each after its ratios. Two calls with a ratio that is none follow.
  *
  *     cc -Iinclude examples/c/ratios.c target/staticlib/libexports.a -o ratios
  *
- * The line: a word of three characters with a reading of two, which is spread over it; a comma with a blank after it; a word of
- * three with a reading of eight, which spreads it; an opening bracket with a blank before it. Em 10, base characters 10 wide, ruby
- * characters 5, blanks 5. ratios.result is worked by hand. 2D is the space in half units, S = a + m(n - 1) + c:
+ * The line: a word of three characters with a reading of two, which is spread over it; a comma with a blank after it; a word
+ * of three with a reading of eight, which spreads it; an opening bracket with a blank before it. Em 10, base characters 10
+ * wide, ruby characters 5, blanks 5. ratios.result is worked by hand. 2D is the space in half units, S = a + m(n - 1) + c:
  *
  *   first word      2D = 2 * (30 - 10) = 40, n = 2
- *     1:2:1         S = 4: front 40 / 4 = 10, rear 10, just the half em they may have; 20 within. Ruby 10, 10 + 10 + 20 = 40, to 50.
+ *     1:2:1         S = 4: front 40 / 4 = 10, rear 10, just the half em; 20 within. Ruby 10, 10 + 10 + 20 = 40, to 50.
  *     0:0:1         S = 1: front 0, rear 40, none within. Ruby 0, 10, to 20.
  *     1:3:1         S = 5: front 40 / 5 = 8, rear 8; 24 within. Ruby 8, 8 + 10 + 24 = 42, to 52.
  *   The word's base stands at 0, 20, 40, and the comma at 60, to 80. Ruby may lie on its last 10.
