@@ -275,6 +275,15 @@ fn plain_step(w: word::Word, before: u32, after: u32, st: line::State) -> Step
     }
 }
 
+// The part of a J from i up to c after the line so far.
+pub fn advance_cut(t: &[u32], i: usize, c: usize, em: u32, st: line::State) -> Step
+    requires { ⌜ (cellAt (now t) i .cut ≡ true) × (Advances em (now t) st i c) ⌝ }
+    ensures { λ r. ⌜ r ≡ stepAt em (now (t .entry)) st i c ⌝ }
+{
+    let a = cell_at(t, i);
+    step_of(part_upto(t, i, c, em), a.before, a.after, st)
+}
+
 // The piece from i up to c after the line so far.
 pub fn advance(t: &[u32], i: usize, c: usize, em: u32, st: line::State) -> Step
     requires { ⌜ Advances em (now t) st i c ⌝ }
