@@ -20,7 +20,7 @@ sys.path.insert(0, HERE)
 import compare      # noqa: E402  (found through the path set above)
 import generate     # noqa: E402
 import second       # noqa: E402
-from second import G, P, answer, set_job  # noqa: E402
+from second import G, ONE_TWO_ONE, P, answer, set_job  # noqa: E402
 
 BIG = 4294967295
 
@@ -140,14 +140,15 @@ def as_lists(elements):
 class Lists:
     """A list-level call on a job of elements, with some lists replaced."""
 
-    def __init__(self, elements, em=10, measure=4000, room=None, **replaced):
+    def __init__(self, elements, em=10, measure=4000, ratios=ONE_TWO_ONE,
+                 room=None, **replaced):
         arguments = as_lists(elements)
         arguments.update(replaced)
         base, ruby, line = room if room else (1024, 2048, 1024)
         self.base_out = [77] * base
         self.ruby_out = [77] * ruby
         self.line_out = [77] * line
-        self.result = set_job(em, measure, base_out=self.base_out,
+        self.result = set_job(em, measure, ratios, base_out=self.base_out,
                               ruby_out=self.ruby_out,
                               line_out=self.line_out, **arguments)
         outs = self.base_out + self.ruby_out + self.line_out
@@ -774,8 +775,8 @@ class Refusals(Case):
 
     def test_12_empty_lists(self):
         # Nothing to set: empty lists are enough.
-        result = set_job(10, 10, [], [], [], [], [], [], [], [], [], [], [],
-                         [], [], [])
+        result = set_job(10, 10, ONE_TWO_ONE, [], [], [], [], [], [], [], [],
+                         [], [], [], [], [], [])
         self.assertEqual(result, ('set', 0))
 
     def test_3_class(self):
@@ -1438,6 +1439,7 @@ def accepted_jobs(seed, count):
         try:
             job = second.Job(*second.read_sheet(text))
             second.check_sizes(job)
+            second.check_ratios(job)
             second.check_counts(job)
             second.check_characters(job)
             second.take_elements(job)

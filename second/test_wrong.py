@@ -40,71 +40,76 @@ def wrong(name):
 
 @wrong('the half-em limit applied to Western base')
 def _():
-    def set_group(em, base_western, base, ruby_western, ruby):
+    def set_group(em, ratios, base_western, base, ruby_western, ruby):
         if base_western and sum(ruby) < sum(base):
-            return second.spread_ruby(base, ruby, em)
-        return right['set_group'](em, base_western, base, ruby_western, ruby)
+            return second.spread_ruby(ratios, base, ruby, em)
+        return right['set_group'](em, ratios, base_western, base,
+                                  ruby_western, ruby)
     return {'set_group': set_group}
 
 
 @wrong('the half-em limit applied to base being spread')
 def _():
-    def set_group(em, base_western, base, ruby_western, ruby):
+    def set_group(em, ratios, base_western, base, ruby_western, ruby):
         if not base_western and sum(ruby) > sum(base):
-            positions = second.spread(base, sum(ruby) - sum(base), em)
+            positions = second.spread(base, sum(ruby) - sum(base), ratios[1],
+                                      em)
             return positions, second.one_after_another(0, ruby)
-        return right['set_group'](em, base_western, base, ruby_western, ruby)
+        return right['set_group'](em, ratios, base_western, base,
+                                  ruby_western, ruby)
     return {'set_group': set_group}
 
 
 @wrong('the half-em limit taken as em units')
 def _():
-    def spread(widths, difference, limit):
-        return right['spread'](widths, difference,
+    def spread(widths, difference, ratio, limit):
+        return right['spread'](widths, difference, ratio,
                                None if limit is None else 2 * limit)
     return {'spread': spread}
 
 
 @wrong('a jukugo run compared with the sum of base widths')
 def _():
-    def set_jukugo(em, base, runs, ruby_western, ruby):
-        return right['set_jukugo'](sum(base), base, runs, ruby_western, ruby)
+    def set_jukugo(em, ratios, base, runs, ruby_western, ruby):
+        return right['set_jukugo'](sum(base), ratios, base, runs,
+                                   ruby_western, ruby)
     return {'set_jukugo': set_jukugo}
 
 
 @wrong('a run of exactly one em taken as longer')
 def _():
-    def set_jukugo(em, base, runs, ruby_western, ruby):
+    def set_jukugo(em, ratios, base, runs, ruby_western, ruby):
         pieces = second.cut_into_runs(runs, ruby)
         if any(sum(piece) >= em for piece in pieces):
-            return second.set_group(em, False, base, ruby_western, ruby)
-        return right['set_jukugo'](em, base, runs, ruby_western, ruby)
+            return second.set_group(em, ratios, False, base,
+                                    ruby_western, ruby)
+        return right['set_jukugo'](em, ratios, base, runs, ruby_western, ruby)
     return {'set_jukugo': set_jukugo}
 
 
 @wrong('a single spread character pushed to the front')
 def _():
-    def spread(widths, difference, limit):
+    def spread(widths, difference, ratio, limit):
         if len(widths) == 1:
             return [0]
-        return right['spread'](widths, difference, limit)
+        return right['spread'](widths, difference, ratio, limit)
     return {'spread': spread}
 
 
 @wrong('a single spread character held by the limit')
 def _():
-    def spread(widths, difference, limit):
+    def spread(widths, difference, ratio, limit):
         if len(widths) == 1 and limit is not None:
             return [min(difference, limit)]
-        return right['spread'](widths, difference, limit)
+        return right['spread'](widths, difference, ratio, limit)
     return {'spread': spread}
 
 
 @wrong('equal inner gaps, rounded down: the remainder dropped')
 def _():
-    def spread(widths, difference, limit):
+    def spread(widths, difference, ratio, limit):
         n = len(widths)
-        positions = right['spread'](widths, difference, limit)
+        positions = right['spread'](widths, difference, ratio, limit)
         if n == 1:
             return positions
         inner = (2 * difference - 2 * positions[0]) // (n - 1)
@@ -120,9 +125,9 @@ def by_pencil(full):
     the number of characters, `before` what was carried up to this gap and
     `left` that and the remainder.  R-2 has left >= n - 1.
     """
-    def spread(widths, difference, limit):
+    def spread(widths, difference, ratio, limit):
         n = len(widths)
-        positions = right['spread'](widths, difference, limit)[:1]
+        positions = right['spread'](widths, difference, ratio, limit)[:1]
         if n == 1:
             return positions
         quotient, remainder = divmod(2 * difference - 2 * positions[0], n - 1)
@@ -151,7 +156,7 @@ def _():
 def _():
     def set_mono(base, ruby):
         if sum(ruby) < sum(base):
-            return second.spread_ruby(base, ruby, None)
+            return second.spread_ruby(second.ONE_TWO_ONE, base, ruby, None)
         return right['set_mono'](base, ruby)
     return {'set_mono': set_mono}
 
@@ -170,7 +175,8 @@ def _():
             count = len(word.ruby_positions)
             ruby = job.ruby_width[word.ruby_first:word.ruby_first + count]
             kind = second.is_western(job.ruby_class[word.ruby_first])
-            places = second.set_group(job.em, False, base, kind, ruby)
+            places = second.set_group(job.em, job.ratios, False, base, kind,
+                                      ruby)
             return second.Word(first, places[0], places[0][-1] + 2 * base[-1],
                                word.ruby_first, places[1],
                                places[1][-1] + 2 * ruby[-1])
