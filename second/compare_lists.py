@@ -28,7 +28,8 @@ import compare          # noqa: E402  (found through the path set above)
 import generate_lists   # noqa: E402
 import lists            # noqa: E402
 
-SHOWN = 5       # differences that are printed
+SHOWN = 5       # jobs with a difference that are printed
+WRONG = 8       # things that are printed of one such job
 ENOUGH = 2000   # jobs that have to show every refusal
 
 # Every number of the refusal list that a job in lists can get.
@@ -88,15 +89,14 @@ def verdict_words(answer):
     return ' '.join(map(str, answer))
 
 
-def parts(call):
-    """(name, place in the memory, length) of each list and of the rest."""
+def labels(call):
+    """What each word of the memory is."""
     names = ('ruby ratio', 'base ratio') + GIVEN + RESULTS[call.which]
-    place = 0
     for name, length in zip(names, [3, 3] + call.lengths()):
-        yield 'the word before %s' % name, place, 1
-        yield name, place + 1, length
-        place += 1 + length
-    yield 'the word behind %s' % names[-1], place, 1
+        yield 'the word before %s' % name
+        for place in range(length):
+            yield '%s[%d]' % (name, place)
+    yield 'the word behind %s' % names[-1]
 
 
 def wrong_things(call, expected, found):
@@ -108,19 +108,17 @@ def wrong_things(call, expected, found):
     if told != answer:
         wrong.append('%s, not %s' % (verdict_words(told),
                                      verdict_words(answer)))
-    for name, place, length in parts(call):
-        for i in range(length):
-            if other[place + i] != memory[place + i]:
-                wrong.append('%s[%d]: %d, not %d' % (
-                    name, i, other[place + i], memory[place + i]))
-                break
-    return wrong
+    return wrong + ['%s: %d, not %d' % words
+                    for words in zip(labels(call), other, memory)
+                    if words[1] != words[2]]
 
 
 def show_difference(number, call, wrong):
     print('difference: job %d, %s' % (number, NAMES[call.which]))
-    for words in wrong:
+    for words in wrong[:WRONG]:
         print('    %s' % words)
+    if len(wrong) > WRONG:
+        print('    and %d more' % (len(wrong) - WRONG))
     print('    em %d, measure %d, ratios %s and %s' % (
         call.em, call.measure, *(':'.join(map(str, ratio))
                                  for ratio in call.ratios)))

@@ -34,7 +34,7 @@ def sound_ratio(rng):
     ratio = pick(
         rng, (4, (1, 2, 1)), (2, (0, 0, 1)), (1, (1, 0, 0)), (1, (1, 3, 1)),
         (1, (0, 1 + rng.randrange(7), 0)),
-        (2, (rng.randrange(8), 0, rng.randrange(8))),
+        (4, (rng.randrange(8), 0, rng.randrange(8))),
         (2, (0, 1 + rng.randrange(7), rng.randrange(8))),
         (2, (rng.randrange(8), 1 + rng.randrange(7), 0)),
         (8, (rng.randrange(8), rng.randrange(8), rng.randrange(8))))
@@ -79,9 +79,9 @@ def some_sheet(rng):
                 (40, generate.opening), (20, generate.later),
                 (60, generate.tight), (220, generate.one_fault),
                 (60, generate.two_faults), (60, generate.meeting_faults),
-                (10, generate.spare), (2, generate.great),
-                (1, generate.great_plain), (1, generate.great_words),
-                (1, generate.great_wide))(rng)
+                (10, generate.spare), (4, generate.great),
+                (2, generate.great_plain), (3, generate.great_words),
+                (3, generate.great_wide))(rng)
 
 
 def read_job(rng):
@@ -177,8 +177,8 @@ def some_job(rng):
     ratios = pick(rng, (1, second.ONE_TWO_ONE),
                   (7, (sound_ratio(rng), sound_ratio(rng))))
     short = rng.randrange(25) == 0
-    way = pick(rng, (70, 'as it is'), (8, 'not read'), (10, 'lists'),
-               (4, 'ratio'), (1, 'count'), (7, 'door'))
+    way = pick(rng, (67, 'as it is'), (8, 'not read'), (10, 'lists'),
+               (6, 'ratio'), (1, 'count'), (8, 'door'))
     if way == 'not read':
         change_not_read(rng, given)
     elif way == 'lists':
