@@ -226,7 +226,6 @@ class Comparison(unittest.TestCase):
         # Six jobs have twelve calls; the 4th, 8th and 12th have no answer.
         self.assertEqual(self.differences(engine(change), 6), 3)
         # All answers, and then a bad end: the last call is blamed.
-        change += '\n    if number == 12: break'
         self.assertEqual(self.differences(engine(
             '    if number == 12:\n'
             '        sys.stdout.buffer.write(content)\n'
