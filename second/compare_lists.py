@@ -11,8 +11,9 @@ refusal alters none of them; that the lists which are read, and what stands
 around all of them, are as they were.
 
 The last line is `compared N jobs, D differences`, and the line before says
-what was seen.  The exit status is 0 only if D is 0 and, with 2,000 jobs and
-more, every refusal of a job in lists and enough accepted jobs were seen.
+what was seen.  The exit status is 0 only if D is 0 and, with 4,000 jobs and
+more, every refusal of a job in lists, every ratio with numbers from 0 to 8 on
+either side and enough accepted jobs were seen.
 """
 
 import argparse
@@ -30,7 +31,7 @@ import lists            # noqa: E402
 
 SHOWN = 5       # jobs with a difference that are printed
 WRONG = 8       # things that are printed of one such job
-ENOUGH = 2000   # jobs that have to show every refusal
+ENOUGH = 4000   # jobs that have to show every refusal and every ratio
 
 # Every number of the refusal list that a job in lists can get.
 REFUSALS = (1, 2, 3, 4, 5, 6, 7, 8, 9, 10, 11, 12, 15)
@@ -133,46 +134,68 @@ def show_difference(number, call, wrong):
 # What was seen
 # ---------------------------------------------------------------------------
 
-def seen_words(seen):
-    refused = ', '.join('%d by %d' % (seen[number], number)
-                        for number in sorted(seen) if number != 0)
-    return 'seen: %d accepted; refused %s' % (seen[0], refused or 'none')
+class Seen:
+    """Counts over the jobs and the second program's answers."""
 
+    def __init__(self):
+        self.answers = collections.Counter()    # by number, 0 if accepted
+        self.ratios = (set(), set())            # of ruby and of base
 
-def missing(seen):
-    """What some thousands of jobs should have shown and did not."""
-    for number in REFUSALS:
-        if seen[number] == 0:
-            yield 'no job refused by %d' % number
-    count = sum(seen.values())
-    if seen[0] < count // 4:
-        yield '%d accepted of %d jobs' % (seen[0], count)
+    def add(self, call, answer):
+        self.answers[0 if answer[0] == 'set' else answer[1]] += 1
+        for side, ratio in zip(self.ratios, call.ratios):
+            side.add(tuple(ratio))
+
+    def jobs(self):
+        return sum(self.answers.values())
+
+    def words(self):
+        refused = ', '.join('%d by %d' % (count, number) for number, count
+                            in sorted(self.answers.items()) if number != 0)
+        return ('seen: %d accepted; refused %s; %d ratios of ruby, %d of base'
+                % (self.answers[0], refused or 'none',
+                   *map(len, self.ratios)))
+
+    def missing(self):
+        """What some thousands of jobs should have shown and did not."""
+        for number in REFUSALS:
+            if self.answers[number] == 0:
+                yield 'no job refused by %d' % number
+        if self.answers[0] < self.jobs() // 4:
+            yield '%d accepted of %d jobs' % (self.answers[0], self.jobs())
+        for side, name in zip(self.ratios, ('ruby', 'base')):
+            for ratio in generate_lists.ALL:
+                if ratio not in side:
+                    yield 'no job with %d:%d:%d for %s' % (*ratio, name)
 
 
 # ---------------------------------------------------------------------------
 # The comparison
 # ---------------------------------------------------------------------------
 
-def compare_all(command, seed, count, functions=len(NAMES)):
-    """(jobs seen by their number, 0 if accepted; jobs with a difference)"""
-    seen, differences, number = collections.Counter(), 0, 0
+def answered_jobs(command, seed, count, functions):
+    """For each job its calls, each as (call, expected, what was found)."""
     for batch in compare.batches(generate_lists.calls(seed, count)):
-        calls = [call for both in batch for call in both[:functions]]
-        answers = iter(engine_answers(command, calls))
-        for both in batch:
-            bad = False
-            for call in both[:functions]:
-                expected, found = call.answered(), next(answers)
-                if call.which == lists.SET:
-                    verdict = expected[0]
-                    seen[0 if verdict[0] == 'set' else verdict[1]] += 1
-                if found != expected:
-                    if differences < SHOWN:
-                        show_difference(number, call, wrong_things(
-                            call, expected, found))
-                    bad = True
-            differences += bad
-            number += 1
+        batch = [both[:functions] for both in batch]
+        found = iter(engine_answers(command, [call for calls in batch
+                                              for call in calls]))
+        for calls in batch:
+            yield [(call, call.answered(), next(found)) for call in calls]
+
+
+def compare_all(command, seed, count, functions=len(NAMES)):
+    """(what was seen, jobs with a difference)"""
+    seen, differences = Seen(), 0
+    for job in answered_jobs(command, seed, count, functions):
+        call, (answer, _), _ = job[0]
+        seen.add(call, answer)
+        wrong = [each for each in job if each[1] != each[2]]
+        if wrong:
+            differences += 1
+            if differences <= SHOWN:
+                call, expected, found = wrong[0]
+                show_difference(seen.jobs() - 1, call,
+                                wrong_things(call, expected, found))
     return seen, differences
 
 
@@ -187,13 +210,12 @@ def main():
     seen, differences = compare_all(
         shlex.split(chosen.engine), chosen.seed, chosen.count,
         1 if chosen.setting_only else len(NAMES))
-    print(seen_words(seen))
-    lacking = list(missing(seen)) if chosen.count >= ENOUGH else []
-    for words in lacking:
+    missing = list(seen.missing()) if chosen.count >= ENOUGH else []
+    for words in missing:
         print('missing: %s' % words)
-    print('compared %d jobs, %d differences'
-          % (sum(seen.values()), differences))
-    sys.exit(0 if differences == 0 and not lacking else 1)
+    print(seen.words())
+    print('compared %d jobs, %d differences' % (seen.jobs(), differences))
+    sys.exit(0 if differences == 0 and not missing else 1)
 
 
 if __name__ == '__main__':

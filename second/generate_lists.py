@@ -29,45 +29,79 @@ MOST = (1024, 2048, 1024)
 # Ratios
 # ---------------------------------------------------------------------------
 
-def sound_ratio(rng):
-    """Three numbers from 0 to 7, not all of them 0."""
-    ratio = pick(
-        rng, (4, (1, 2, 1)), (2, (0, 0, 1)), (1, (1, 0, 0)), (1, (1, 3, 1)),
-        (1, (0, 1 + rng.randrange(7), 0)),
-        (4, (rng.randrange(8), 0, rng.randrange(8))),
-        (2, (0, 1 + rng.randrange(7), rng.randrange(8))),
-        (2, (rng.randrange(8), 1 + rng.randrange(7), 0)),
-        (8, (rng.randrange(8), rng.randrange(8), rng.randrange(8))))
-    return ratio if any(ratio) else (7, 7, 7)
+ALL = [(a, m, c) for a in range(9) for m in range(9) for c in range(9)]
+BAD = [ratio for ratio in ALL if 8 in ratio or not any(ratio)]
+SOUND = [ratio for ratio in ALL if ratio not in BAD]
 
 
-def bad_ratio(rng):
-    """A number over 7, or three that are 0."""
-    if rng.randrange(3) == 0:
-        return (0, 0, 0)
-    ratio = list(rng.choice((sound_ratio(rng), (0, 0, 0))))
-    ratio[rng.randrange(3)] = rng.choice((8, 8, 8, 9, 256, TOO_BIG))
-    return tuple(ratio)
+class Ratios:
+    """The ratios of ruby, or of base.
+
+    Some are common, and every one with numbers from 0 to 8 has its turn.
+    """
+
+    def __init__(self, rng):
+        self.rng = rng
+        self.left = {'sound': [], 'bad': []}
+
+    def in_turn(self, name, ratios):
+        left = self.left[name]
+        if not left:
+            left += ratios
+        return left.pop(self.rng.randrange(len(left)))
+
+    def sound(self):
+        """Three numbers from 0 to 7, not all of them 0."""
+        rng = self.rng
+        way = pick(rng, (8, '1:2:1'), (4, '0:0:1'), (2, '1:0:0'),
+                   (2, '1:3:1'), (2, '0:m:0'), (6, 'a:0:c'), (4, '0:m:c'),
+                   (4, 'a:m:0'), (28, 'in turn'))
+        if way == 'in turn':
+            return self.in_turn('sound', SOUND)
+        numbers = {'a': 1 + rng.randrange(7), 'm': 1 + rng.randrange(7),
+                   'c': 1 + rng.randrange(7)}
+        return tuple(numbers[name] if name in numbers else int(name)
+                     for name in way.split(':'))
+
+    def bad(self):
+        """A number over 7, or three that are 0."""
+        way = pick(self.rng, (5, 'in turn'), (1, 'zeros'), (1, 'great'))
+        if way == 'in turn':
+            return self.in_turn('bad', BAD)
+        if way == 'zeros':
+            return (0, 0, 0)
+        ratio = list(self.rng.choice(SOUND))
+        ratio[self.rng.randrange(3)] = self.rng.choice((9, 256, TOO_BIG))
+        return tuple(ratio)
 
 
-def fault_15(rng, ratios):
-    """One of the ratios bad, or both."""
-    return pick(rng, (2, (bad_ratio(rng), ratios[1])),
-                (2, (ratios[0], bad_ratio(rng))),
-                (2, (bad_ratio(rng), bad_ratio(rng))))
+def some_ratios(rng, sides, sound):
+    """The ratios of both sides, or with one of them bad, or both."""
+    bad = () if sound else rng.choice(((0,), (1,), (0, 1)))
+    return tuple(side.bad() if place in bad else side.sound()
+                 for place, side in enumerate(sides))
 
 
 # ---------------------------------------------------------------------------
 # Jobs
 # ---------------------------------------------------------------------------
 
+def add_wide_group(rng, draft):
+    """A group with much space for its ruby: mostly more than the limit."""
+    em = draft.em
+    base = [[rng.choice((19, 19, 19, 27)), em]] * (2 + rng.randrange(6))
+    ruby = [[15, clip(em // 2 + rng.randrange(3), 1, em)]
+            for _ in range(1 + rng.randrange(4))]
+    draft.add(base, ruby, ['G', len(base), len(ruby)])
+
+
 def words(rng):
     """A few words, mostly groups and jukugo, in one line or cut."""
     draft = generate.Draft(generate.some_em(rng))
     for _ in range(1 + rng.randrange(4)):
         pick(rng, (1, generate.add_plain), (1, generate.add_mono),
-             (6, generate.add_group), (3, generate.add_jukugo),
-             (2, generate.add_long_group))(rng, draft)
+             (5, generate.add_group), (3, generate.add_jukugo),
+             (2, generate.add_long_group), (2, add_wide_group))(rng, draft)
     generate.put_flags(rng, draft)
     generate.put_measure(rng, draft)
     return draft.text()
@@ -136,17 +170,9 @@ def fault_2(rng, given):
             del given[rng.choice(GROUPS[group])][MOST[group]:]
 
 
-def faults_at_the_door(rng, job):
-    """Some of 1, 15, 2 and 12 together: their order decides."""
-    em, measure, ratios, given, short = job
-    if rng.randrange(2) == 0:
-        em = rng.choice((em, 0, em + 1, 4098, TOO_BIG))
-        measure = rng.choice((measure, 0, 4000001))
-    if rng.randrange(4) != 0:
-        ratios = fault_15(rng, ratios)
-    if rng.randrange(3) == 0:
-        fault_2(rng, given)
-    return em, measure, ratios, given, short or rng.randrange(3) == 0
+def fault_1(rng, em, measure):
+    return (rng.choice((em, 0, em ^ 1, 4098, TOO_BIG)),
+            rng.choice((measure, 0, 4000001)))
 
 
 def count_of(given, group):
@@ -171,30 +197,34 @@ def rooms(rng, needs, most, short):
 # The calls
 # ---------------------------------------------------------------------------
 
-def some_job(rng):
-    """(em, measure, ratios, lists, whether result lists are too short)"""
+def some_job(rng, sides):
+    """(em, measure, ratios, lists, whether result lists are too short)
+
+    sides has the Ratios of ruby and of base.
+    """
     em, measure, given = read_job(rng)
-    ratios = pick(rng, (1, second.ONE_TWO_ONE),
-                  (7, (sound_ratio(rng), sound_ratio(rng))))
-    short = rng.randrange(25) == 0
-    way = pick(rng, (67, 'as it is'), (8, 'not read'), (10, 'lists'),
-               (6, 'ratio'), (1, 'count'), (8, 'door'))
+    way = pick(rng, (64, 'as it is'), (8, 'not read'), (10, 'lists'),
+               (6, 'ratio'), (2, 'count'), (10, 'door'))
+    # At the door some of 1, 15, 2 and 12 meet: their order decides.
+    door = way == 'door'
     if way == 'not read':
         change_not_read(rng, given)
-    elif way == 'lists':
+    if way == 'lists':
         change_lists(rng, given)
-    elif way == 'ratio':
-        ratios = fault_15(rng, ratios)
-    elif way == 'count':
+    if door and rng.randrange(2) == 0:
+        em, measure = fault_1(rng, em, measure)
+    bad = way == 'ratio' or door and rng.randrange(4) != 0
+    ratios = some_ratios(rng, sides, not bad)
+    if way == 'count' or door and rng.randrange(3) == 0:
         fault_2(rng, given)
-    elif way == 'door':
-        return faults_at_the_door(rng, (em, measure, ratios, given, short))
+    short = rng.randrange(3 if door else 25) == 0
     return em, measure, ratios, given, short
 
 
 def calls(seed, count):
     """The first count jobs of a seed: (call of set_job, of account_job)."""
     rng = random.Random(seed)
+    sides = Ratios(rng), Ratios(rng)
     fresh = [rng.randrange(TOO_BIG + 1) for _ in range(FRESH)]
 
     def numbers(length):
@@ -202,7 +232,7 @@ def calls(seed, count):
         return fresh[start:start + length]
 
     for _ in range(count):
-        em, measure, ratios, given, short = some_job(rng)
+        em, measure, ratios, given, short = some_job(rng, sides)
         base, ruby = count_of(given, 0), count_of(given, 1)
         both = []
         for which, needs, most in (

@@ -3,9 +3,9 @@
     python3 second/test_compare_lists.py
 """
 
-import collections
 import io
 import os
+import random
 import struct
 import subprocess
 import sys
@@ -17,7 +17,7 @@ sys.path.insert(0, HERE)
 import compare_lists    # noqa: E402  (found through the path set above)
 import generate_lists   # noqa: E402
 import lists            # noqa: E402
-from compare_lists import compare_all, missing, wrong_things  # noqa: E402
+from compare_lists import Seen, compare_all, wrong_things  # noqa: E402
 from lists import ACCOUNT, SET, Call  # noqa: E402
 from test_second import g, as_lists, quiet  # noqa: E402
 
@@ -114,7 +114,7 @@ class Generated(unittest.TestCase):
 
     @classmethod
     def setUpClass(cls):
-        cls.calls = list(generate_lists.calls(1, 900))
+        cls.calls = list(generate_lists.calls(1, 1000))
         cls.expected = [call.answered() for call, _ in cls.calls]
 
     def test_repeats_itself(self):
@@ -126,11 +126,11 @@ class Generated(unittest.TestCase):
         self.assertNotEqual(content(11, 10), content(12, 10))
 
     def test_every_answer(self):
-        seen = collections.Counter(
-            0 if answer[0] == 'set' else answer[1]
-            for answer, _ in self.expected)
-        self.assertEqual(list(missing(seen)), [])
-        self.assertEqual(set(seen), {0, *compare_lists.REFUSALS})
+        seen = Seen()
+        for (call, _), (answer, _) in zip(self.calls, self.expected):
+            seen.add(call, answer)
+        self.assertEqual(set(seen.answers), {0, *compare_lists.REFUSALS})
+        self.assertGreater(seen.answers[0], 300)
 
     def test_every_place_of_the_door(self):
         places = {answer[1:] for answer, _ in self.expected
@@ -138,13 +138,23 @@ class Generated(unittest.TestCase):
         self.assertEqual(places, {(1, 0), (1, 1), (15, 0), (15, 1), (2, 0),
                                   (2, 1), (2, 2), (12, 0)})
 
+    def test_every_ratio_in_turn(self):
+        # 729 with numbers from 0 to 8; 511 are sound: 8 * 8 * 8 less 0:0:0.
+        self.assertEqual((len(generate_lists.ALL), len(generate_lists.SOUND),
+                          len(generate_lists.BAD)), (729, 511, 218))
+        side = generate_lists.Ratios(random.Random(1))
+        for name, ratios in (('sound', generate_lists.SOUND),
+                             ('bad', generate_lists.BAD)):
+            for _ in range(2):
+                self.assertEqual(sorted(side.in_turn(name, ratios)
+                                        for _ in ratios), sorted(ratios))
+        for _ in range(300):
+            self.assertIn(side.sound(), generate_lists.SOUND)
+            ratio = side.bad()
+            self.assertTrue(max(ratio) > 7 or not any(ratio), ratio)
+
     def test_ratios(self):
-        # All numbers from 0 to 8 at each of the six places.
-        for which in (0, 1):
-            for at in range(3):
-                met = {call.ratios[which][at] for call, _ in self.calls}
-                self.assertLessEqual(set(range(9)), met)
-        # And most accepted jobs have a ratio that is not 1:2:1.
+        # Most accepted jobs have a ratio that is not 1:2:1.
         other = [call.ratios for (call, _), (answer, _)
                  in zip(self.calls, self.expected) if answer[0] == 'set'
                  and list(map(tuple, call.ratios)) != [(1, 2, 1), (1, 2, 1)]]
@@ -188,9 +198,9 @@ class Comparison(unittest.TestCase):
 
     def test_with_itself(self):
         seen, differences = compare_all(OWN, 5, 40)
-        self.assertEqual((sum(seen.values()), differences), (40, 0))
+        self.assertEqual((seen.jobs(), differences), (40, 0))
         seen, differences = compare_all(OWN, 5, 40, functions=1)
-        self.assertEqual((sum(seen.values()), differences), (40, 0))
+        self.assertEqual((seen.jobs(), differences), (40, 0))
 
     def test_each_word_counts(self):
         # The answer, the ratios, the lists that are read, the result lists,
@@ -252,14 +262,18 @@ class Comparison(unittest.TestCase):
              'the word behind lines: 5, not 107'])
 
     def test_what_is_missing(self):
-        seen = collections.Counter({number: 100 for number
-                                    in compare_lists.REFUSALS})
-        seen[0] = 1300
-        self.assertEqual(list(missing(seen)), [])
-        del seen[12]
-        seen[0] = 300
-        self.assertEqual(list(missing(seen)), [
-            'no job refused by 12', '300 accepted of 1500 jobs'])
+        seen = Seen()
+        seen.answers.update({number: 100 for number
+                             in compare_lists.REFUSALS})
+        seen.answers[0] = 1300
+        seen.ratios = set(generate_lists.ALL), set(generate_lists.ALL)
+        self.assertEqual(list(seen.missing()), [])
+        del seen.answers[12]
+        seen.answers[0] = 300
+        seen.ratios[1].remove((0, 8, 7))
+        self.assertEqual(list(seen.missing()), [
+            'no job refused by 12', '300 accepted of 1500 jobs',
+            'no job with 0:8:7 for base'])
 
     def run_it(self, command, count):
         done = subprocess.run(
@@ -272,7 +286,8 @@ class Comparison(unittest.TestCase):
         status, rows = self.run_it(OWN, 25)
         self.assertEqual((status, len(rows)), (0, 2))
         self.assertRegex(rows[0], r'^seen: [1-9][0-9]* accepted; refused '
-                         r'[0-9]+ by [0-9]+, ')
+                         r'[0-9]+ by [0-9]+, .*; [0-9]+ ratios of ruby, '
+                         r'[0-9]+ of base$')
         self.assertEqual(rows[1], 'compared 25 jobs, 0 differences')
         status, rows = self.run_it([sys.executable, '-c', ''], 25)
         self.assertEqual((status, rows[-1]),

@@ -6,7 +6,7 @@ Every entry of WRONG replaces some functions of the second program by wrong
 ones: the drawings that document 01 doesn't want to see again, readings of 01
 that are not ours, and slips at an edge.  Some of the first 1,500 sheets of
 seed 1 have to show each of them.  WRONG_BY_RATIOS has what sheets cannot show,
-readings of R-4 that are not ours and slips in it; some of the first 700 jobs
+readings of R-4 that are not ours and slips in it; some of the first 1,000 jobs
 in lists of seed 1 have to show each of those.
 """
 
@@ -933,26 +933,6 @@ def _():
     return {'set_group': set_group}
 
 
-@wrong_by_ratios('the limit over Western base')
-def _():
-    def set_group(em, ratios, base_western, base, ruby_western, ruby):
-        if base_western and sum(ruby) < sum(base):
-            return second.spread_ruby(ratios, base, ruby, em)
-        return right['set_group'](em, ratios, base_western, base,
-                                  ruby_western, ruby)
-    return {'set_group': set_group}
-
-
-@wrong_by_ratios('the limit for base that is spread')
-def _():
-    def spread_base(ratios, base, ruby):
-        difference = sum(ruby) - sum(base)
-        # Some em of the generated jobs; the function is not told which.
-        return (second.spread(base, difference, ratios[1], 10),
-                second.one_after_another(0, ruby))
-    return {'spread_base': spread_base}
-
-
 @wrong_by_ratios('a part of one character by the base ratio')
 def _():
     return {'is_cut': lambda element, first, end: False}
@@ -1139,7 +1119,7 @@ class Found(unittest.TestCase):
     def setUpClass(cls):
         cls.sheets = list(generate.sheets(1, 1500))
         cls.answers = [second.answer(text) for text in cls.sheets]
-        cls.calls = [call for call, _ in generate_lists.calls(1, 700)]
+        cls.calls = [call for call, _ in generate_lists.calls(1, 1000)]
         cls.results = [call.answered() for call in cls.calls]
 
     def shown_by(self, replacements):
