@@ -112,6 +112,19 @@ module _ (em : ℕ) (t : List ℕ) (n : ℕ) (sound : Sound em t n) (i c : ℕ) 
         near = omega (arith, sound .few);
       }
 
+-- the word of a row that is cut, and of one that is not
+pub cut-word : (em : ℕ) (t : List ℕ) (i c : ℕ) → cellAt t i .cut ≡ true → wordAt em t i c ≡ part em t i c
+unfolding wordAt
+cut-word em t i c e = rw e
+
+pub whole-word : (em : ℕ) (t : List ℕ) (i c : ℕ) → cellAt t i .cut ≡ false → wordAt em t i c ≡ cellAt t i .word
+unfolding wordAt
+whole-word em t i c e = rw e
+
+-- a step fits a number
+pub fits : (em : ℕ) (t : List ℕ) (st : State) (i c : ℕ) → Advances em t st i c → furthest st + total (piece em t i c) ≤ 4294967295
+fits em t st i c a = omega (arith, a .short, a .near)
+
 -- A part of a J is at least as long as its characters of one em.
 
 way-long : (ruby base : Way) (h : Ratios) (em b n r m : ℕ) → 2 * b ≤ wordFrom ruby base h em b n r m .len

@@ -2,7 +2,7 @@
 // one has decided of the element; of a J of two characters or more what any part of it is measured by. Nobody above reads classes, widths of words or kinds. One
 // function cuts a J (`part_upto`), one takes a line on by a piece (`advance`). It relies on `word` and `spread` for words, on `line` for places, and on `basics`.
 ghost use mathlib.Core.Path.{_≡_};
-ghost use mathlib.Core.Bool.{false};
+ghost use mathlib.Core.Bool.{true, false};
 ghost use Prim.Native.Nat.{_+_, _-_, _*_, _≤_, _<_};
 ghost use lib.ListN.{length};
 ghost use Rattle.spread.specs.Ratio.{ratiosOf};
@@ -290,6 +290,7 @@ pub fn advance(t: &[u32], i: usize, c: usize, em: u32, st: line::State) -> Step
     ensures { λ r. ⌜ r ≡ stepAt em (now (t .entry)) st i c ⌝ }
 {
     let a = cell_at(t, i);
+    // Not by `advance_cut`: a step that comes back whole is kept in memory, and so is every line that is taken on by it.
     if a.cut {
         return step_of(part_upto(t, i, c, em), a.before, a.after, st);
     }
