@@ -11,7 +11,7 @@ use Rattle.basics.specs.Lists.{lastOr}
 use Rattle.refusal.specs.declared.Refusal.{Refusal}
 use Rattle.refusal.specs.declared.Refusal.the-variants.{NoBreak}
 use Rattle.door.specs.declared.Checked.the-variants as checked
-use Rattle.door.specs.Job.{Job, jobOf, baseCount, rubyCount, elementCount, elements}
+use Rattle.door.specs.Job.{Job, baseCount, rubyCount, elementCount, elements}
 use Rattle.door.specs.Refusals.{jobFaults, charFaults, elementsFaults, leftFaults, ownFaults}
 use Rattle.door.specs.Verdict.{verdict, passed-none, append-none, front-refused, front-passed}
 use Rattle.door.specs.Passed.{Passed, limits, base-good, ruby-good}
@@ -56,9 +56,26 @@ Keeps job base ruby lines wasFar t found far (answer.Refused q) = Unit
 Keeps job base ruby lines wasFar t found far (answer.Set n) = Full job base ruby lines wasFar t found far n
 
 -- no character's refusal depends on the runs
-pub any-runs : (job : Job) (base ruby lines : ℕ) →
-    ahead (jobOf (job .em) (job .measure) (job .class) (job .width) (job .before) (job .after) (job .flag) (job .rubyClass) (job .rubyWidth) (job .kind) (job .elementBase) (job .elementRuby) []) base ruby lines
-    ≡ ahead job base ruby lines
+abbrev runless : Job → Job
+runless job =
+    record {
+      em = job .em;
+      measure = job .measure;
+      ratios = job .ratios;
+      class = job .class;
+      width = job .width;
+      before = job .before;
+      after = job .after;
+      flag = job .flag;
+      rubyClass = job .rubyClass;
+      rubyWidth = job .rubyWidth;
+      kind = job .kind;
+      elementBase = job .elementBase;
+      elementRuby = job .elementRuby;
+      run = [];
+    }
+
+pub any-runs : (job : Job) (base ruby lines : ℕ) → ahead (runless job) base ruby lines ≡ ahead job base ruby lines
 unfolding jobFaults charFaults baseCount rubyCount elementCount
 any-runs job base ruby lines = refl
 
@@ -87,6 +104,7 @@ module _ (job : Job) (base ruby lines : ℕ) where
     ready t h =
         let l = limits job base ruby lines (first .0) in
         record {
+          house = l .house;
           few = l .bases;
           fewRuby = l .rubies;
           fewElements = l .elements;
