@@ -97,10 +97,6 @@ by-today r b em bs rs = go (leb (sum rs) (sum bs))
     go true = ap {B = Places} (λ (l : List ℕ). record { base = along (solid 0 bs) bs; ruby = l }) (as-today-all r em (sum bs - sum rs) rs)
     go false = ap {B = Places} (λ (l : List ℕ). record { base = l; ruby = along (solid 0 rs) rs }) (as-today-all b em (sum rs - sum bs) bs)
 
-pub group-today : (r b : Script) (h : Ratios) (em : ℕ) (bs rs : List ℕ) → h .ruby ≡ oneTwoOne → h .base ≡ oneTwoOne →
-    group r b h em bs rs ≡ byWay (today.shorter (rubyWay r b) em) (today.shorter (baseWay r b) em) bs rs
-group-today r b h em bs rs e f = group-is r b h em bs rs ∙ rw (e, f) (by-today (rubyWay r b) (baseWay r b) em bs rs)
-
 -- J, each run over its own character
 
 -- a run of at most one em is solid over its character

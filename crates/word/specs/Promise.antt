@@ -17,7 +17,6 @@ use Rattle.spread.specs.declared.Way.{Way}
 use Rattle.spread.specs.declared.Way.the-variants.{Solid}
 use Rattle.spread.specs.declared.Gaps.{Gaps}
 use Rattle.spread.specs.Gap.{gaps}
-use Rattle.spread.specs.Running.{Ready}
 use Rattle.spread.specs.Laws.{Sums, sums, Even, all-space, even-ends, within-one}
 use Rattle.spread.specs.Ratio.{Ratios}
 use Rattle.word.specs.declared.Script.{Script}
@@ -30,7 +29,7 @@ use Rattle.word.specs.Given.{Given, hasRuby, isJ}
 use Rattle.word.specs.Alone.{script, rubyWay, baseWay, split, anyLonger}
 use Rattle.word.specs.Word.{shortRuby, shortBase, wordBy, plain, groupWord, overEach, jukugoWord, wordOf, total, protrusionFront, protrusionBehind}
 use Rattle.word.specs.Answer.{blankInside, jukugoBase, mixedIn, westernOver, answer}
-use Rattle.word.specs.Sized.{Small, Sized, RunsReady, small}
+use Rattle.word.specs.Sized.{Small, Sized, small}
 use Rattle.word.specs.Runs.{first-fits, last-fits}
 
 -- ruby lies within its block, or around it
@@ -215,19 +214,3 @@ pub kept : (form : Form) (place : ℕ) (w : Given) {v : Word} → Sized form (w 
 kept form place w {v} s e =
     let p = passed form place w e in
     subst (Promise form w) (sym (p .word)) (word-kept form w s (one-em form w (s .some) (p .eight)))
-
--- The writers' needs follow from the promises and a bound on the origin.
-
-pub base-ready : (form : Form) (w : Given) (v : Word) (at : ℕ) (out : List ℕ) → Promise form w v → length (w .width) ≤ 32 → length (w .width) ≡ length out → at + total v < 4294967296 →
-    Ready (v .inbase) (at + v .front) (w .width) out
-base-ready form w v at out p few same near = record { same = same; few = omega arith; small = omega arith; near = omega arith }
-
-pub ruby-ready : (form : Form) (w : Given) (v : Word) (at : ℕ) (out : List ℕ) → Promise form w v → hasRuby form ≡ true → length (w .rubyWidth) ≤ 64 → length (w .rubyWidth) ≡ length out → at + total v < 4294967296 →
-    v .runs ≡ false → Ready (v .inruby) (at + v .from) (w .rubyWidth) out
-ruby-ready form w v at out p h few same near e =
-    let s = p .string e h in record { same = same; few = few; small = omega arith; near = omega arith }
-
-pub runs-ready : (form : Form) (w : Given) (v : Word) (at : ℕ) (out : List ℕ) → Promise form w v → w .em ≤ 4096 → length (w .run) ≤ 32 → sum (w .run) ≡ length (w .rubyWidth) →
-    length (w .rubyWidth) ≤ 64 → length (w .rubyWidth) ≡ length out → at < 2147483648 → v .runs ≡ true → RunsReady (w .em) at (w .run) (w .rubyWidth) out
-runs-ready form w v at out p em runs whole few same near e =
-    record { whole = whole; same = same; few = few; fewRuns = runs; small = em; near = near; none = p .each e }
