@@ -1,6 +1,7 @@
-// The table of a job behind the door: at its head the house ratios, then a row of numbers for each base character. A row says how far its element goes on from here, where a line may end, and what level
-// one has decided of the element; of a J of two characters or more what any part of it is measured by. Nobody above reads classes, widths of words or kinds. One
-// function cuts a J (`part_upto`), one takes a line on by a piece (`advance`). It relies on `word` and `spread` for words, on `line` for places, and on `basics`.
+// The table of a job behind the door: at its head the house ratios, then a row of numbers for each base character. A row says how far its element goes on from here,
+// where a line may end, and what level one has decided of the element; of a J of two characters or more what any part of it is measured by. Nobody above reads
+// classes, widths of words or kinds. One function cuts a J (`part_upto`), one takes a line on by a piece (`advance`). It relies on `word` and `spread` for words and
+// on `line` for places.
 ghost use mathlib.Core.Path.{_≡_};
 ghost use mathlib.Core.Bool.{true, false};
 ghost use Prim.Native.Nat.{_+_, _-_, _*_, _≤_, _<_};

@@ -136,9 +136,10 @@ pub fn set_table(
     }
 }
 
-// Sets a job. `ratios` are the house ratios, the ruby's first, each a, m, c; `class`, `width`, `before`, `after` and `flag` are the base characters' fields, `rclass` and `rwidth` the ruby characters'; `kind` (a letter's byte: 80 P, 77 M, 71 G,
-// 74 J), `ebase` and `eruby` the elements'; `runs` the J runs. The positions go to `base` and `ruby`, in half units from the line's start, and the running counts of base
-// characters at the lines' ends to `lines`. A small job has a small table, since a table is cleared before it is used.
+// Sets a job. `ratios` are the house ratios, the ruby's first, each a, m, c; `class`, `width`, `before`, `after` and `flag` are the base characters' fields, `rclass` and
+// `rwidth` the ruby characters'; `kind` (a letter's byte: 80 P, 77 M, 71 G, 74 J), `ebase` and `eruby` the elements'; `runs` the J runs. The positions go to `base` and
+// `ruby`, in half units from the line's start, and the running counts of base characters at the lines' ends to `lines`. A small job has a small table, since a
+// table is cleared before it is used.
 pub fn set_job(
     em: u32,
     measure: u32,

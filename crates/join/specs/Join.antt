@@ -166,8 +166,7 @@ module _ (job : Job) (passed : Passed job) (t : List ℕ) (table : Holds job t) 
         let k = i - x .base in
         let low : x .base ≤ z = omega arith in
         let high : z < x .base + x .bases = omega arith in
-        ap (λ r. byHouse r (cellAt t z .wide + cellAt t z .own) (cellAt t i .wide) (cellAt t z .ruby + cellAt t z .rubies) (cellAt t i .ruby) (cellAt t i .over) (overWith (job .em) (cellAt t z)) (cellAt t i .own) (cellAt t z .own) (cellAt t i .western))
-        (table .house)
+        ap (λ r. byRatios r (cellAt t i) (cellAt t z)) (table .house)
         ∙ ap₂ (λ a b. byEnds a (cellAt t i .wide) b (cellAt t i .ruby) (cellAt t i .over) (overWith (job .em) (cellAt t z)) (cellAt t i .own) (cellAt t z .own) (cellAt t i .western))
         (wide-with j z low high ∙ ap (wideBefore job x) (top (x .base) h l)) (ruby-with j z low high ∙ ap (firstRuby job x) (top (x .base) h l))
         ∙ ap₂ (λ a b. byEnds (wideBefore job x (k + (c - i))) a (firstRuby job x (k + (c - i))) b (cellAt t i .over) (overWith (job .em) (cellAt t z)) (cellAt t i .own) (cellAt t z .own) (cellAt t i .western))
@@ -180,8 +179,9 @@ module _ (job : Job) (passed : Passed job) (t : List ℕ) (table : Holds job t) 
         (western-at j i h (omega arith))
         ∙ part-word job x passed at j k (c - i) (omega arith) (omega arith)
       where
-        byHouse : Ratios → ℕ → ℕ → ℕ → ℕ → ℕ → ℕ → ℕ → ℕ → Bool → Word
-        byHouse h wz wa rz ra oa oz first last western = partBy h (job .em) (c - i) (wz - wa) (rz - ra) (eqb oa oz) first last western
+        byRatios : Ratios → Cell → Cell → Word
+        byRatios h a z =
+            partBy h (job .em) (c - i) (z .wide + z .own - a .wide) (z .ruby + z .rubies - a .ruby) (eqb (a .over) (overWith (job .em) z)) (a .own) (z .own) (a .western)
 
         byEnds : ℕ → ℕ → ℕ → ℕ → ℕ → ℕ → ℕ → ℕ → Bool → Word
         byEnds wz wa rz ra oa oz first last western = partBy (job .ratios) (job .em) (c - i) (wz - wa) (rz - ra) (eqb oa oz) first last western

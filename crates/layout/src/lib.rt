@@ -1,6 +1,6 @@
-// The table of a job's lists: the house ratios at its head, and a row for each base character (`rowOf` of `join`). It goes over the elements once, in the order of the refusal list from number 5 on: an
-// element is counted, its characters have to be there, level one's answer is taken apart, and its rows are written. Behind it nobody sees the lists. It
-// relies on `door` for the counts, on `word` for level one, on `class` for depths and kinds, and on `cells` for rows.
+// The table of a job's lists: the house ratios at its head, and a row for each base character (`rowOf` of `join`). It goes over the elements once, in the order of the
+// refusal list from number 5 on: an element is counted, its characters have to be there, level one's answer is taken apart, and its rows are written. Behind it nobody
+// sees the lists. It relies on `door` for the counts, on `word` for level one, on `class` for depths and kinds, and on `cells` for rows.
 ghost use mathlib.Core.Path.{_≡_};
 ghost use mathlib.Core.Bool.{true, false};
 ghost use mathlib.Core.List.{_++_};

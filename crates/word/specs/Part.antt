@@ -168,7 +168,11 @@ module _ (w : Given) (n : ℕ) (e : w .width ≡ w .em ∷ []) (f : w .run ≡ n
   pub one-alike : Even (w .ratios .base) → places J w ≡ places M w
   one-alike v = go (ltb (w .em) (sum (w .rubyWidth))) refl
     where
-      solidly : w .em < sum (w .rubyWidth) → byWay (shorter (rubyWay (script (w .rubyClass)) Kana) (w .ratios .ruby) (w .em)) (shorter (baseWay (script (w .rubyClass)) Kana) (w .ratios .base) (w .em)) (w .width) (w .rubyWidth) ≡ places M w
+      r : Script
+      r = script (w .rubyClass)
+
+      solidly : w .em < sum (w .rubyWidth) →
+          byWay (shorter (rubyWay r Kana) (w .ratios .ruby) (w .em)) (shorter (baseWay r Kana) (w .ratios .base) (w .em)) (w .width) (w .rubyWidth) ≡ places M w
       solidly h = as-mono w (rw e (single (script (w .rubyClass)) (w .ratios) (w .em) (w .rubyWidth) v h))
 
       longer : w .em < sum (w .rubyWidth) → group (script (w .rubyClass)) Kana (w .ratios) (w .em) (w .width) (w .rubyWidth) ≡ places M w

@@ -22,7 +22,9 @@ ratio-wrong-requires : tie.Need-ratio-wrong-requires
 ratio-wrong-requires c κs = search needs
 
 returns-3 : tie.Need-returns-3
-returns-3 c = let e = c .before .before .before in rw (← e .before .before .before .em-wrong .ensures, e .before .before .if1 .left, ← e .before .is-outside .ensures, e .if2 .left, ← c .before .ratio-wrong .ensures, c .if3 .taken)
+returns-3 c =
+    let e = c .before .before .before in
+    rw (← e .before .before .before .em-wrong .ensures, e .before .before .if1 .left, ← e .before .is-outside .ensures, e .if2 .left, ← c .before .ratio-wrong .ensures, c .if3 .taken)
 
 array-copy-out-ratio-wrong-2 : tie.Need-array-copy-out-ratio-wrong-2
 array-copy-out-ratio-wrong-2 c = search needs
@@ -34,13 +36,15 @@ returns-4 : tie.Need-returns-4
 returns-4 c =
     let r = c .before .before .before in
     let e = r .before .before .before in
-    rw (← e .before .before .before .em-wrong .ensures, e .before .before .if1 .left, ← e .before .is-outside .ensures, e .if2 .left, ← r .before .ratio-wrong .ensures, r .if3 .left, ← c .before .ratio-wrong2 .ensures, c .if4 .taken)
+    let o = e .before in
+    rw (← o .before .before .em-wrong .ensures, o .before .if1 .left, ← o .is-outside .ensures, e .if2 .left, ← r .before .ratio-wrong .ensures, r .if3 .left, ← c .before .ratio-wrong2 .ensures, c .if4 .taken)
 
 returns-5 : tie.Need-returns-5
 returns-5 c =
     let r = c .before .before .before in
     let e = r .before .before .before in
-    rw (← e .before .before .before .em-wrong .ensures, e .before .before .if1 .left, ← e .before .is-outside .ensures, e .if2 .left, ← r .before .ratio-wrong .ensures, r .if3 .left, ← c .before .ratio-wrong2 .ensures, c .if4 .left)
+    let o = e .before in
+    rw (← o .before .before .em-wrong .ensures, o .before .if1 .left, ← o .is-outside .ensures, e .if2 .left, ← r .before .ratio-wrong .ensures, r .if3 .left, ← c .before .ratio-wrong2 .ensures, c .if4 .left)
 
 pub check-house-spec : {M : Type 1} → statement M
 check-house-spec =

@@ -1,5 +1,4 @@
 -- Each test is its part of the row, in the order of the numbers.
-use lib.ListN.{getD}
 use borrow.Author.Tests.{lt-ltb, le-ltb, eq-eqb, ne-eqb}
 use borrow.Author.Needs.{needs}
 use Rattle.door.proofs.ratio_wrong.Statement.{statement}
@@ -33,10 +32,14 @@ array-read-result : tie.Need-array-read-result
 array-read-result c = search needs
 
 returns-4 : tie.Need-returns-4
-returns-4 c = rw (le-ltb _ _ (c .before .before .before .before .if1 .left), le-ltb _ _ (c .before .before .before .if2 .left), le-ltb _ _ (c .before .before .if3 .left), eq-eqb _ _ (c .before .if4 .taken), eq-eqb _ _ (c .if5 .taken))
+returns-4 c =
+    let e = c .before .before in
+    rw (le-ltb _ _ (e .before .before .if1 .left), le-ltb _ _ (e .before .if2 .left), le-ltb _ _ (e .if3 .left), eq-eqb _ _ (c .before .if4 .taken), eq-eqb _ _ (c .if5 .taken))
 
 returns-5 : tie.Need-returns-5
-returns-5 c = rw (le-ltb _ _ (c .before .before .before .before .if1 .left), le-ltb _ _ (c .before .before .before .if2 .left), le-ltb _ _ (c .before .before .if3 .left), eq-eqb _ _ (c .before .if4 .taken), ne-eqb _ _ (c .if5 .left))
+returns-5 c =
+    let e = c .before .before in
+    rw (le-ltb _ _ (e .before .before .if1 .left), le-ltb _ _ (e .before .if2 .left), le-ltb _ _ (e .if3 .left), eq-eqb _ _ (c .before .if4 .taken), ne-eqb _ _ (c .if5 .left))
 
 returns-6 : tie.Need-returns-6
 returns-6 c = rw (le-ltb _ _ (c .before .before .before .if1 .left), le-ltb _ _ (c .before .before .if2 .left), le-ltb _ _ (c .before .if3 .left), ne-eqb _ _ (c .if4 .left))
