@@ -4,22 +4,28 @@
  * pass over the elements for each, which stops once a whole element passes the measure and never at a failed part of a J;
  * the line ends are kept in a table of this function's own until the job is known to be accepted; then one pass writes.
  *
- * Sentences in quotation marks are document 01's. All positions are half units.
+ * Sentences in quotation marks are document 01's, those about ratios document 02's (R-4). All positions are half units.
  */
 #include "bolyverit.h"
 
 typedef uint32_t u32;
 typedef int32_t i32;
 
-/* A J is long to pass and so kept out of the loop over elements; strings are short, and so their loops are left as they stand. */
+/*
+ * A J is long to pass and so kept out of the loop over elements, a G is put into it; strings are short, and so their loops are
+ * left as they stand.
+ */
 #if defined(__clang__)
 #define APART __attribute__((noinline))
+#define WITHIN __attribute__((always_inline))
 #define SHORT_LOOP _Pragma("clang loop vectorize(disable) unroll(disable)")
 #elif defined(__GNUC__)
 #define APART __attribute__((noinline))
+#define WITHIN
 #define SHORT_LOOP
 #else
 #define APART
+#define WITHIN
 #define SHORT_LOOP
 #endif
 
@@ -35,9 +41,18 @@ typedef int32_t i32;
 #define WHOLE CLASS(14)                              /* "In class 14 .. the whole width is blank." */
 #define QUARTER CLASS(5)                             /* "for class 5 a quarter em" */
 
+/* A ratio a:m:c, as it is worked with: D times a or c, doubled, is shared out over S = a + m(n - 1) + c, which is m n + rest. */
+struct ratio {
+    u32 a, c; /* twice the ratio's */
+    u32 m, rest;
+    int uneven; /* a and c differ */
+};
+
 /* The lists of a job, counts in place of lengths. */
 struct job {
     u32 em, limit; /* limit: the measure in half units, at most 8,000,000 */
+    struct ratio over, under; /* of spread ruby, of spread base */
+    u32 most; /* of a gap at an end of spread ruby, where the half-em limit holds */
     u32 bases, rubies, elements;
     size_t runs_length;
     const u32 *class_, *width, *before, *after, *flag;
@@ -267,32 +282,63 @@ static bv_answer check_elements(const struct job *j)
 #define SPREAD 1
 #define LIMITED 2
 
-static u32 gap_of(int way, u32 em, u32 d, u32 n)
+/* The gaps at the ends of the shorter string. What is left of the 2D half units of space is within it. */
+struct gaps {
+    u32 front, rear;
+};
+
+/*
+ * "With S = a + m(n - 1) + c, the front gap is floor(2D * a / S), the rear gap floor(2D * c / S)". With one character, or with
+ * m = 0, the rear gap takes what is left; one character is centred if a and c are 0, and so it is wherever they are equal. Then,
+ * too, one division does for both gaps, and with m = 0 it gives D. "The half-em limit stays where it stood, at either end, and
+ * only if m is not 0." D is at most 262,144, so that no product is too large.
+ */
+WITHIN static struct gaps gaps_of(int way, u32 most, const struct ratio *by, u32 d, u32 n)
 {
-    if (way == SOLID || n == 1)
-        return d;
-    return way == LIMITED ? smaller(d / n, em) : d / n;
+    struct gaps g;
+    u32 s;
+    g.front = g.rear = d;
+    if (way == SOLID)
+        return g;
+    if (n == 1) {
+        if (by->uneven) {
+            g.front = d * by->a / (by->m + by->rest);
+            g.rear = 2 * d - g.front;
+        }
+        return g;
+    }
+    s = by->m * n + by->rest;
+    g.front = d * by->a / s;
+    if (way == LIMITED)
+        g.front = smaller(g.front, most);
+    g.rear = g.front;
+    if (by->uneven) {
+        g.rear = by->m == 0 ? 2 * d - g.front : d * by->c / s;
+        if (way == LIMITED)
+            g.rear = smaller(g.rear, most);
+    }
+    return g;
 }
 
 /* The word of two strings of b and r units, n and m characters, by the way of each where it is the shorter. */
-static void word_by(struct word *w, int ruby, int base, u32 em, u32 b, u32 n, u32 r, u32 m)
+WITHIN static void word_by(struct word *w, int ruby, int base, const struct job *j, u32 b, u32 n, u32 r, u32 m)
 {
-    u32 g;
+    struct gaps g;
     w->by_runs = 0;
     if (r <= b) {
-        g = gap_of(ruby, em, b - r, m);
-        w->inruby = 2 * (b - r) - 2 * g;
+        g = gaps_of(ruby, j->most, &j->over, b - r, m);
+        w->inruby = 2 * (b - r) - g.front - g.rear;
         w->inbase = 0;
         w->front = 0;
         w->len = 2 * b;
-        w->from = g;
-        w->upto = 2 * b - g;
+        w->from = g.front;
+        w->upto = 2 * b - g.rear;
     } else {
-        g = gap_of(base, em, r - b, n);
-        w->inbase = 2 * (r - b) - 2 * g;
+        g = gaps_of(base, j->most, &j->under, r - b, n);
+        w->inbase = 2 * (r - b) - g.front - g.rear;
         w->inruby = 0;
-        w->front = g;
-        w->len = 2 * r - 2 * g;
+        w->front = g.front;
+        w->len = 2 * r - g.front - g.rear;
         w->from = 0;
         w->upto = 2 * r;
     }
@@ -301,16 +347,22 @@ static void word_by(struct word *w, int ruby, int base, u32 em, u32 b, u32 n, u3
 /* "M: always solid." */
 static void mono(struct word *w, const struct job *j, u32 b, u32 r, u32 m)
 {
-    word_by(w, SOLID, SOLID, j->em, j->width[b], 1, sum_of(j->rwidth + r, m), m);
+    word_by(w, SOLID, SOLID, j, j->width[b], 1, sum_of(j->rwidth + r, m), m);
 }
 
 /* A G, or a J with a run longer than one em. After the door the first character of a string speaks for it. */
-static void group(struct word *w, const struct job *j, u32 b, u32 n, u32 r, u32 m)
+WITHIN static void group(struct word *w, const struct job *j, u32 b, u32 n, u32 r, u32 m)
 {
     u32 over = is_in(WESTERN, j->rclass[r]), under = is_in(WESTERN, j->class_[b]);
     int ruby = over ? SOLID : under ? SPREAD : LIMITED;
     int base = under ? SOLID : SPREAD;
-    word_by(w, ruby, base, j->em, sum_of(j->width + b, n), n, sum_of(j->rwidth + r, m), m);
+    word_by(w, ruby, base, j, sum_of(j->width + b, n), n, sum_of(j->rwidth + r, m), m);
+}
+
+/* "If any is longer, the whole is set as G." */
+APART static void jukugo_as_group(struct word *w, const struct job *j, u32 b, u32 n, u32 r, u32 m)
+{
+    group(w, j, b, n, r, m);
 }
 
 /* "J: if no run is longer than one em, each run is solid over its own character." Returns how many ruby characters it has. */
@@ -323,7 +375,7 @@ static u32 jukugo(struct word *w, const struct job *j, u32 b, u32 n, u32 r, u32 
         last = sum_of(j->rwidth + at, run);
         if (last > em) {
             run = sum_of(j->runs + u, n);
-            group(w, j, b, n, r, run);
+            jukugo_as_group(w, j, b, n, r, run);
             return run;
         }
         if (i == 0)
@@ -339,14 +391,17 @@ static u32 jukugo(struct word *w, const struct job *j, u32 b, u32 n, u32 r, u32 
 }
 
 /*
- * A J or a part of one: "a part of one character is set as M, a part of more as J". A whole J of one character is the same
- * set either way. Returns how many ruby characters it has.
+ * n of the `all` base characters of a J: "a part of one character is set as M, a part of more as J". A J of one character is
+ * no part: with a run longer than one em it is set as G, which differs from M by the front gap. Returns how many ruby
+ * characters it has.
  */
-static u32 part(struct word *w, const struct job *j, u32 b, u32 n, u32 r, u32 u)
+static u32 part(struct word *w, const struct job *j, u32 b, u32 n, u32 all, u32 r, u32 u)
 {
     if (n > 1)
         return jukugo(w, j, b, n, r, u);
     mono(w, j, b, r, j->runs[u]);
+    if (w->front != 0 && j->under.uneven && all == 1)
+        w->front = w->front * j->under.a / (j->under.m + j->under.rest);
     return j->runs[u];
 }
 
@@ -406,9 +461,12 @@ static int fits(const struct state *st, u32 limit)
 
 /* ---- Filling ---- */
 
-/* What the line from s has of the J at a cursor: its first base and ruby character and run, and how many base characters. */
+/*
+ * What the line from s has of the J at a cursor: its first base and ruby character and run, and how many of all its base
+ * characters.
+ */
 struct rest {
-    u32 b, n, r, u;
+    u32 b, n, all, r, u;
 };
 
 static struct rest rest_of(const struct job *j, u32 s, const struct cursor *at)
@@ -416,7 +474,8 @@ static struct rest rest_of(const struct job *j, u32 s, const struct cursor *at)
     struct rest p;
     u32 skipped = at->b < s ? s - at->b : 0;
     p.b = at->b + skipped;
-    p.n = j->ebase[at->k] - skipped;
+    p.all = j->ebase[at->k];
+    p.n = p.all - skipped;
     p.r = at->r + sum_of(j->runs + at->u, skipped);
     p.u = at->u + skipped;
     return p;
@@ -434,7 +493,7 @@ APART static u32 within_jukugo(const struct job *j, const struct state *st, stru
     while (p.n > 1) {
         struct state next = *st;
         p.n--;
-        part(&w, j, p.b, p.n, p.r, p.u);
+        part(&w, j, p.b, p.n, p.all, p.r, p.u);
         place_word(&next, j, &w);
         if (fits(&next, j->limit))
             return p.b + p.n;
@@ -458,7 +517,7 @@ APART static u32 pass_jukugo(const struct job *j, u32 s, struct cursor *at, stru
     } else {
         at->k++;
         at->b = p.b + p.n;
-        at->r = p.r + part(&w, j, p.b, p.n, p.r, p.u);
+        at->r = p.r + part(&w, j, p.b, p.n, p.all, p.r, p.u);
         at->u = p.u + p.n;
         place_word(st, j, &w);
         if (fits(st, j->limit) && (j->flag[at->b - 1] || at->b == j->bases)) {
@@ -596,7 +655,7 @@ static void write_jukugo(const struct job *j, u32 s, u32 e, struct cursor *at, s
     const struct rest p = rest_of(j, s, at);
     const u32 n = smaller(p.n, e - p.b);
     struct word w;
-    u32 m = part(&w, j, p.b, n, p.r, p.u);
+    u32 m = part(&w, j, p.b, n, p.all, p.r, p.u);
     put_word(j, &w, place_word(st, j, &w), p.b, n, p.r, m, p.u, to);
     if (n < p.n)
         return;
@@ -661,8 +720,25 @@ static void write_lines(const struct job *j, const u32 *ends, u32 n, const struc
 
 /* ---- The entry point ---- */
 
+/* Number 15: "a ratio number over 7 or all three 0". */
+static int is_no_ratio(const u32 *ratio)
+{
+    return (ratio[0] | ratio[1] | ratio[2]) - 1 > 6;
+}
+
+static struct ratio ratio_of(const u32 *ratio)
+{
+    struct ratio by;
+    by.a = 2 * ratio[0];
+    by.c = 2 * ratio[2];
+    by.m = ratio[1];
+    by.rest = ratio[0] + ratio[2] - ratio[1]; /* may pass below 0; m n + rest does not */
+    by.uneven = ratio[0] != ratio[2];
+    return by;
+}
+
 bv_answer bv_set_job(
-    uint32_t em, uint32_t measure,
+    uint32_t em, uint32_t measure, const uint32_t *ruby_ratio, const uint32_t *base_ratio,
     const uint32_t *class_, size_t class_length, const uint32_t *width, size_t width_length,
     const uint32_t *before, size_t before_length, const uint32_t *after, size_t after_length,
     const uint32_t *flag, size_t flag_length,
@@ -683,6 +759,10 @@ bv_answer bv_set_job(
         return answer(1, 0);
     if (measure - 1 > 3999999)
         return answer(1, 1);
+    if (is_no_ratio(ruby_ratio))
+        return answer(15, 0);
+    if (is_no_ratio(base_ratio))
+        return answer(15, 1);
     if (bases > BV_MOST_BASE)
         return answer(2, 0);
     if (rubies > BV_MOST_RUBY)
@@ -693,6 +773,9 @@ bv_answer bv_set_job(
         return answer(12, 0);
     j.em = em;
     j.limit = 2 * measure;
+    j.over = ratio_of(ruby_ratio);
+    j.under = ratio_of(base_ratio);
+    j.most = j.over.m != 0 ? em : 0xffffffff;
     j.bases = (u32)bases;
     j.rubies = (u32)rubies;
     j.elements = (u32)elements;

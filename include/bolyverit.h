@@ -5,17 +5,20 @@
  * for <stdint.h>, which C99 and C++11 have; a C89 compiler without it needs the types uint8_t and uint32_t declared before.
  *
  * All numbers are those of the scope document ("document 01"): widths are whole units, positions are half units from the
- * start of the line, places count from 0 except where the document says "line from 1".
+ * start of the line, places count from 0 except where the document says "line from 1". The ratios and number 15 are those of
+ * the request R-4.
  *
  * What a caller must guarantee, since no proof can see it:
  *   - each pointer is not null and is aligned for its type, also where its length is 0, and may be read (or, for the lists
- *     that are not const, read and written) for the length that follows it;
- *   - no list that is written shares memory with any other list of the same call; lists that are only read may be the same;
+ *     that are not const, read and written) for the length that follows it; a ratio has no length and may be read for three
+ *     numbers;
+ *   - no list that is written shares memory with any other list of the same call; lists that are only read may be the same,
+ *     the two ratios too;
  *   - nothing else writes these lists while the call runs. Calls on different lists may run at the same time: there is no
  *     state between calls, no heap and no file;
- *   - 512 kilobytes of stack are free: the functions keep their tables there, at most 96,768 bytes of them in bv_set_job, 86,016
- *     in bv_account_job, 282,632 in bv_set_sheet and 376,840 in bv_account_sheet; the rest is for the calls themselves.
- * Nothing else is asked: any numbers in the lists and any lengths are answered.
+ *   - 512 kilobytes of stack are free: the functions keep their tables there, at most 96,816 bytes of them in bv_set_job, 86,040
+ *     in bv_account_job, 282,656 in bv_set_sheet and 376,888 in bv_account_sheet; the rest is for the calls themselves.
+ * Nothing else is asked: any numbers in the lists and the ratios and any lengths are answered.
  *
  * What is proved, for every call that keeps the above. Of bv_set_job: the answer and the three result lists are those of the
  * definition `outcome` (crates/job/specs/Outcome.antt), refusals included. Of bv_set_sheet: the bytes written are `answerText` of
@@ -45,7 +48,7 @@ extern "C" {
 #define BV_G 71
 #define BV_J 74
 
-/* The numbers of the refusal list. */
+/* The numbers of the refusal list. There is no number 14. */
 #define BV_SET 0            /* not refused */
 #define BV_RANGE 1          /* em odd, or em or measure out of range; 0 em, 1 measure */
 #define BV_COUNT 2          /* a count over its maximum; 0 base, 1 ruby, 2 elements */
@@ -60,6 +63,7 @@ extern "C" {
 #define BV_NO_BREAK 11      /* no permitted break gives a line that can be set; its first base character */
 #define BV_SHORT 12         /* a result list too short; 0 */
 #define BV_FORM 13          /* a job sheet breaks its form; the line from 1, 0 if over 65,535 bytes */
+#define BV_RATIO 15         /* a ratio number over 7, or all three 0; 0 ruby ratio, 1 base ratio */
 
 /* number 0: the job is set, and place is the number of its lines. Otherwise the refusal's number and its place. */
 typedef struct bv_answer {
@@ -71,6 +75,7 @@ typedef struct bv_answer {
  * Sets a job that is given in lists, each followed by its length in entries.
  *
  *   em, measure                        the size of a base character and the measure, in units
+ *   ruby_ratio, base_ratio             how spread ruby and spread base share out their space: three numbers a, m, c each
  *   class_, width, before, after, flag the fields of the base characters
  *   rclass, rwidth                     the fields of the ruby characters
  *   kind, ebase, eruby                 the fields of the elements: BV_P, BV_M, BV_G or BV_J, base count, ruby count
@@ -82,11 +87,25 @@ typedef struct bv_answer {
  * (both of P, the base count of M, the ruby count of J) is not read. The base and the line list need as many entries as there
  * are base characters, the ruby list as many as there are ruby characters; else the job is refused with number 12.
  *
+ * Of a ratio a is for the gap in front of the string, m for each gap between two of its characters, c for the gap behind it.
+ * Each is 0 to 7, and not all three are 0; else the job is refused with number 15, after 1 and before 2. 1:2:1 is the usual
+ * ratio and what a sheet means; 0:0:1 is shoulder-set, no space before, none between, all after:
+ *
+ *     static const uint32_t usual[3] = {1, 2, 1}, shoulder[3] = {0, 0, 1};
+ *
+ * A ratio reaches only what is spread: in a G, and in a J that is set as G, the shorter ruby if it is kana-like and the
+ * shorter base if it is kana-like. All else is centred whatever the ratios are: M, a part of one character of a J that is
+ * cut, shorter Western ruby, shorter Western base, and J runs over their own characters. With m = 0 the gap behind takes
+ * what the one in front leaves; so it does where one character is spread, which is centred if a and c are both 0. The limit
+ * of half an em at either end, for ruby of two or more characters, kana-like over kana-like, holds only if m is not 0.
+ *
  * A refusal alters no list. On success, entries past those used stay as they were.
  */
 bv_answer bv_set_job(
     uint32_t em,
     uint32_t measure,
+    const uint32_t *ruby_ratio,
+    const uint32_t *base_ratio,
     const uint32_t *class_, size_t class_length,
     const uint32_t *width, size_t width_length,
     const uint32_t *before, size_t before_length,
@@ -120,7 +139,8 @@ bv_answer bv_set_job(
 #define BV_ROW_DEPTH 5   /* how deep ruby lies on the block, of BV_BY_UNDER and BV_BY_OVER; else 0 */
 
 /*
- * The account of a job: why each gap of its lines is as wide as it is. The job is given, checked and refused as in bv_set_job.
+ * The account of a job: why each gap of its lines is as wide as it is. The job is given, checked and refused as in bv_set_job,
+ * with the same two ratios.
  *
  *   rows    result: BV_ROW numbers for each element of each line, in order; the parts of a cut J are told each in its own line
  *   told    result: for each line the count of rows up to its end
@@ -132,6 +152,8 @@ bv_answer bv_set_job(
 bv_answer bv_account_job(
     uint32_t em,
     uint32_t measure,
+    const uint32_t *ruby_ratio,
+    const uint32_t *base_ratio,
     const uint32_t *class_, size_t class_length,
     const uint32_t *width, size_t width_length,
     const uint32_t *before, size_t before_length,
@@ -155,7 +177,7 @@ bv_answer bv_account_job(
 /*
  * Sets a job sheet of `length` bytes, as the setting program does, and writes what the program writes, `refused N P` or the
  * result, to the front of `out`. `out` has room for BV_MOST_TEXT bytes, always; those past the answer stay as they were.
- * Returns the length of the answer in bytes.
+ * A sheet has no ratios: its job is set with 1:2:1 for both. Returns the length of the answer in bytes.
  */
 size_t bv_set_sheet(const uint8_t *sheet, size_t length, uint8_t *out);
 

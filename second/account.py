@@ -24,6 +24,9 @@ line would need.  text(sheet) writes everything down in the form of the
 account program (README.md, "The account").  It names one reason for each
 element, and finds it in another way than account(sheet) does: not by moving
 the element but by what it touches where it stands.
+
+account_job tells the same reasons of a job in lists, in rows of numbers, as
+include/bolyverit.h has them.
 """
 
 import collections
@@ -147,7 +150,11 @@ def sound_job(arguments):
 
 def drawn_lines(sheet):
     """The elements of each line, as the result of the sheet places them."""
-    arguments = second.read_sheet(sheet)
+    return drawn_lines_of(second.read_sheet(sheet))
+
+
+def drawn_lines_of(arguments):
+    """The same for a job that is given by its fourteen arguments."""
     base_out = [0] * second.MOST_BASE
     ruby_out = [0] * second.MOST_RUBY
     line_out = [0] * second.MOST_BASE
@@ -158,7 +165,7 @@ def drawn_lines(sheet):
     owner = second.owners(job)
     ends = line_out[:result[1]]
     lines = [[] for _ in ends]
-    for bases, rubies in second.printed_parts(*arguments[9:], ends):
+    for bases, rubies in second.printed_parts(*arguments[10:], ends):
         line = sum(end <= bases[0] for end in ends)
         lines[line].append(drawn_element(job, owner[bases[0]], bases, rubies,
                                          base_out, ruby_out))
@@ -289,6 +296,78 @@ def line_reasons(line):
     """The reason named for each element of a line, a list of Drawn."""
     return [next(reasons(line[:place], drawn))
             for place, drawn in enumerate(line)]
+
+
+# ---------------------------------------------------------------------------
+# The account of a job in lists (include/bolyverit.h, bv_account_job)
+# ---------------------------------------------------------------------------
+
+ROW = 6     # numbers in a row
+
+# How a reason is told: BV_BY_START to BV_BY_EDGE.
+TOLD = {(4, 'block', 'start'): 1, (1, 'block', 'block'): 2,
+        (2, 'block', 'ruby'): 3, (2, 'ruby', 'block'): 4,
+        (3, 'ruby', 'ruby'): 5, (4, 'ruby', 'start'): 6}
+
+
+def account_job(em, measure, ratios, base_class, base_width, blank_before,
+                blank_after, flag, ruby_class, ruby_width, kind, elem_base,
+                elem_ruby, runs, rows, told, extents):
+    """('set', number of lines) or ('refused', number, place).
+
+    The three result lists are written on success only.
+    """
+    arguments = (em, measure, ratios, base_class, base_width, blank_before,
+                 blank_after, flag, ruby_class, ruby_width, kind, elem_base,
+                 elem_ruby, runs)
+    job = second.Job(*arguments)
+    try:
+        # "The job is given, checked and refused as in bv_set_job", but for
+        # the room, which these three result lists need.
+        second.check_sizes(job)
+        second.check_ratios(job)
+        second.check_counts(job)
+        check_room(job, rows, told, extents)
+        lines = drawn_lines_of(arguments)
+    except second.Refused as refusal:
+        return ('refused', refusal.number, refusal.place)
+    write_account(lines, rows, told, extents)
+    return ('set', len(lines))
+
+
+def check_room(job, rows, told, extents):
+    # "rows needs BV_ROW entries for each base character, told and extents
+    # one; else the job is refused with number 12."
+    if len(rows) < ROW * job.base_count:
+        raise second.Refused(12, 0)
+    if len(told) < job.base_count or len(extents) < job.base_count:
+        raise second.Refused(12, 0)
+
+
+def write_account(lines, rows, told, extents):
+    # "rows: BV_ROW numbers for each element of each line, in order"; "told:
+    # for each line the count of rows up to its end"; "extents: for each line
+    # its extent".  "On success, entries past those used stay as they were."
+    count = 0
+    for number, line in enumerate(lines):
+        for row in told_rows(line):
+            for place, value in enumerate(row):
+                rows[ROW * count + place] = value
+            count += 1
+        told[number] = count
+        extents[number] = extent(line)
+
+
+def told_rows(line):
+    """The row of each element of a line, a list of Drawn."""
+    block_before = 0
+    for drawn, reason in zip(line, line_reasons(line)):
+        # The element, its start, its gap, the reason; the other element and
+        # the depth, 0 where there is none.
+        yield (drawn.element, drawn.block[0], drawn.block[0] - block_before,
+               TOLD[reason.rule, reason.mine, reason.its],
+               reason.other or 0, reason.depth or 0)
+        block_before = drawn.block[1]
 
 
 # ---------------------------------------------------------------------------

@@ -4,7 +4,7 @@ It reads a job sheet on standard input and writes what the setting program
 writes.  It states the rules of document 01 one by one and looks for nothing
 clever; it exists to be compared, byte for byte, with the proved engine.  A
 change of document 02 is in the place of the rule that it changes, under its
-number (R-1).
+number (R-1, R-4).
 
     python3 second.py < sheet              one sheet, one answer
     python3 second.py --framed < sheets    many sheets (see README.md)
@@ -24,6 +24,10 @@ MOST_ELEMENTS = 1024
 
 # How a kind is written in a list: the byte of the sheet's letter.
 P, M, G, J = 80, 77, 71, 74
+
+# R-4: "A job carries two ratios, one for spread ruby and one for spread base,
+# each of three numbers a, m, c".  This is the ratio of document 01, in both.
+ONE_TWO_ONE = ((1, 2, 1), (1, 2, 1))
 
 
 class Refused(Exception):
@@ -84,11 +88,12 @@ class Element:
 class Job:
     """The lists of a job and, once they are known, its elements."""
 
-    def __init__(self, em, measure, base_class, base_width, blank_before,
-                 blank_after, flag, ruby_class, ruby_width, kind, elem_base,
-                 elem_ruby, runs):
+    def __init__(self, em, measure, ratios, base_class, base_width,
+                 blank_before, blank_after, flag, ruby_class, ruby_width,
+                 kind, elem_base, elem_ruby, runs):
         self.em = em
         self.measure = measure
+        self.ratios = ratios        # (a, m, c) of the ruby and of the base
         self.base_class = base_class
         self.base_width = base_width
         self.blank_before = blank_before
@@ -111,7 +116,7 @@ class Job:
 
 
 # ---------------------------------------------------------------------------
-# Refusals 1, 2, 12
+# Refusals 1, 15, 2, 12
 # ---------------------------------------------------------------------------
 
 def check_sizes(job):
@@ -121,6 +126,16 @@ def check_sizes(job):
         raise Refused(1, 0)
     if not 1 <= job.measure <= 4000000:
         raise Refused(1, 1)
+
+
+def check_ratios(job):
+    # R-4: "Refusals: 15, a ratio number over 7 or all three 0, checked after
+    # 1, place 0 for the ruby ratio, 1 for the base."
+    for place, ratio in enumerate(job.ratios):
+        if any(number > 7 for number in ratio):
+            raise Refused(15, place)
+        if all(number == 0 for number in ratio):
+            raise Refused(15, place)
 
 
 def check_counts(job):
@@ -325,32 +340,62 @@ def solid(base_widths, ruby_widths):
             one_after_another(ruby_start, ruby_widths))
 
 
-def spread(widths, difference, limit):
-    # "Spread: the shorter string gets equal end gaps g = floor(D/n).
-    # Character i (from 0) starts at g + twice the widths before it +
-    # floor((2D - 2g) * i / (n - 1)). With n = 1 it starts at D."
-    # limit is the em where g = min(floor(D/n), em) applies, None elsewhere.
+def spread(widths, difference, ratio, limit):
+    # "Spread: ... Character i (from 0) starts at g + twice the widths before
+    # it + floor((2D - 2g) * i / (n - 1))."  By R-4 the front gap is in the
+    # place of g, and what both gaps leave in the place of 2D - 2g: "the inner
+    # gaps share what is left as in document 01".
     n = len(widths)
     if n == 1:
-        return [difference]
-    g = difference // n
+        return [gap_before_one(difference, ratio)]
+    front, rear = end_gaps(n, difference, ratio, limit)
+    left = 2 * difference - front - rear
+    return [front + 2 * sum(widths[:i]) + left * i // (n - 1)
+            for i in range(n)]
+
+
+def gap_before_one(difference, ratio):
+    # R-4: "With n = 1 the front gap is as above and the rear takes the rest,
+    # but if a and c are both 0 the character is centred."  S is a + c here;
+    # centred is at D half units, half of 2D.
+    a, _, c = ratio
+    if a == 0 and c == 0:
+        return difference
+    return 2 * difference * a // (a + c)
+
+
+def end_gaps(n, difference, ratio, limit):
+    """(front gap, rear gap) of a string of two characters and more.
+
+    limit is the em where the half-em limit applies, None elsewhere.
+    """
+    # R-4: "With S = a + m(n - 1) + c, the front gap is floor(2D * a / S), the
+    # rear gap floor(2D * c / S)".
+    a, m, c = ratio
+    total = a + m * (n - 1) + c
+    front = 2 * difference * a // total
+    rear = 2 * difference * c // total
+    if m == 0:
+        # "If m = 0 and n is at least 2, the rear gap takes what is left."
+        return front, 2 * difference - front
     if limit is not None:
-        g = min(g, limit)
-    return [g + 2 * sum(widths[:i])
-            + (2 * difference - 2 * g) * i // (n - 1) for i in range(n)]
+        # "The half-em limit stays where it stood, at either end, and only if
+        # m is not 0."  Half an em is em half units.
+        front, rear = min(front, limit), min(rear, limit)
+    return front, rear
 
 
-def spread_ruby(base_widths, ruby_widths, limit):
+def spread_ruby(ratios, base_widths, ruby_widths, limit):
     # The ruby is the shorter string, so positions count from the base.
     difference = sum(base_widths) - sum(ruby_widths)
     return (one_after_another(0, base_widths),
-            spread(ruby_widths, difference, limit))
+            spread(ruby_widths, difference, ratios[0], limit))
 
 
-def spread_base(base_widths, ruby_widths):
+def spread_base(ratios, base_widths, ruby_widths):
     # The base is the shorter string, so positions count from the ruby.
     difference = sum(ruby_widths) - sum(base_widths)
-    return (spread(base_widths, difference, None),
+    return (spread(base_widths, difference, ratios[1], None),
             one_after_another(0, ruby_widths))
 
 
@@ -359,7 +404,8 @@ def set_mono(base_widths, ruby_widths):
     return solid(base_widths, ruby_widths)
 
 
-def set_group(em, base_western, base_widths, ruby_western, ruby_widths):
+def set_group(em, ratios, base_western, base_widths,
+              ruby_western, ruby_widths):
     base, ruby = sum(base_widths), sum(ruby_widths)
     if base == ruby:
         # "G, equal sums: solid."
@@ -368,28 +414,29 @@ def set_group(em, base_western, base_widths, ruby_western, ruby_widths):
         # "G, kana-like over kana-like: the shorter string is spread. Where
         # the ruby is shorter and n is at least 2, g = min(floor(D/n), em)."
         if ruby < base:
-            return spread_ruby(base_widths, ruby_widths, em)
-        return spread_base(base_widths, ruby_widths)
+            return spread_ruby(ratios, base_widths, ruby_widths, em)
+        return spread_base(ratios, base_widths, ruby_widths)
     if base_western and not ruby_western:
         # "G, kana-like ruby over Western base: shorter ruby is spread,
         # without that limit; longer ruby is solid."
         if ruby < base:
-            return spread_ruby(base_widths, ruby_widths, None)
+            return spread_ruby(ratios, base_widths, ruby_widths, None)
         return solid(base_widths, ruby_widths)
     # "G, Western ruby over kana-like base: shorter ruby is solid; longer
     # ruby spreads the base, without that limit."  (Western over Western is
     # refused, 10.)
     if ruby < base:
         return solid(base_widths, ruby_widths)
-    return spread_base(base_widths, ruby_widths)
+    return spread_base(ratios, base_widths, ruby_widths)
 
 
-def set_jukugo(em, base_widths, runs, ruby_western, ruby_widths):
+def set_jukugo(em, ratios, base_widths, runs, ruby_western, ruby_widths):
     # "J: if no run is longer than one em, each run is solid over its own
     # character. If any is longer, the whole is set as G."
     run_widths = cut_into_runs(runs, ruby_widths)
     if any(sum(widths) > em for widths in run_widths):
-        return set_group(em, False, base_widths, ruby_western, ruby_widths)
+        return set_group(em, ratios, False, base_widths,
+                         ruby_western, ruby_widths)
     base_positions, ruby_positions = [], []
     for i, widths in enumerate(run_widths):
         # No run is longer than its character, so positions of the pair
@@ -473,14 +520,16 @@ def ruby_word(job, element, first, end):
         base, ruby = set_mono(base_widths, ruby_widths)
     elif element.kind == G:
         base_western = is_western(job.base_class[first])
-        base, ruby = set_group(job.em, base_western, base_widths,
+        base, ruby = set_group(job.em, job.ratios, base_western, base_widths,
                                ruby_western, ruby_widths)
     elif is_cut(element, first, end) and end - first == 1:
         # "A J cut by a line end is two words: a part of one character is
-        # set as M, a part of more as J."
+        # set as M, a part of more as J."  A J of one character that is not
+        # cut is no part: with a run over one em it is set as G, and R-4's
+        # base ratio decides.
         base, ruby = set_mono(base_widths, ruby_widths)
     else:
-        base, ruby = set_jukugo(job.em, base_widths, runs,
+        base, ruby = set_jukugo(job.em, job.ratios, base_widths, runs,
                                 ruby_western, ruby_widths)
     return Word(first, base, base[-1] + 2 * base_widths[-1],
                 ruby_first, ruby, ruby[-1] + 2 * ruby_widths[-1])
@@ -725,21 +774,23 @@ def fill_lines(job):
 # The list-level call
 # ---------------------------------------------------------------------------
 
-def set_job(em, measure, base_class, base_width, blank_before, blank_after,
-            flag, ruby_class, ruby_width, kind, elem_base, elem_ruby, runs,
-            base_out, ruby_out, line_out):
+def set_job(em, measure, ratios, base_class, base_width, blank_before,
+            blank_after, flag, ruby_class, ruby_width, kind, elem_base,
+            elem_ruby, runs, base_out, ruby_out, line_out):
     """('set', number of lines) or ('refused', number, place).
 
     The three result lists are written on success only.
     """
-    job = Job(em, measure, base_class, base_width, blank_before, blank_after,
-              flag, ruby_class, ruby_width, kind, elem_base, elem_ruby, runs)
+    job = Job(em, measure, ratios, base_class, base_width, blank_before,
+              blank_after, flag, ruby_class, ruby_width, kind, elem_base,
+              elem_ruby, runs)
     try:
         # Order: "1, 2 and 12, each by lowest place; then base characters and
         # then ruby characters in turn, 3 before 4; then elements in turn, in
         # the table's order from 5; then leftover characters; then lines in
-        # turn."
+        # turn."  R-4's 15 is "checked after 1".
         check_sizes(job)
+        check_ratios(job)
         check_counts(job)
         check_room(job, base_out, ruby_out, line_out)
         check_characters(job)
@@ -831,7 +882,10 @@ class Reader:
 
 
 def read_sheet(sheet):
-    """The thirteen arguments of a job (em to runs), or Refused."""
+    """The fourteen arguments of a job (em to runs), or Refused.
+
+    A sheet of this form has no ratios: they are document 01's.
+    """
     # "over-length comes before both"; place "0 if over 65,535 bytes".
     if len(sheet) > LARGEST_SHEET:
         raise Refused(13, 0)
@@ -841,7 +895,8 @@ def read_sheet(sheet):
     ruby = read_ruby(reader)
     kind, elem_base, elem_ruby, runs = read_elem(reader)
     reader.nothing_after()
-    return [em, measure] + base + ruby + [kind, elem_base, elem_ruby, runs]
+    return ([em, measure, ONE_TWO_ONE] + base + ruby
+            + [kind, elem_base, elem_ruby, runs])
 
 
 def read_set(reader):
@@ -934,8 +989,8 @@ def refused_text(number, place):
 def result_text(arguments, base_out, ruby_out, ends):
     # "`lines` has the number of lines, `line` the extent; `b` and `r` have
     # index and position, element by element, base before ruby."
-    base_width, ruby_width = arguments[3], arguments[8]
-    parts = printed_parts(*arguments[9:], ends)
+    base_width, ruby_width = arguments[4], arguments[9]
+    parts = printed_parts(*arguments[10:], ends)
     text = [b'lines %d\n' % len(ends)]
     for end in ends:
         in_line = []

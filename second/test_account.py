@@ -15,8 +15,10 @@ sys.path.insert(0, HERE)
 
 import generate     # noqa: E402  (found through the path set above)
 import second       # noqa: E402
-from account import account, broken_rules, drawn_lines  # noqa: E402
-from test_second import EXAMPLE, g, j, m, p, sheet  # noqa: E402
+from account import account, account_job, broken_rules  # noqa: E402
+from account import drawn_lines, drawn_lines_of, line_account  # noqa: E402
+from second import ONE_TWO_ONE  # noqa: E402
+from test_second import EXAMPLE, as_lists, g, j, m, p, sheet  # noqa: E402
 
 
 class ByHand(unittest.TestCase):
@@ -135,25 +137,120 @@ class ByHand(unittest.TestCase):
                          (1, 0))
 
 
+class InLists(unittest.TestCase):
+    """account_job: rows of element, start, gap, reason, other and depth."""
+
+    def told(self, elements, em=10, measure=4000, ratios=ONE_TWO_ONE,
+             room=None):
+        """(answer, rows, told, extents), 77 where nothing was written."""
+        lists = as_lists(elements)
+        count = len(lists['flag'])
+        rows, told, extents = ([77] * length for length in (
+            room or (6 * count + 1, count + 1, count + 1)))
+        answer = account_job(em, measure, ratios, rows=rows, told=told,
+                             extents=extents, **lists)
+        return answer, rows, told, extents
+
+    def test_k11(self):
+        # Reasons: its ruby at the line's start (6); its block under the ruby
+        # of 0 at depth 0 (3); its ruby over the block of 1 at depth 4 (4).
+        # The ruby of the last word ends at 70.
+        self.assertEqual(
+            self.told([m(3), p(7, 7, 0, 2), m(3)]),
+            (('set', 1), [0, 5, 5, 6, 0, 0, 1, 30, 5, 3, 0, 0,
+                          2, 45, 1, 4, 1, 4, 77],
+             [3, 77, 77, 77], [70, 77, 77, 77]))
+
+    def test_several_lines(self):
+        # The worked example; the J is told in both of its lines, its second
+        # part by its block at the start (1).  The J's first part touches the
+        # block before it (2).
+        self.assertEqual(
+            self.told([m(3), p(), j([1, 2])], measure=35),
+            (('set', 2), [0, 5, 5, 6, 0, 0, 1, 30, 5, 3, 0, 0,
+                          2, 50, 0, 2, 1, 0, 2, 0, 0, 1, 0, 0, 77],
+             [3, 4, 77, 77, 77], [70, 20, 77, 77, 77]))
+
+    def test_ruby_on_ruby(self):
+        # K9: the second ruby touches that of 0 (5).
+        self.assertEqual(self.told([m(3), m(3)])[1][6:12],
+                         [1, 35, 10, 5, 0, 0])
+
+    def test_ratios(self):
+        # P 0..20, then g(2, 7).  Base 0:0:1: its block touches the P's, its
+        # ruby to 90.  1:0:0: its ruby from 20, the P has no blank; its block
+        # 30 hu behind.
+        words = [p(), g(2, 7)]
+        self.assertEqual(self.told(words, ratios=((1, 2, 1), (0, 0, 1)))[1:],
+                         ([0, 0, 0, 1, 0, 0, 1, 20, 0, 2, 0, 0]
+                          + [77] * 7, [2, 77, 77, 77], [90, 77, 77, 77]))
+        self.assertEqual(self.told(words, ratios=((1, 2, 1), (1, 0, 0)))[1:],
+                         ([0, 0, 0, 1, 0, 0, 1, 50, 30, 4, 0, 0]
+                          + [77] * 7, [2, 77, 77, 77], [90, 77, 77, 77]))
+
+    def test_room(self):
+        # Two base characters: twelve, two and two entries.
+        words = [m(3), p()]
+        self.assertEqual(self.told(words, room=(12, 2, 2))[0], ('set', 1))
+        for room in ((11, 2, 2), (12, 1, 2), (12, 2, 1), (0, 0, 0)):
+            self.assertEqual(self.told(words, room=room)[0],
+                             ('refused', 12, 0))
+        self.assertEqual(self.told([], room=(0, 0, 0))[0], ('set', 0))
+
+    def test_refusals(self):
+        # As of set_job; 12 behind 1, 15 and 2 and ahead of all others.
+        bad, none = ((1, 2, 1), (8, 0, 0)), (0, 0, 0)
+        over = [p(0)] * 1025
+        for expected, words, changes in (
+                ((1, 1), over, dict(measure=0, ratios=bad, room=none)),
+                ((15, 1), over, dict(ratios=bad, room=none)),
+                ((2, 0), over, dict(room=none)),
+                ((12, 0), [p(0)], dict(room=none)),
+                ((3, 0), [p(0)], dict()),
+                ((11, 1), [p(), g(2, 5)], dict(measure=20))):
+            answer, *lists = self.told(words, **changes)
+            self.assertEqual(answer, ('refused', *expected))
+            self.assertEqual(set(sum(lists, [])) - {77}, set())
+
+
 class OnGeneratedSheets(unittest.TestCase):
 
+    def check(self, lines):
+        """As they stand no rule is broken, and nearer some rule is.
+
+        So every element stands at the least position.
+        """
+        for line in lines:
+            rows = line_account(line)
+            for place, drawn in enumerate(line):
+                self.assertEqual(broken_rules(line[:place], drawn), [])
+                self.assertNotEqual(rows[place][3], [])
+                self.seen += 1
+
     def test_every_element_is_held(self):
-        # As they stand no rule is broken, and nearer some rule is: every
-        # element stands at the least position.
-        seen = 0
+        self.seen = 0
         for text in generate.sheets(31, 250):
             try:
                 lines = drawn_lines(text)
             except second.Refused:
                 continue
-            if sum(map(len, lines)) > 80:
+            if sum(map(len, lines)) <= 80:
+                self.check(lines)
+        self.assertGreater(self.seen, 500)
+
+    def test_by_other_ratios(self):
+        self.seen = 0
+        various = ((0, 0, 1), (1, 3, 1), (7, 0, 3), (0, 1, 6))
+        for number, text in enumerate(generate.sheets(32, 200)):
+            try:
+                arguments = second.read_sheet(text)
+                arguments[2] = various[number % 4], various[number // 4 % 4]
+                lines = drawn_lines_of(arguments)
+            except second.Refused:
                 continue
-            for line, rows in zip(lines, account(text)):
-                for place, drawn in enumerate(line):
-                    self.assertEqual(broken_rules(line[:place], drawn), [])
-                    self.assertNotEqual(rows[place][3], [])
-                    seen += 1
-        self.assertGreater(seen, 500)
+            if sum(map(len, lines)) <= 80:
+                self.check(lines)
+        self.assertGreater(self.seen, 500)
 
 
 if __name__ == '__main__':

@@ -2,13 +2,14 @@
 
     python3 second/test_second.py
 
-Every expected value comes from document 01 (with R-1 of document 02), or is
-derived from its rules in the comment beside it.  hu means half units.  Where
-nothing else is said, em is 10, base characters are 10 wide and ruby
+Every expected value comes from document 01 (with R-1 and R-4 of document 02),
+or is derived from its rules in the comment beside it.  hu means half units.
+Where nothing else is said, em is 10, base characters are 10 wide and ruby
 characters 5 wide, as in the settings K1 to K12.
 """
 
 import os
+import random
 import subprocess
 import sys
 import tempfile
@@ -20,7 +21,7 @@ sys.path.insert(0, HERE)
 import compare      # noqa: E402  (found through the path set above)
 import generate     # noqa: E402
 import second       # noqa: E402
-from second import G, P, answer, set_job  # noqa: E402
+from second import G, ONE_TWO_ONE, P, answer, set_job  # noqa: E402
 
 BIG = 4294967295
 
@@ -140,14 +141,15 @@ def as_lists(elements):
 class Lists:
     """A list-level call on a job of elements, with some lists replaced."""
 
-    def __init__(self, elements, em=10, measure=4000, room=None, **replaced):
+    def __init__(self, elements, em=10, measure=4000, ratios=ONE_TWO_ONE,
+                 room=None, **replaced):
         arguments = as_lists(elements)
         arguments.update(replaced)
         base, ruby, line = room if room else (1024, 2048, 1024)
         self.base_out = [77] * base
         self.ruby_out = [77] * ruby
         self.line_out = [77] * line
-        self.result = set_job(em, measure, base_out=self.base_out,
+        self.result = set_job(em, measure, ratios, base_out=self.base_out,
                               ruby_out=self.ruby_out,
                               line_out=self.line_out, **arguments)
         outs = self.base_out + self.ruby_out + self.line_out
@@ -362,6 +364,328 @@ class LevelOne(Case):
         self.assertEqual(one_line([g([2, 2, 2], [1, 1])], em=2)[1], [2, 8])
         # B 8: D 6, floor 3, held at 2; second at 2 + 2 + (12 - 4) = 12.
         self.assertEqual(one_line([g([2, 2, 4], [1, 1])], em=2)[1], [2, 12])
+
+
+# ---------------------------------------------------------------------------
+# R-4: ratios
+# ---------------------------------------------------------------------------
+# g(3, 2): B 30, R 10, D 20, 2D 40.  g(5, 2): B 50, R 10, D 40, 2D 80.
+# g(2, 7): B 20, R 35, D 15, 2D 30.  g(4, 1): B 40, R 5, D 35, 2D 70.
+
+SHOULDER = (0, 0, 1)    # "no space before, none between, all after"
+OTHER = (7, 0, 0)       # what the string that is not spread would show
+
+
+def by_ruby(ratio, word, em=10):
+    """The ruby positions of a word, spread by this ratio."""
+    return by_ratios((ratio, OTHER), [word], em)[1]
+
+
+def by_base(ratio, word, em=10):
+    """The base positions of a word, spread by this ratio."""
+    return by_ratios((OTHER, ratio), [word], em)[0]
+
+
+def by_ratios(ratios, elements, em=10, measure=4000):
+    """(base positions, ruby positions) of a job that is one line."""
+    call = Lists(elements, em, measure, ratios)
+    assert call.result == ('set', 1), call.result
+    lists = as_lists(elements)
+    return (call.base_out[:len(lists['flag'])],
+            call.ruby_out[:len(lists['ruby_width'])])
+
+
+def spread_of_document_01(widths, difference, limit):
+    """What R-4 has in its 1:2:1, as document 01 states it.
+
+    "The shorter string gets equal end gaps g = floor(D/n). Character i (from
+    0) starts at g + twice the widths before it + floor((2D - 2g) * i /
+    (n - 1)). With n = 1 it starts at D."
+    """
+    n, at = len(widths), []
+    if n == 1:
+        return [difference]
+    g = difference // n
+    if limit is not None and g > limit:
+        g = limit
+    before = 0
+    for i, width in enumerate(widths):
+        at.append(g + 2 * before + (2 * difference - 2 * g) * i // (n - 1))
+        before += width
+    return at
+
+
+def random_spreads(seed, count):
+    """(widths, D, limit) of strings that are spread."""
+    rng = random.Random(seed)
+    for _ in range(count):
+        widths = [1 + rng.randrange(30)
+                  for _ in range(1 + rng.randrange(12))]
+        limit = rng.choice((None, 2, 10, 10, 2 + 2 * rng.randrange(20)))
+        yield widths, 1 + rng.randrange(rng.choice((10, 100, 1000))), limit
+
+
+class Ratios(Case):
+
+    def test_shoulder_set(self):
+        # All 40 hu after the ruby, all 30 hu after the base.
+        self.assertEqual(by_ruby(SHOULDER, g(3, 2)), [0, 10])
+        self.assertEqual(by_base(SHOULDER, g(2, 7)), [0, 20])
+        # The other string is solid from the word's start.
+        self.assertEqual(by_ratios((SHOULDER, OTHER), [g(3, 2)])[0],
+                         [0, 20, 40])
+        self.assertEqual(by_ratios((OTHER, SHOULDER), [g(2, 7)])[1],
+                         [0, 10, 20, 30, 40, 50, 60])
+
+    def test_one_three_one_of_ruby(self):
+        # n 2, S 1 + 3 + 1 = 5, gaps floor(40/5) = 8 and 8, inside 24.
+        # 8; 8 + 10 + 24 = 42.
+        self.assertEqual(by_ruby((1, 3, 1), g(3, 2)), [8, 42])
+        # B 30, R 15, 2D 30, n 3, S 1 + 6 + 1 = 8: floor(30/8) = 3 and 3,
+        # inside 24: 3; 3 + 10 + 12 = 25; 3 + 20 + 24 = 47.
+        self.assertEqual(by_ruby((1, 3, 1), g(3, 3)), [3, 25, 47])
+        # 2D 80: 16 and 16, both held at 10, inside 60: 10 + 10 + 60 = 80.
+        self.assertEqual(by_ruby((1, 3, 1), g(5, 2)), [10, 80])
+
+    def test_one_three_one_of_base(self):
+        # n 2, S 5: floor(30/5) = 6 and 6, inside 18: 6; 6 + 20 + 18 = 44.
+        self.assertEqual(by_base((1, 3, 1), g(2, 7)), [6, 44])
+        # B 30, R 40, 2D 20, n 3, S 8: floor(20/8) = 2 and 2, inside 16.
+        # 2; 2 + 20 + 8 = 30; 2 + 40 + 16 = 58.
+        self.assertEqual(by_base((1, 3, 1), g(3, 8)), [2, 30, 58])
+
+    def test_ends_are_floored_each_for_itself(self):
+        # 2:3:5, n 2, S 10, 2D 30: 6 and 15, inside 9: 6; 6 + 20 + 9 = 35.
+        self.assertEqual(by_base((2, 3, 5), g(2, 7)), [6, 35])
+        # 2:3:4, S 9: floor(60/9) = 6, floor(120/9) = 13, inside 11:
+        # 6; 6 + 20 + 11 = 37.
+        self.assertEqual(by_base((2, 3, 4), g(2, 7)), [6, 37])
+        # 4:3:2: 13 and 6, inside 11: 13; 13 + 20 + 11 = 44.
+        self.assertEqual(by_base((4, 3, 2), g(2, 7)), [13, 44])
+
+    def test_inner_gaps_are_floored_afresh(self):
+        # B 25, R 20, D 5, 2D 10, n 4.  0:1:3, S 3 + 3 = 6: rear floor(30/6)
+        # = 5, inside 5, floor(5i/3) = 0, 1, 3, 5: 0; 10+1; 20+3; 30+5.
+        self.assertEqual(by_ruby((0, 1, 3), g([10, 10, 5], 4)),
+                         [0, 11, 23, 35])
+
+    def test_nothing_at_the_ends(self):
+        # 0:1:0: all 40 hu inside: 0; 10 + 40.  Base: 0; 20 + 30.
+        self.assertEqual(by_ruby((0, 1, 0), g(3, 2)), [0, 50])
+        self.assertEqual(by_base((0, 1, 0), g(2, 7)), [0, 50])
+
+    def test_all_before(self):
+        # 1:0:0: all 40 hu in front of the ruby, all 30 of the base.
+        self.assertEqual(by_ruby((1, 0, 0), g(3, 2)), [40, 50])
+        self.assertEqual(by_base((1, 0, 0), g(2, 7)), [30, 50])
+
+    def test_the_rear_takes_what_is_left(self):
+        # 1:0:2, S 3: front floor(40/3) = 13 and the rest behind: 13, 23.
+        self.assertEqual(by_ruby((1, 0, 2), g(3, 2)), [13, 23])
+        # 2:0:1: front floor(80/3) = 26: 26, 36.
+        self.assertEqual(by_ruby((2, 0, 1), g(3, 2)), [26, 36])
+        # 3:0:4 of the base, S 7: front floor(90/7) = 12: 12, 32.
+        self.assertEqual(by_base((3, 0, 4), g(2, 7)), [12, 32])
+
+    def test_one_ruby_character(self):
+        # 2D 70, S a + c; the limit of 10 hu is not for one character.
+        for ratio, place in (((1, 2, 1), 35), (SHOULDER, 0), ((1, 0, 0), 70),
+                             ((1, 3, 1), 35), ((1, 5, 2), 23), ((2, 7, 1), 46),
+                             ((0, 7, 5), 0), ((5, 7, 0), 70), ((7, 0, 7), 35)):
+            self.assertEqual(by_ruby(ratio, g(4, 1)), [place])
+
+    def test_one_base_character(self):
+        # B 10, R 20, 2D 20: 1:0:2 floor(20/3) = 6; 2:1:1 floor(40/3) = 13.
+        for ratio, place in (((1, 2, 1), 10), (SHOULDER, 0), ((1, 0, 0), 20),
+                             ((1, 0, 2), 6), ((2, 1, 1), 13), ((0, 1, 1), 0),
+                             ((1, 1, 0), 20)):
+            self.assertEqual(by_base(ratio, g(1, 4)), [place])
+
+    def test_one_character_centred(self):
+        # "if a and c are both 0 the character is centred": D.
+        for m in (1, 3, 7):
+            self.assertEqual(by_ruby((0, m, 0), g(4, 1)), [35])
+            self.assertEqual(by_base((0, m, 0), g(1, 4)), [10])
+
+    def test_limit_at_one_end(self):
+        # n 2, 2D 80.  0:1:4, S 5: 0 and 64, held at 10, inside 70: 10 + 70.
+        self.assertEqual(by_ruby((0, 1, 4), g(5, 2)), [0, 80])
+        # 4:1:0: 64, held at 10, and 0, inside 70: 10; 10 + 10 + 70 = 90.
+        self.assertEqual(by_ruby((4, 1, 0), g(5, 2)), [10, 90])
+        # 1:6:4, S 11: floor(80/11) = 7; floor(320/11) = 29, held at 10;
+        # inside 63: 7; 7 + 10 + 63 = 80.
+        self.assertEqual(by_ruby((1, 6, 4), g(5, 2)), [7, 80])
+        # 4:6:1: 10 and 7, inside 63: 10; 10 + 10 + 63 = 83.
+        self.assertEqual(by_ruby((4, 6, 1), g(5, 2)), [10, 83])
+        # B 60, R 15, 2D 90, n 3.  1:2:5, S 10: 9; 45, held at 10; inside 71:
+        # 9; 9 + 10 + floor(71/2) = 54; 9 + 20 + 71 = 100.
+        self.assertEqual(by_ruby((1, 2, 5), g(6, 3)), [9, 54, 100])
+
+    def test_limit_at_both_ends(self):
+        # 1:1:4, S 6: floor(80/6) = 13 and floor(320/6) = 53: 10 and 10,
+        # inside 60: 10; 10 + 10 + 60 = 80.
+        self.assertEqual(by_ruby((1, 1, 4), g(5, 2)), [10, 80])
+
+    def test_limit_one_under_at_and_over(self):
+        # 0:3:1, n 2, S 4.  B 28, 2D 36: rear 9, inside 27: 10 + 27 = 37.
+        self.assertEqual(by_ruby((0, 3, 1), g([10, 10, 8], 2)), [0, 37])
+        # B 30, 2D 40: rear 10, inside 30: 40.
+        self.assertEqual(by_ruby((0, 3, 1), g(3, 2)), [0, 40])
+        # B 32, 2D 44: rear 11, held at 10, inside 34: 44.
+        self.assertEqual(by_ruby((0, 3, 1), g([10, 10, 12], 2)), [0, 44])
+        # 1:3:0 of the same: front 11, held at 10, inside 34: 10 + 10 + 34.
+        self.assertEqual(by_ruby((1, 3, 0), g([10, 10, 12], 2)), [10, 54])
+
+    def test_no_limit_with_m_0(self):
+        # 1:0:1, S 2, 2D 80: front 40, no more than 10 with the limit.
+        self.assertEqual(by_ruby((1, 0, 1), g(5, 2)), [40, 50])
+        # 0:0:1: rear 80; 1:0:0: front 80.
+        self.assertEqual(by_ruby(SHOULDER, g(5, 2)), [0, 10])
+        self.assertEqual(by_ruby((1, 0, 0), g(5, 2)), [80, 90])
+
+    def test_no_limit_where_it_never_stood(self):
+        # Western base: 0:1:4, 2D 80: 0 and 64, inside 16: 0; 10 + 16 = 26.
+        self.assertEqual(by_ruby((0, 1, 4), g(5, 2, cls=24)), [0, 26])
+        # Base spread: B 20, R 42, 2D 44: 0:1:4: 0 and floor(176/5) = 35,
+        # inside 9: 0; 20 + 9 = 29.  Under Western ruby the same.
+        self.assertEqual(by_base((0, 1, 4), g(2, [6] * 7)), [0, 29])
+        self.assertEqual(by_base((0, 1, 4), g(2, [6] * 7, ruby_class=24)),
+                         [0, 29])
+
+    def test_each_string_by_its_own_ratio(self):
+        # Ruby 0:0:1: 0, 10; base 1:0:0: 30, 50 behind the word's start.  The
+        # first word is 0..60, the second's ruby 60..130.
+        self.assertEqual(by_ratios((SHOULDER, (1, 0, 0)), [g(3, 2), g(2, 7)]),
+                         ([0, 20, 40, 90, 110],
+                          [0, 10, 60, 70, 80, 90, 100, 110, 120]))
+
+    def test_what_is_solid_is_not_touched(self):
+        for ratio in (SHOULDER, (1, 0, 0), (0, 3, 0), (7, 1, 2)):
+            def positions(word):
+                return by_ratios((ratio, ratio), [word])
+            # M, ruby shorter, equal and longer: D 5, 0, 5.
+            self.assertEqual(positions(m(1)), ([0], [5]))
+            self.assertEqual(positions(m(2)), ([0], [0, 10]))
+            self.assertEqual(positions(m(3)), ([5], [0, 10, 20]))
+            self.assertEqual(positions(m(2, width=100)), ([0], [90, 100]))
+            # G, equal sums.
+            self.assertEqual(positions(g(2, 4)), ([0, 20], [0, 10, 20, 30]))
+            # Kana-like ruby over Western base, longer: D 15.
+            self.assertEqual(positions(g(2, 7, cls=27))[0], [15, 35])
+            # Western ruby over kana-like base, shorter: D 40.
+            self.assertEqual(positions(g(5, 2, ruby_class=25))[1], [40, 50])
+            # J, no run longer than one em: K7.
+            self.assertEqual(positions(j([1, 2])), ([0, 20], [5, 20, 30]))
+            self.assertEqual(positions(j([1])), ([0], [5]))
+            # J as G with equal sums: K8.
+            self.assertEqual(positions(j([1, 3]))[1], [0, 10, 20, 30])
+            # J as G, Western ruby, shorter in all: B 30, R 25, D 5.
+            self.assertEqual(positions(j([3, 1, 1], ruby_class=27))[1],
+                             [5, 15, 25, 35, 45])
+
+    def test_jukugo_as_group(self):
+        # Runs 11 and 5: ruby 5, 6, 5 (16) over 20, 2D 8, n 3.  0:0:1: 0, 10,
+        # 22.  1:1:0, S 1 + 2 = 3: front floor(8/3) = 2, inside 6: 2; 2+10+3;
+        # 2+22+6.
+        self.assertEqual(by_ruby(SHOULDER, j([[5, 6], [5]])), [0, 10, 22])
+        self.assertEqual(by_ruby((1, 1, 0), j([[5, 6], [5]])), [2, 15, 30])
+        # Runs 15 and 10: R 25 over 20, 2D 10, n 2.  1:0:0: 10, 30.
+        self.assertEqual(by_base((1, 0, 0), j([3, 2])), [10, 30])
+        # Western ruby spreads the base alike.
+        self.assertEqual(by_base((1, 0, 0), j([3, 2], ruby_class=27)),
+                         [10, 30])
+
+    def test_jukugo_of_one_character(self):
+        # R 15, B 10, 2D 10.  Not cut, it is set as G: 1:0:0 at 10, 0:0:1 at
+        # 0, 1:7:2 at floor(10/3) = 3, 0:2:0 at D, 5.
+        for ratio, place in (((1, 0, 0), 10), (SHOULDER, 0), ((1, 7, 2), 3),
+                             ((0, 2, 0), 5), ((1, 2, 1), 5)):
+            self.assertEqual(by_base(ratio, j([3])), [place])
+
+    def test_part_of_one_character(self):
+        # Measure 25: both characters together have R 30, 60 > 50, so each is
+        # a part of one, set as M, at 5; the P stands where its ruby ends.
+        call = self.accepted([j([3, 3]), p()], measure=25,
+                             ratios=(OTHER, (1, 0, 0)))
+        self.assertEqual(call.line_out[:2], [1, 3])
+        self.assertEqual(call.base_out[:3], [5, 5, 30])
+        # In one line: B 20, R 30, 2D 20: 20, 40, and the P where the ruby
+        # ends, which is where the block ends too: 60.
+        self.assertEqual(by_ratios((OTHER, (1, 0, 0)), [j([3, 3]), p()])[0],
+                         [20, 40, 60])
+
+    def test_part_of_more_characters(self):
+        # Runs 15, 15, 5; measure 30: as a whole R 35, 70 > 60.  Two: B 20,
+        # R 30, 2D 20, base 0:0:1: 0, 20.  Then one with a run of 5: 5.
+        call = self.accepted([j([3, 3, 1])], measure=30,
+                             ratios=(OTHER, SHOULDER))
+        self.assertEqual(call.line_out[:2], [2, 3])
+        self.assertEqual(call.base_out[:3], [0, 20, 0])
+        self.assertEqual(call.ruby_out[:7], [0, 10, 20, 30, 40, 50, 5])
+
+    def test_protrusions_that_differ(self):
+        # g(2, 7), base 0:0:1: block 0..40, ruby 0..70.  Between two P: the
+        # first 0..20, the word from there, the second behind its ruby.
+        self.assertEqual(by_ratios((OTHER, SHOULDER),
+                                   [p(), g(2, 7), p()])[0], [0, 20, 40, 90])
+        # Base 1:0:0: block 30..70: the second P where both end.
+        self.assertEqual(by_ratios((OTHER, (1, 0, 0)),
+                                   [p(), g(2, 7), p()])[0], [0, 50, 70, 90])
+        # A space behind it, 0:0:1: 10 hu of ruby on it, from 60, and no ruby
+        # of the next word on the same 10 hu: the word from 80 (its block
+        # behind the space, 80; its ruby from 70).
+        self.assertEqual(by_ratios((OTHER, SHOULDER),
+                                   [g(2, 7), p(14, 10), g(2, 7)])[0],
+                         [0, 20, 60, 80, 100])
+        # 1:0:0: the space where the block ends, 70..90; the next ruby from
+        # 80, its block from 110.
+        self.assertEqual(by_ratios((OTHER, (1, 0, 0)),
+                                   [g(2, 7), p(14, 10), g(2, 7)])[0],
+                         [30, 50, 70, 110, 130])
+
+    def test_protrusions_decide_what_fits(self):
+        # A space of 20 units between them.  0:0:1: it is 60..100, and the
+        # next word 100..170; 1:0:0: 70..110, and the next ruby 100..170.
+        words = [g(2, 7, flags=[0, 0]), p(14, 20, flag=0), g(2, 7)]
+        for ratio in (SHOULDER, (1, 0, 0)):
+            self.accepted(words, measure=85, ratios=(OTHER, ratio))
+            self.refused(11, 0, words, measure=84, ratios=(OTHER, ratio))
+        # 1:2:1 (K4): block 7..63, ruby 0..70; space at 63 (60 by the ruby),
+        # 63..103; the next origin 96 by the blocks (103 - 7), 93 by the
+        # space: it ends at 166.
+        self.accepted(words, measure=83)
+        self.refused(11, 0, words, measure=82)
+
+    def test_two_four_two_is_one_two_one(self):
+        for widths, difference, limit in random_spreads(41, 500):
+            self.assertEqual(
+                second.spread(widths, difference, (2, 4, 2), limit),
+                second.spread(widths, difference, (1, 2, 1), limit))
+
+    def test_one_two_one_is_document_01(self):
+        held = 0
+        for widths, difference, limit in random_spreads(42, 3000):
+            expected = spread_of_document_01(widths, difference, limit)
+            self.assertEqual(
+                second.spread(widths, difference, (1, 2, 1), limit), expected)
+            held += len(widths) > 1 and expected[0] == limit
+        self.assertGreater(held, 100)
+
+    def test_all_space_sums_to_2d(self):
+        # The last character ends 2D after the widths, less the rear gap, and
+        # that is floor(2D * c / S) where m is not 0, held or not.
+        rng = random.Random(43)
+        for widths, difference, limit in random_spreads(44, 1000):
+            a, m, c = (rng.randrange(8) for _ in range(3))
+            n = len(widths)
+            if n == 1 or m == 0:
+                continue
+            rear = 2 * difference * c // (a + m * (n - 1) + c)
+            if limit is not None:
+                rear = min(rear, limit)
+            last = second.spread(widths, difference, (a, m, c), limit)[-1]
+            self.assertEqual(last + 2 * widths[-1] + rear,
+                             2 * sum(widths) + 2 * difference)
 
 
 # ---------------------------------------------------------------------------
@@ -740,6 +1064,37 @@ class Refusals(Case):
     def test_1_lowest_place(self):
         self.refused(1, 0, ONE, em=3, measure=0)
 
+    def test_15_numbers(self):
+        sound = (1, 2, 1)
+        for at in range(3):
+            for number in (0, 1, 7):
+                ratio = [1, 1, 1]
+                ratio[at] = number
+                self.accepted(ONE, ratios=(ratio, sound))
+                self.accepted(ONE, ratios=(sound, ratio))
+            for number in (8, 9, 256, BIG):
+                ratio = [1, 1, 1]
+                ratio[at] = number
+                self.refused(15, 0, ONE, ratios=(ratio, sound))
+                self.refused(15, 1, ONE, ratios=(sound, ratio))
+            # Nothing but one number, and that one a 7.
+            ratio = [0, 0, 0]
+            ratio[at] = 7
+            self.accepted(ONE, ratios=(ratio, ratio))
+        self.accepted(ONE, ratios=((7, 7, 7), (7, 7, 7)))
+
+    def test_15_all_three_0(self):
+        self.refused(15, 0, ONE, ratios=((0, 0, 0), (1, 2, 1)))
+        self.refused(15, 1, ONE, ratios=((1, 2, 1), (0, 0, 0)))
+        # Also where nothing is spread.
+        self.refused(15, 0, [], ratios=((0, 0, 0), (1, 2, 1)))
+
+    def test_15_lowest_place(self):
+        # The ruby ratio is judged whole before the base ratio.
+        for bad in ((8, 1, 1), (1, 1, 8), (0, 0, 0), (BIG, BIG, BIG)):
+            for other in ((8, 1, 1), (1, 1, 8), (0, 0, 0)):
+                self.refused(15, 0, ONE, ratios=(bad, other))
+
     def test_2_counts(self):
         full = [m(2) for _ in range(1024)]
         # Ten words of 20 hu fill 2 * 100 exactly: 103 lines, the last of 4.
@@ -774,8 +1129,8 @@ class Refusals(Case):
 
     def test_12_empty_lists(self):
         # Nothing to set: empty lists are enough.
-        result = set_job(10, 10, [], [], [], [], [], [], [], [], [], [], [],
-                         [], [], [])
+        result = set_job(10, 10, ONE_TWO_ONE, [], [], [], [], [], [], [], [],
+                         [], [], [], [], [], [])
         self.assertEqual(result, ('set', 0))
 
     def test_3_class(self):
@@ -957,6 +1312,17 @@ class Order(Case):
         self.refused(2, 0, over, room=(0, 0, 0))
         self.refused(12, 0, [p(0)], room=(0, 0, 0))
         self.refused(3, 0, [p(0)])
+
+    def test_1_15_2_12(self):
+        over = [p(0) for _ in range(1025)]
+        for ratios, place in ((((0, 0, 0), (1, 2, 1)), 0),
+                              (((1, 2, 1), (1, 8, 1)), 1)):
+            self.refused(1, 0, over, em=0, ratios=ratios, room=(0, 0, 0))
+            self.refused(1, 1, over, measure=0, ratios=ratios, room=(0, 0, 0))
+            self.refused(15, place, over, ratios=ratios, room=(0, 0, 0))
+            self.refused(15, place, [p(0)], ratios=ratios, room=(0, 0, 0))
+            self.refused(15, place, [p(0)], ratios=ratios)
+            self.refused(15, place, [p()], ratios=ratios, measure=9)
 
     def test_characters_before_elements(self):
         # The unknown kind is element 0; the ruby with width 0 comes first.
@@ -1433,11 +1799,15 @@ def furthest_settable(job, owner, breaks, first):
 
 
 def accepted_jobs(seed, count):
-    """Jobs of generated sheets that pass refusals 1 to 10."""
-    for text in generate.sheets(seed, count):
+    """Jobs of generated sheets, by various ratios, that pass 1 to 10."""
+    various = ((1, 2, 1), (0, 0, 1), (1, 3, 1), (7, 0, 3), (0, 1, 6))
+    for number, text in enumerate(generate.sheets(seed, count)):
         try:
-            job = second.Job(*second.read_sheet(text))
+            arguments = second.read_sheet(text)
+            arguments[2] = (various[number % 5], various[number // 5 % 5])
+            job = second.Job(*arguments)
             second.check_sizes(job)
+            second.check_ratios(job)
             second.check_counts(job)
             second.check_characters(job)
             second.take_elements(job)

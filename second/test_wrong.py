@@ -5,7 +5,9 @@
 Every entry of WRONG replaces some functions of the second program by wrong
 ones: the drawings that document 01 doesn't want to see again, readings of 01
 that are not ours, and slips at an edge.  Some of the first 1,500 sheets of
-seed 1 have to show each of them.
+seed 1 have to show each of them.  WRONG_BY_RATIOS has what sheets cannot show,
+readings of R-4 that are not ours and slips in it; some of the first 1,000 jobs
+in lists of seed 1 have to show each of those.
 """
 
 import copy
@@ -18,20 +20,27 @@ HERE = os.path.dirname(os.path.abspath(__file__))
 sys.path.insert(0, HERE)
 
 import generate     # noqa: E402  (found through the path set above)
+import generate_lists   # noqa: E402
 import second       # noqa: E402
 from second import G, J, P, Refused  # noqa: E402
 
 right = {name: value for name, value in vars(second).items()
          if callable(value)}
 WRONG = {}
+WRONG_BY_RATIOS = {}
 
 
-def wrong(name):
+def wrong(name, among=WRONG):
     """The function below gives the replacements of the wrong engine."""
     def put(replacements):
-        WRONG[name] = replacements()
+        assert name not in among, name
+        among[name] = replacements()
         return replacements
     return put
+
+
+def wrong_by_ratios(name):
+    return wrong(name, WRONG_BY_RATIOS)
 
 
 # ---------------------------------------------------------------------------
@@ -40,71 +49,76 @@ def wrong(name):
 
 @wrong('the half-em limit applied to Western base')
 def _():
-    def set_group(em, base_western, base, ruby_western, ruby):
+    def set_group(em, ratios, base_western, base, ruby_western, ruby):
         if base_western and sum(ruby) < sum(base):
-            return second.spread_ruby(base, ruby, em)
-        return right['set_group'](em, base_western, base, ruby_western, ruby)
+            return second.spread_ruby(ratios, base, ruby, em)
+        return right['set_group'](em, ratios, base_western, base,
+                                  ruby_western, ruby)
     return {'set_group': set_group}
 
 
 @wrong('the half-em limit applied to base being spread')
 def _():
-    def set_group(em, base_western, base, ruby_western, ruby):
+    def set_group(em, ratios, base_western, base, ruby_western, ruby):
         if not base_western and sum(ruby) > sum(base):
-            positions = second.spread(base, sum(ruby) - sum(base), em)
+            positions = second.spread(base, sum(ruby) - sum(base), ratios[1],
+                                      em)
             return positions, second.one_after_another(0, ruby)
-        return right['set_group'](em, base_western, base, ruby_western, ruby)
+        return right['set_group'](em, ratios, base_western, base,
+                                  ruby_western, ruby)
     return {'set_group': set_group}
 
 
 @wrong('the half-em limit taken as em units')
 def _():
-    def spread(widths, difference, limit):
-        return right['spread'](widths, difference,
+    def spread(widths, difference, ratio, limit):
+        return right['spread'](widths, difference, ratio,
                                None if limit is None else 2 * limit)
     return {'spread': spread}
 
 
 @wrong('a jukugo run compared with the sum of base widths')
 def _():
-    def set_jukugo(em, base, runs, ruby_western, ruby):
-        return right['set_jukugo'](sum(base), base, runs, ruby_western, ruby)
+    def set_jukugo(em, ratios, base, runs, ruby_western, ruby):
+        return right['set_jukugo'](sum(base), ratios, base, runs,
+                                   ruby_western, ruby)
     return {'set_jukugo': set_jukugo}
 
 
 @wrong('a run of exactly one em taken as longer')
 def _():
-    def set_jukugo(em, base, runs, ruby_western, ruby):
+    def set_jukugo(em, ratios, base, runs, ruby_western, ruby):
         pieces = second.cut_into_runs(runs, ruby)
         if any(sum(piece) >= em for piece in pieces):
-            return second.set_group(em, False, base, ruby_western, ruby)
-        return right['set_jukugo'](em, base, runs, ruby_western, ruby)
+            return second.set_group(em, ratios, False, base,
+                                    ruby_western, ruby)
+        return right['set_jukugo'](em, ratios, base, runs, ruby_western, ruby)
     return {'set_jukugo': set_jukugo}
 
 
 @wrong('a single spread character pushed to the front')
 def _():
-    def spread(widths, difference, limit):
+    def spread(widths, difference, ratio, limit):
         if len(widths) == 1:
             return [0]
-        return right['spread'](widths, difference, limit)
+        return right['spread'](widths, difference, ratio, limit)
     return {'spread': spread}
 
 
 @wrong('a single spread character held by the limit')
 def _():
-    def spread(widths, difference, limit):
+    def spread(widths, difference, ratio, limit):
         if len(widths) == 1 and limit is not None:
             return [min(difference, limit)]
-        return right['spread'](widths, difference, limit)
+        return right['spread'](widths, difference, ratio, limit)
     return {'spread': spread}
 
 
 @wrong('equal inner gaps, rounded down: the remainder dropped')
 def _():
-    def spread(widths, difference, limit):
+    def spread(widths, difference, ratio, limit):
         n = len(widths)
-        positions = right['spread'](widths, difference, limit)
+        positions = right['spread'](widths, difference, ratio, limit)
         if n == 1:
             return positions
         inner = (2 * difference - 2 * positions[0]) // (n - 1)
@@ -120,13 +134,13 @@ def by_pencil(full):
     the number of characters, `before` what was carried up to this gap and
     `left` that and the remainder.  R-2 has left >= n - 1.
     """
-    def spread(widths, difference, limit):
+    def spread(widths, difference, ratio, limit):
         n = len(widths)
-        positions = right['spread'](widths, difference, limit)[:1]
         if n == 1:
-            return positions
-        quotient, remainder = divmod(2 * difference - 2 * positions[0], n - 1)
-        carried = 0
+            return right['spread'](widths, difference, ratio, limit)
+        front, rear = second.end_gaps(n, difference, ratio, limit)
+        quotient, remainder = divmod(2 * difference - front - rear, n - 1)
+        positions, carried = [front], 0
         for width in widths[:-1]:
             left = carried + remainder
             more = full(n, carried, left)
@@ -151,7 +165,7 @@ def _():
 def _():
     def set_mono(base, ruby):
         if sum(ruby) < sum(base):
-            return second.spread_ruby(base, ruby, None)
+            return second.spread_ruby(second.ONE_TWO_ONE, base, ruby, None)
         return right['set_mono'](base, ruby)
     return {'set_mono': set_mono}
 
@@ -170,7 +184,8 @@ def _():
             count = len(word.ruby_positions)
             ruby = job.ruby_width[word.ruby_first:word.ruby_first + count]
             kind = second.is_western(job.ruby_class[word.ruby_first])
-            places = second.set_group(job.em, False, base, kind, ruby)
+            places = second.set_group(job.em, job.ratios, False, base, kind,
+                                      ruby)
             return second.Word(first, places[0], places[0][-1] + 2 * base[-1],
                                word.ruby_first, places[1],
                                places[1][-1] + 2 * ruby[-1])
@@ -626,6 +641,477 @@ def _():
 
 
 # ---------------------------------------------------------------------------
+# R-4: the ratios
+# ---------------------------------------------------------------------------
+
+def ends(change):
+    """end_gaps with `change(n, 2D, ratio, limit, front, rear)` after it."""
+    def end_gaps(n, difference, ratio, limit):
+        front, rear = right['end_gaps'](n, difference, ratio, limit)
+        return change(n, 2 * difference, ratio, limit, front, rear)
+    return {'end_gaps': end_gaps}
+
+
+def ends_where_held(change):
+    """The same with the gaps before the limit, where that holds."""
+    def end_gaps(n, difference, ratio, limit):
+        held = right['end_gaps'](n, difference, ratio, limit)
+        free = right['end_gaps'](n, difference, ratio, None)
+        return held if held == free else change(limit, *free)
+    return {'end_gaps': end_gaps}
+
+
+def moved_by(ratios, base, ruby):
+    """Solid, but with the shorter string moved by its ratio, as one."""
+    difference = abs(sum(base) - sum(ruby))
+    front = second.gap_before_one(difference, ratios[sum(base) < sum(ruby)])
+    return (second.one_after_another(front if sum(base) < sum(ruby) else 0,
+                                     base),
+            second.one_after_another(front if sum(ruby) < sum(base) else 0,
+                                     ruby))
+
+
+@wrong_by_ratios('ratios that are not read')
+def _():
+    def spread(widths, difference, ratio, limit):
+        return right['spread'](widths, difference, (1, 2, 1), limit)
+    return {'spread': spread}
+
+
+@wrong_by_ratios('the half-em limit with m = 0, the rest inside')
+def _():
+    def change(n, space, ratio, limit, front, rear):
+        if ratio[1] == 0 and limit is not None:
+            return min(front, limit), min(rear, limit)
+        return front, rear
+    return ends(change)
+
+
+@wrong_by_ratios('the half-em limit with m = 0, the rest behind')
+def _():
+    def change(n, space, ratio, limit, front, rear):
+        if ratio[1] == 0 and limit is not None:
+            return min(front, limit), space - min(front, limit)
+        return front, rear
+    return ends(change)
+
+
+@wrong_by_ratios('the front alone held by the limit')
+def _():
+    return ends_where_held(
+        lambda limit, front, rear: (min(front, limit), rear))
+
+
+@wrong_by_ratios('the rear alone held by the limit')
+def _():
+    return ends_where_held(
+        lambda limit, front, rear: (front, min(rear, limit)))
+
+
+@wrong_by_ratios('both ends at the limit where one is held')
+def _():
+    return ends_where_held(lambda limit, front, rear: (limit, limit))
+
+
+@wrong_by_ratios('the narrower end at both where one is held')
+def _():
+    def change(limit, front, rear):
+        return (min(front, rear, limit),) * 2
+    return ends_where_held(change)
+
+
+@wrong_by_ratios('no limit unless both ends pass it')
+def _():
+    def change(limit, front, rear):
+        if min(front, rear) <= limit:
+            return front, rear
+        return limit, limit
+    return ends_where_held(change)
+
+
+@wrong_by_ratios('what the limit takes given to the other end')
+def _():
+    def change(limit, front, rear):
+        return (min(front, limit) + max(0, rear - limit),
+                min(rear, limit) + max(0, front - limit))
+    return ends_where_held(change)
+
+
+@wrong_by_ratios('what the limit takes in front given to the rear')
+def _():
+    def change(limit, front, rear):
+        return min(front, limit), min(rear, limit) + max(0, front - limit)
+    return ends_where_held(change)
+
+
+@wrong_by_ratios('the limit for one character')
+def _():
+    def spread(widths, difference, ratio, limit):
+        positions = right['spread'](widths, difference, ratio, limit)
+        if len(widths) == 1 and limit is not None:
+            return [min(positions[0], limit)]
+        return positions
+    return {'spread': spread}
+
+
+@wrong_by_ratios('inner gaps by their share, the rear from what is left')
+def _():
+    def spread(widths, difference, ratio, limit):
+        (a, m, c), n = ratio, len(widths)
+        front = right['spread'](widths, difference, ratio, limit)[0]
+        if n == 1 or m == 0 or limit is not None:
+            return right['spread'](widths, difference, ratio, limit)
+        inner = 2 * difference * m // (a + m * (n - 1) + c)
+        return [front + 2 * sum(widths[:i]) + inner * i for i in range(n)]
+    return {'spread': spread}
+
+
+@wrong_by_ratios('all inner gaps by their share, the rear from what is left')
+def _():
+    def change(n, space, ratio, limit, front, rear):
+        a, m, c = ratio
+        if m == 0 or limit is not None:
+            return front, rear
+        inner = space * m * (n - 1) // (a + m * (n - 1) + c)
+        return front, space - front - inner
+    return ends(change)
+
+
+@wrong_by_ratios('the front taking what is left with m = 0')
+def _():
+    def change(n, space, ratio, limit, front, rear):
+        a, m, c = ratio
+        if m == 0:
+            rear = space * c // (a + c)
+            return space - rear, rear
+        return front, rear
+    return ends(change)
+
+
+@wrong_by_ratios('what is left inside with m = 0')
+def _():
+    def change(n, space, ratio, limit, front, rear):
+        a, m, c = ratio
+        return front, (space * c // (a + c) if m == 0 else rear)
+    return ends(change)
+
+
+@wrong_by_ratios('the front gap at both ends')
+def _():
+    return ends(lambda n, space, ratio, limit, front, rear:
+                (front, min(front, space - front)))
+
+
+@wrong_by_ratios('a and c exchanged')
+def _():
+    def spread(widths, difference, ratio, limit):
+        return right['spread'](widths, difference, ratio[::-1], limit)
+    return {'spread': spread}
+
+
+@wrong_by_ratios('m counted n times')
+def _():
+    def end_gaps(n, difference, ratio, limit):
+        if ratio[1] == 0:
+            return right['end_gaps'](n, difference, ratio, limit)
+        return right['end_gaps'](n + 1, difference, ratio, limit)
+    return {'end_gaps': end_gaps}
+
+
+@wrong_by_ratios('m counted once')
+def _():
+    def end_gaps(n, difference, ratio, limit):
+        return right['end_gaps'](2, difference, ratio, limit)
+    return {'end_gaps': end_gaps}
+
+
+@wrong_by_ratios('shares of D and not of 2D')
+def _():
+    def end_gaps(n, difference, ratio, limit):
+        a, m, c = ratio
+        front, rear = right['end_gaps'](n, difference, ratio, limit)
+        return front // 2, rear // 2 if m else 2 * difference - front // 2
+    return {'end_gaps': end_gaps}
+
+
+@wrong_by_ratios('end gaps rounded up')
+def _():
+    def change(n, space, ratio, limit, front, rear):
+        a, m, c = ratio
+        total = a + m * (n - 1) + c
+        if m == 0 or limit is not None:
+            return front, rear
+        return -(-space * a // total), -(-space * c // total)
+    return ends(change)
+
+
+@wrong_by_ratios('one character with a = c = 0 at the front')
+def _():
+    def gap_before_one(difference, ratio):
+        if ratio[0] == 0:
+            return 0
+        return right['gap_before_one'](difference, ratio)
+    return {'gap_before_one': gap_before_one}
+
+
+@wrong_by_ratios('one character always centred')
+def _():
+    return {'gap_before_one': lambda difference, ratio: difference}
+
+
+@wrong_by_ratios('one character with m counted')
+def _():
+    def gap_before_one(difference, ratio):
+        return 2 * difference * ratio[0] // sum(ratio)
+    return {'gap_before_one': gap_before_one}
+
+
+@wrong_by_ratios('one character centred with a or c 0')
+def _():
+    def gap_before_one(difference, ratio):
+        if ratio[0] == 0 or ratio[2] == 0:
+            return difference
+        return right['gap_before_one'](difference, ratio)
+    return {'gap_before_one': gap_before_one}
+
+
+@wrong_by_ratios('the base ratio for ruby')
+def _():
+    def spread_ruby(ratios, base, ruby, limit):
+        return right['spread_ruby']((ratios[1], ratios[1]), base, ruby, limit)
+    return {'spread_ruby': spread_ruby}
+
+
+@wrong_by_ratios('the ruby ratio for base')
+def _():
+    def spread_base(ratios, base, ruby):
+        return right['spread_base']((ratios[0], ratios[0]), base, ruby)
+    return {'spread_base': spread_base}
+
+
+@wrong_by_ratios('ratios applied to mono ruby')
+def _():
+    asked = []
+
+    def ruby_word(job, element, first, end):
+        asked[:] = job.ratios
+        return right['ruby_word'](job, element, first, end)
+    return {'ruby_word': ruby_word,
+            'set_mono': lambda base, ruby: moved_by(asked, base, ruby)}
+
+
+@wrong_by_ratios('ratios applied to jukugo runs')
+def _():
+    def set_jukugo(em, ratios, base, runs, ruby_western, ruby):
+        with mock.patch.object(
+                second, 'solid', lambda one, run: moved_by(ratios, one, run)):
+            pieces = second.cut_into_runs(runs, ruby)
+            if all(sum(piece) <= em for piece in pieces):
+                return right['set_jukugo'](em, ratios, base, runs,
+                                           ruby_western, ruby)
+        return right['set_jukugo'](em, ratios, base, runs, ruby_western, ruby)
+    return {'set_jukugo': set_jukugo}
+
+
+@wrong_by_ratios('ratios applied to solid Western ruby')
+def _():
+    def set_group(em, ratios, base_western, base, ruby_western, ruby):
+        if ruby_western and sum(ruby) < sum(base):
+            return moved_by(ratios, base, ruby)
+        return right['set_group'](em, ratios, base_western, base,
+                                  ruby_western, ruby)
+    return {'set_group': set_group}
+
+
+@wrong_by_ratios('ratios applied to solid Western base')
+def _():
+    def set_group(em, ratios, base_western, base, ruby_western, ruby):
+        if base_western and sum(ruby) > sum(base):
+            return moved_by(ratios, base, ruby)
+        return right['set_group'](em, ratios, base_western, base,
+                                  ruby_western, ruby)
+    return {'set_group': set_group}
+
+
+@wrong_by_ratios('a part of one character by the base ratio')
+def _():
+    return {'is_cut': lambda element, first, end: False}
+
+
+@wrong_by_ratios('a jukugo of one character set as mono')
+def _():
+    return {'is_cut': lambda element, first, end: True}
+
+
+@wrong_by_ratios('a jukugo as a group always by 1:2:1')
+def _():
+    def set_jukugo(em, ratios, *rest):
+        return right['set_jukugo'](em, second.ONE_TWO_ONE, *rest)
+    return {'set_jukugo': set_jukugo}
+
+
+@wrong_by_ratios('the protrusion in front taken for both ends')
+def _():
+    def ruby_word(job, element, first, end):
+        word = right['ruby_word'](job, element, first, end)
+        if word.ruby_start < word.block_start or (
+                word.ruby_end > word.block_end):
+            word.ruby_end = word.block_end + (word.block_start
+                                              - word.ruby_start)
+        return word
+    return {'ruby_word': ruby_word}
+
+
+@wrong_by_ratios('the protrusion behind taken for both ends')
+def _():
+    def ruby_word(job, element, first, end):
+        word = right['ruby_word'](job, element, first, end)
+        if word.ruby_start < word.block_start or (
+                word.ruby_end > word.block_end):
+            word.ruby_start = word.block_start - (word.ruby_end
+                                                  - word.block_end)
+        return word
+    return {'ruby_word': ruby_word}
+
+
+def judged(*numbers_and_zeros):
+    """check_ratios by conditions in turn, each for a place."""
+    def check_ratios(job):
+        for place, is_bad in numbers_and_zeros:
+            if is_bad(job.ratios[place]):
+                raise Refused(15, place)
+    return {'check_ratios': check_ratios}
+
+
+def over(most):
+    return lambda ratio: max(ratio) > most
+
+
+def zeros(ratio):
+    return not any(ratio)
+
+
+@wrong_by_ratios('15 ahead of 1')
+def _():
+    def check_sizes(job):
+        second.check_ratios(job)
+        right['check_sizes'](job)
+    return {'check_sizes': check_sizes}
+
+
+@wrong_by_ratios('15 between em and measure')
+def _():
+    def check_sizes(job):
+        if job.em % 2 != 0 or not 2 <= job.em <= 4096:
+            raise Refused(1, 0)
+        second.check_ratios(job)
+        right['check_sizes'](job)
+    return {'check_sizes': check_sizes}
+
+
+@wrong_by_ratios('15 after 2')
+def _():
+    def check_counts(job):
+        right['check_counts'](job)
+        right['check_ratios'](job)
+    return {'check_counts': check_counts, 'check_ratios': lambda job: None}
+
+
+@wrong_by_ratios('15 after 12')
+def _():
+    def check_room(job, *results):
+        right['check_room'](job, *results)
+        right['check_ratios'](job)
+    return {'check_room': check_room, 'check_ratios': lambda job: None}
+
+
+@wrong_by_ratios('15 after the characters and elements')
+def _():
+    def fill_lines(job):
+        right['check_ratios'](job)
+        return right['fill_lines'](job)
+    return {'fill_lines': fill_lines, 'check_ratios': lambda job: None}
+
+
+@wrong_by_ratios('the base ratio judged first')
+def _():
+    return judged((1, over(7)), (1, zeros), (0, over(7)), (0, zeros))
+
+
+@wrong_by_ratios('numbers over 7 of both ratios before three that are 0')
+def _():
+    return judged((0, over(7)), (1, over(7)), (0, zeros), (1, zeros))
+
+
+@wrong_by_ratios('three that are 0 of both ratios before numbers over 7')
+def _():
+    return judged((0, zeros), (1, zeros), (0, over(7)), (1, over(7)))
+
+
+@wrong_by_ratios('three that are 0 accepted for the ruby')
+def _():
+    return judged((0, over(7)), (1, over(7)), (1, zeros))
+
+
+@wrong_by_ratios('three that are 0 accepted for the base')
+def _():
+    return judged((0, over(7)), (0, zeros), (1, over(7)))
+
+
+@wrong_by_ratios('8 accepted for the ruby')
+def _():
+    return judged((0, over(8)), (0, zeros), (1, over(7)), (1, zeros))
+
+
+@wrong_by_ratios('8 accepted for the base')
+def _():
+    return judged((0, over(7)), (0, zeros), (1, over(8)), (1, zeros))
+
+
+@wrong_by_ratios('7 refused')
+def _():
+    return judged((0, over(6)), (0, zeros), (1, over(6)), (1, zeros))
+
+
+@wrong_by_ratios('a single 0 refused')
+def _():
+    return judged(*((place, is_bad) for place in (0, 1)
+                    for is_bad in (over(7), lambda ratio: 0 in ratio)))
+
+
+@wrong_by_ratios('the last number not looked at')
+def _():
+    return judged(*((place, is_bad) for place in (0, 1)
+                    for is_bad in (lambda ratio: max(ratio[:2]) > 7, zeros)))
+
+
+@wrong_by_ratios('ratio numbers by their last byte')
+def _():
+    return judged(*((place, is_bad) for place in (0, 1) for is_bad in (
+        lambda ratio: max(number % 256 for number in ratio) > 7, zeros)))
+
+
+@wrong_by_ratios('the places of 15 exchanged')
+def _():
+    def check_ratios(job):
+        try:
+            right['check_ratios'](job)
+        except Refused as refusal:
+            raise Refused(15, 1 - refusal.place)
+    return {'check_ratios': check_ratios}
+
+
+@wrong_by_ratios('the place of 15 as the number at fault, of six')
+def _():
+    def check_ratios(job):
+        for place, number in enumerate([*job.ratios[0], *job.ratios[1]]):
+            if number > 7:
+                raise Refused(15, place)
+        right['check_ratios'](job)
+    return {'check_ratios': check_ratios}
+
+
+# ---------------------------------------------------------------------------
 
 class Found(unittest.TestCase):
 
@@ -633,27 +1119,46 @@ class Found(unittest.TestCase):
     def setUpClass(cls):
         cls.sheets = list(generate.sheets(1, 1500))
         cls.answers = [second.answer(text) for text in cls.sheets]
+        cls.calls = [call for call, _ in generate_lists.calls(1, 1000)]
+        cls.results = [call.answered() for call in cls.calls]
 
     def shown_by(self, replacements):
         """How many sheets are put in before the first that shows it."""
-        with mock.patch.multiple(second, **replacements):
-            for count, text in enumerate(self.sheets):
-                try:
-                    answer = second.answer(text)
-                except Exception:   # a wrong engine may well break down
-                    return count
-                if answer != self.answers[count]:
-                    return count
-        return None
+        return first_shown(replacements, second.answer, self.sheets,
+                           self.answers)
+
+    def shown_in_lists(self, replacements):
+        """How many jobs in lists are put in before the first that shows it."""
+        return first_shown(replacements, lambda call: call.answered(),
+                           self.calls, self.results)
 
     def test_every_wrong_engine_is_found(self):
         for name, replacements in WRONG.items():
             with self.subTest(name):
                 self.assertIsNotNone(self.shown_by(replacements), name)
 
+    def test_every_wrong_engine_of_ratios_is_found(self):
+        for name, replacements in WRONG_BY_RATIOS.items():
+            with self.subTest(name):
+                self.assertIsNotNone(self.shown_in_lists(replacements), name)
+
     def test_the_spread_by_pencil_is_right(self):
-        self.assertIsNone(self.shown_by(
-            by_pencil(lambda n, before, left: left >= n - 1)))
+        pencil = by_pencil(lambda n, before, left: left >= n - 1)
+        self.assertIsNone(self.shown_by(pencil))
+        self.assertIsNone(self.shown_in_lists(pencil))
+
+
+def first_shown(replacements, answered, given, expected):
+    """How many are answered rightly before the first that is not."""
+    with mock.patch.multiple(second, **replacements):
+        for count, one in enumerate(given):
+            try:
+                answer = answered(one)
+            except Exception:   # a wrong engine may well break down
+                return count
+            if answer != expected[count]:
+                return count
+    return None
 
 
 if __name__ == '__main__':

@@ -11,6 +11,8 @@
 #define RUBIES 6
 #define ELEMENTS 3
 
+/* How spread ruby and spread base share out their space: the usual ratio, that of every sheet. Nothing is spread here. */
+static const uint32_t usual[3] = {1, 2, 1};
 static const uint32_t class_[BASES] = {19, 15, 19, 19};
 static const uint32_t width[BASES] = {10, 10, 10, 10};
 static const uint32_t before[BASES] = {0, 0, 0, 0};
@@ -23,7 +25,7 @@ static const uint32_t ebase[ELEMENTS] = {0, 0, 2}; /* not read but for the J */
 static const uint32_t eruby[ELEMENTS] = {3, 0, 0}; /* not read but for the M */
 static const uint32_t runs[2] = {1, 2};
 
-/* The lists that a call reads, each with its length. */
+/* What a call reads: em and measure, the two ratios, and the lists, each with its length. */
 #define JOB                                                                                                                   \
-    EM, MEASURE, class_, BASES, width, BASES, before, BASES, after, BASES, flag, BASES, rclass, RUBIES, rwidth, RUBIES, kind, \
-        ELEMENTS, ebase, ELEMENTS, eruby, ELEMENTS, runs, 2
+    EM, MEASURE, usual, usual, class_, BASES, width, BASES, before, BASES, after, BASES, flag, BASES, rclass, RUBIES, rwidth, \
+        RUBIES, kind, ELEMENTS, ebase, ELEMENTS, eruby, ELEMENTS, runs, 2

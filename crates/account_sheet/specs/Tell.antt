@@ -12,8 +12,8 @@ use lib.Seq.{sets}
 use Rattle.text.specs.Print.{Wrote}
 use Rattle.text.specs.Written.{same-long}
 use Rattle.refusal.specs.declared.Refusal.{Refusal}
-use Rattle.refusal.specs.declared.Refusal.the-variants.{Range, Count, Short, Character, Blanks, Element, Supply, BlankInside, JukugoBase, Mixed, WesternOver, NoBreak, Form}
-use Rattle.refusal.specs.Refusal.{numberOf, placeOf}
+use Rattle.refusal.specs.declared.Refusal.the-variants.{NoBreak}
+use Rattle.refusal.specs.Refusal.{numberOf, placeOf, byPaper, of-number}
 use Rattle.door.specs.Job.{Job, baseCount, elementCount, elements}
 use Rattle.door.specs.Refusals.{jobFaults, charFaults, elementsFaults, leftFaults, ownFaults}
 use Rattle.door.specs.Verdict.{verdict, append-none}
@@ -42,19 +42,8 @@ use Rattle.account_sheet.specs.Answer.{declinedText, tellingText, jobAcc
 
 -- number 11 is the refusal of a line
 eleven : (r : Refusal) → numberOf r ≡ 11 → r ≡ NoBreak (placeOf r)
-eleven (Range p) e = absurd (omega arith)
-eleven (Count p) e = absurd (omega arith)
-eleven Short e = absurd (omega arith)
-eleven (Character p) e = absurd (omega arith)
-eleven (Blanks p) e = absurd (omega arith)
-eleven (Element p) e = absurd (omega arith)
-eleven (Supply p) e = absurd (omega arith)
-eleven (BlankInside p) e = absurd (omega arith)
-eleven (JukugoBase p) e = absurd (omega arith)
-eleven (Mixed p) e = absurd (omega arith)
-eleven (WesternOver p) e = absurd (omega arith)
-eleven (NoBreak p) e = refl
-eleven (Form p) e = absurd (omega arith)
+unfolding byPaper
+eleven r e = of-number r 11 e
 
 -- A refusal, as it is written.
 module _ (job : Job) (why : Refusal) where

@@ -4,13 +4,14 @@
 ghost use Prim.Native.Nat.{_+_, _≤_};
 ghost use lib.ListN.{length};
 ghost use Rattle.text.specs.Print.{Wrote};
+ghost use Rattle.spread.specs.Ratio.{usualLists};
 ghost use Rattle.door.specs.Job.{jobOf};
 ghost use Rattle.setter.specs.Answer.{part, ElementsReady, TablesReady, tablesJob, Fits};
 ghost use Rattle.account_text.specs.Short.{longest};
 ghost use Rattle.account_sheet.specs.Answer.{declinedText, Declined, Told, Answered};
 
-// A refusal by its number and place; of a line that is too long also the extent that it needs, and the measure. It is found in a table of this function's own, with 19
-// numbers for each of 1,024 base characters.
+// A refusal by its number and place; of a line that is too long also the extent that it needs, and the measure. It is found in a table of this function's own, for
+// 1,024 base characters.
 fn write_declined(
     why: refusal::Refusal,
     em: u32,
@@ -28,17 +29,18 @@ fn write_declined(
     runs: &[u32],
     out: &mut [u8],
 ) -> usize
-    requires { let job = jobOf em measure (now class) (now width) (now before) (now after) (now flag) (now rclass) (now rwidth) (now kind) (now ebase) (now eruby) (now runs) in ⌜ Declined job why (now out) ⌝ }
-    ensures { λ r. let job = jobOf em measure (now (class .entry)) (now (width .entry)) (now (before .entry)) (now (after .entry)) (now (flag .entry)) (now (rclass .entry)) (now (rwidth .entry)) (now (kind .entry)) (now (ebase .entry)) (now (eruby .entry)) (now (runs .entry)) in ⌜ Wrote (now (out .entry)) 0 (declinedText job why) r (now (out .exit)) ⌝ }
+    requires { let job = jobOf em measure usualLists (now class) (now width) (now before) (now after) (now flag) (now rclass) (now rwidth) (now kind) (now ebase) (now eruby) (now runs) in ⌜ Declined job why (now out) ⌝ }
+    ensures { λ r. let job = jobOf em measure usualLists (now (class .entry)) (now (width .entry)) (now (before .entry)) (now (after .entry)) (now (flag .entry)) (now (rclass .entry)) (now (rwidth .entry)) (now (kind .entry)) (now (ebase .entry)) (now (eruby .entry)) (now (runs .entry)) in ⌜ Wrote (now (out .entry)) 0 (declinedText job why) r (now (out .exit)) ⌝ }
 {
     let at = result::write_refusal(why, out);
     if refusal::number(why) != 11 {
         return at;
     }
-    let mut t = [0; 19456];
+    let mut t = [0; 19462];
     match layout::layout(
         &mut t,
         em,
+        spread::USUAL,
         class,
         width,
         before,
@@ -59,7 +61,7 @@ fn write_declined(
     account_text::put_needs(out, at, needed, measure)
 }
 
-// The account of a job in lists, in text.
+// The account of a job in lists, in text. A sheet has no ratios: it means 1:2:1.
 fn tell_lists(
     em: u32,
     measure: u32,
@@ -80,11 +82,12 @@ fn tell_lists(
     out: &mut [u8],
 ) -> usize
     requires { ⌜ longest ≤ length (now out) ⌝ }
-    ensures { λ r. ⌜ Told (jobOf em measure (now (class .entry)) (now (width .entry)) (now (before .entry)) (now (after .entry)) (now (flag .entry)) (now (rclass .entry)) (now (rwidth .entry)) (now (kind .entry)) (now (ebase .entry)) (now (eruby .entry)) (now (runs .entry))) (now (rows .entry)) (now (told .entry)) (now (extents .entry)) (now (out .entry)) r (now (rows .exit)) (now (told .exit)) (now (extents .exit)) (now (out .exit)) ⌝ }
+    ensures { λ r. ⌜ Told (jobOf em measure usualLists (now (class .entry)) (now (width .entry)) (now (before .entry)) (now (after .entry)) (now (flag .entry)) (now (rclass .entry)) (now (rwidth .entry)) (now (kind .entry)) (now (ebase .entry)) (now (eruby .entry)) (now (runs .entry))) (now (rows .entry)) (now (told .entry)) (now (extents .entry)) (now (out .entry)) r (now (rows .exit)) (now (told .exit)) (now (extents .exit)) (now (out .exit)) ⌝ }
 {
     match job_account::account_job(
         em,
         measure,
+        spread::USUAL,
         class,
         width,
         before,
@@ -146,7 +149,7 @@ fn tell_elements(
     out: &mut [u8],
 ) -> usize
     requires { ⌜ ElementsReady e u (now elem) (now runs) (now out) × (longest ≤ length (now out)) ⌝ }
-    ensures { λ r. ⌜ Told (jobOf em measure (now (class .entry)) (now (width .entry)) (now (before .entry)) (now (after .entry)) (now (flag .entry)) (now (rclass .entry)) (now (rwidth .entry)) (part 0 e (now (elem .entry))) (part 1024 (1024 + e) (now (elem .entry))) (part 2048 (2048 + e) (now (elem .entry))) (part 0 u (now (runs .entry)))) (now (rows .entry)) (now (told .entry)) (now (extents .entry)) (now (out .entry)) r (now (rows .exit)) (now (told .exit)) (now (extents .exit)) (now (out .exit)) ⌝ }
+    ensures { λ r. ⌜ Told (jobOf em measure usualLists (now (class .entry)) (now (width .entry)) (now (before .entry)) (now (after .entry)) (now (flag .entry)) (now (rclass .entry)) (now (rwidth .entry)) (part 0 e (now (elem .entry))) (part 1024 (1024 + e) (now (elem .entry))) (part 2048 (2048 + e) (now (elem .entry))) (part 0 u (now (runs .entry)))) (now (rows .entry)) (now (told .entry)) (now (extents .entry)) (now (out .entry)) r (now (rows .exit)) (now (told .exit)) (now (extents .exit)) (now (out .exit)) ⌝ }
 {
     let e1 = 1024 + e;
     let e2 = 2048 + e;

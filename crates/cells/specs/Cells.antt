@@ -1,4 +1,4 @@
--- Rows, and a line by rows: it begins at a base character s with what the row says of its element from here on, goes on at the next element, and ends at c, where
+-- The head of a table and its rows, and a line by rows: it begins at a base character s with what the row says of its element from here on, goes on at the next element, and ends at c, where
 -- that cuts a J with the part of it up to c.
 use mathlib.Core.Path.{_≡_}
 use mathlib.Core.Bool.{Bool, true, false, cond, _&&_, _||_}
@@ -8,18 +8,31 @@ use lib.Dec.{eqb, leb, ltb}
 use lib.ListN.{length, getD}
 use Rattle.spread.specs.declared.Way.{Way}
 use Rattle.spread.specs.declared.Way.the-variants.{Solid, Spread, Limited}
-use Rattle.spread.specs.Gap.{gap, inner}
+use Rattle.spread.specs.Ratio.{Ratios, Housed}
 use Rattle.word.specs.declared.Word.{Word}
+use Rattle.word.specs.Numbers.{wordFrom}
 use Rattle.line.specs.declared.Element.{Element}
 use Rattle.line.specs.declared.State.{State}
 use Rattle.line.specs.Setting.{start, put, origin, furthest, total}
 use Rattle.cells.specs.declared.Cell.{Cell}
 use Rattle.cells.specs.declared.Step.{Step}
 
+-- how many numbers a table of n rows has: six at its head, and nineteen a row
+abbrev pub size : ℕ → ℕ
+size n = 6 + 19 * n
+
+-- the house ratios, at its head
+abbrev pub ratiosAt : List ℕ → Ratios
+ratiosAt t =
+    record {
+      ruby = record { a = getD t 0 0; m = getD t 1 0; c = getD t 2 0 };
+      base = record { a = getD t 3 0; m = getD t 4 0; c = getD t 5 0 };
+    }
+
 -- row i
 abbrev pub cellAt : List ℕ → ℕ → Cell
 cellAt t i =
-    let at = 19 * i in
+    let at = size i in
     record {
       bases = getD t at 0;
       cut = eqb (getD t (at + 1) 0) 1;
@@ -45,15 +58,6 @@ cellAt t i =
       western = eqb (getD t (at + 18) 0) 1;
     }
 
--- a word of b units in n base characters under r units in m ruby characters, by the way of each string where it is the shorter
-unfoldable pub byNumbers : Way → Way → ℕ → ℕ → ℕ → ℕ → ℕ → Word
-byNumbers ruby base em b n r m =
-    let g = gap ruby em (b - r) m in
-    let h = gap base em (r - b) n in
-    cond (leb r b)
-    (record { front = 0; len = 2 * b; ruby = true; from = g; upto = g + 2 * r + inner (b - r) g; inbase = 0; inruby = inner (b - r) g; runs = false })
-    (record { front = h; len = 2 * b + inner (r - b) h; ruby = true; from = 0; upto = 2 * r; inbase = inner (r - b) h; inruby = 0; runs = false })
-
 -- each run over its own character of one em
 unfoldable pub eachOver : ℕ → ℕ → ℕ → ℕ → Word
 eachOver em b first last = record { front = 0; len = 2 * b; ruby = true; from = em - first; upto = 2 * b - (em - last); inbase = 0; inruby = 0; runs = true }
@@ -61,13 +65,13 @@ eachOver em b first last = record { front = 0; len = 2 * b; ruby = true; from = 
 abbrev pub rubyWay : Bool → Way
 rubyWay western = cond western Solid Limited
 
--- n base characters of a J, each one em wide, with m ruby characters of r units: "a part of one character is set as M, a part of more as J"
-unfoldable pub partBy : ℕ → ℕ → ℕ → ℕ → Bool → ℕ → ℕ → Bool → Word
-unfolding byNumbers eachOver
-partBy em n r m same first last western =
-    cond (eqb n 1) (byNumbers Solid Solid em (em * n) n r m)
+-- n base characters of a J, each one em wide, with m ruby characters of r units, by the house ratios: "a part of one character is set as M, a part of more as J"
+unfoldable pub partBy : Ratios → ℕ → ℕ → ℕ → ℕ → Bool → ℕ → ℕ → Bool → Word
+unfolding eachOver
+partBy h em n r m same first last western =
+    cond (eqb n 1) (wordFrom Solid Solid h em (em * n) n r m)
     (cond same (eachOver em (em * n) first last)
-    (byNumbers (rubyWay western) Spread em (em * n) n r m))
+    (wordFrom (rubyWay western) Spread h em (em * n) n r m))
 
 -- how many runs of its J up to and with its own are longer than one em
 abbrev pub overWith : ℕ → Cell → ℕ
@@ -79,7 +83,7 @@ unfolding partBy
 part em t i c =
     let a = cellAt t i in
     let z = cellAt t (c - 1) in
-    partBy em (c - i) (z .wide + z .own - a .wide) (z .ruby + z .rubies - a .ruby) (eqb (a .over) (overWith em z)) (a .own) (z .own) (a .western)
+    partBy (ratiosAt t) em (c - i) (z .wide + z .own - a .wide) (z .ruby + z .rubies - a .ruby) (eqb (a .over) (overWith em z)) (a .own) (z .own) (a .western)
 
 -- the word of the piece from i up to c, its element's end or a break within it: no other element than a J is ever cut
 unfoldable pub wordAt : ℕ → List ℕ → ℕ → ℕ → Word
@@ -164,14 +168,15 @@ pub record Ran (a z : Cell) : Type 0 where
 
 pub record Cuts (em : ℕ) (t : List ℕ) (i c : ℕ) : Type 0 where
   pub small : em ≤ 4096
+  pub house : Housed (ratiosAt t)
   pub ahead : i < c
   pub few : c ≤ i + 32
-  pub held : 19 * c ≤ length t
+  pub held : size c ≤ length t
   pub ran : Ran (cellAt t i) (cellAt t (c - 1))
 
 -- What a line asks for, to be taken on by the piece from i up to c.
 pub record Advances (em : ℕ) (t : List ℕ) (st : State) (i c : ℕ) : Type 0 where
-  pub held : 19 * i + 19 ≤ length t
+  pub held : size (i + 1) ≤ length t
   pub cuts : cellAt t i .cut ≡ true → Cuts em t i c
   pub plain : cellAt t i .word .ruby ≡ false → cellAt t i .cut ≡ false → (cellAt t i .word .front ≡ 0) × (cellAt t i .before ≤ cellAt t i .word .len)
   pub short : total (piece em t i c) ≤ 524288

@@ -1,4 +1,4 @@
--- A row written: it is there, and all others are as they were.
+-- The head written, and a row: it is there, and all else is as it was.
 use mathlib.Core.Path.{_≡_, refl, sym, ap, _∙_}
 use mathlib.Core.Bool.{Bool, true, false, cond}
 use mathlib.Core.List.{List, [], _∷_}
@@ -10,7 +10,29 @@ use lib.Dec.{eqb}
 use lib.ListN.{length, getD, set, length-set}
 use lib.Seq.{getD-set-same, getD-set-other}
 use Rattle.cells.specs.declared.Cell.{Cell}
-use Rattle.cells.specs.Cells.{cellAt}
+use Rattle.spread.specs.Ratio.{Ratios}
+use Rattle.cells.specs.Cells.{size, ratiosAt, cellAt}
+
+-- the head: the ruby ratio, then the base ratio
+abbrev pub headed : List ℕ → Ratios → List ℕ
+headed t h = set (set (set (set (set (set t 0 (h .ruby .a)) 1 (h .ruby .m)) 2 (h .ruby .c)) 3 (h .base .a)) 4 (h .base .m)) 5 (h .base .c)
+
+pub length-headed : (t : List ℕ) (h : Ratios) → length (headed t h) ≡ length t
+length-headed t h = simp length-set
+
+pub head-written : (t : List ℕ) (h : Ratios) → size 0 ≤ length t → ratiosAt (headed t h) ≡ h
+head-written t h l = go t (h .ruby .a) (h .ruby .m) (h .ruby .c) (h .base .a) (h .base .m) (h .base .c) l
+  where
+    go : (t : List ℕ) (a m c d n e : ℕ) → 6 ≤ length t →
+        let r : Ratios = record { ruby = record { a = a; m = m; c = c }; base = record { a = d; m = n; c = e } } in
+        ratiosAt (headed t r) ≡ r
+    go [] a m c d n e l = absurd (omega arith)
+    go (_ ∷ []) a m c d n e l = absurd (omega arith)
+    go (_ ∷ _ ∷ []) a m c d n e l = absurd (omega arith)
+    go (_ ∷ _ ∷ _ ∷ []) a m c d n e l = absurd (omega arith)
+    go (_ ∷ _ ∷ _ ∷ _ ∷ []) a m c d n e l = absurd (omega arith)
+    go (_ ∷ _ ∷ _ ∷ _ ∷ _ ∷ []) a m c d n e l = absurd (omega arith)
+    go (_ ∷ _ ∷ _ ∷ _ ∷ _ ∷ _ ∷ t) a m c d n e l = refl
 
 abbrev pub bitOf : Bool → ℕ
 bitOf b = cond b 1 0
@@ -56,15 +78,16 @@ copied-more was at row k t h c =
 pub record Puts (was : List ℕ) (i : ℕ) (c : Cell) (t : List ℕ) : Type 0 where
   pub long : length t ≡ length was
   pub here : cellAt t i ≡ c
+  pub head : ratiosAt t ≡ ratiosAt was
   pub other : (j : ℕ) → (j ≡ i → ⊥) → cellAt t j ≡ cellAt was j
 
-pub puts : (was : List ℕ) (i : ℕ) (c : Cell) (t : List ℕ) → Copied was (19 * i) (numbersOf c) 19 t → Puts was i c t
+pub puts : (was : List ℕ) (i : ℕ) (c : Cell) (t : List ℕ) → Copied was (size i) (numbersOf c) 19 t → Puts was i c t
 puts was i c t h =
     record {
       long = h .long;
       here =
           rw (
-            sym (ap (λ z. getD t z 0) (add-zero (19 * i))) ∙ h .here 0 (omega arith),
+            sym (ap (λ z. getD t z 0) (add-zero (size i))) ∙ h .here 0 (omega arith),
             h .here 1 (omega arith),
             h .here 2 (omega arith),
             h .here 3 (omega arith),
@@ -89,20 +112,29 @@ puts was i c t h =
             bit-is (c .word .runs),
             bit-is (c .western),
           );
+      head =
+          rw (
+            h .before 0 (omega arith),
+            h .before 1 (omega arith),
+            h .before 2 (omega arith),
+            h .before 3 (omega arith),
+            h .before 4 (omega arith),
+            h .before 5 (omega arith),
+          );
       other = λ j e. other j e;
     }
   where
-    same : (j : ℕ) → (j ≡ i → ⊥) → (f : ℕ) → f < 19 → getD t (19 * j + f) 0 ≡ getD was (19 * j + f) 0
+    same : (j : ℕ) → (j ≡ i → ⊥) → (f : ℕ) → f < 19 → getD t (size j + f) 0 ≡ getD was (size j + f) 0
     same j e f l = go (decLt j i)
       where
-        go : Dec (j < i) → getD t (19 * j + f) 0 ≡ getD was (19 * j + f) 0
-        go (yes k) = h .before (19 * j + f) (omega arith)
-        go (no k) = h .behind (19 * j + f) (omega arith)
+        go : Dec (j < i) → getD t (size j + f) 0 ≡ getD was (size j + f) 0
+        go (yes k) = h .before (size j + f) (omega arith)
+        go (no k) = h .behind (size j + f) (omega arith)
 
     other : (j : ℕ) → (j ≡ i → ⊥) → cellAt t j ≡ cellAt was j
     other j e =
         rw (
-          ap (λ z. getD t z 0) (sym (add-zero (19 * j))) ∙ same j e 0 (omega arith) ∙ ap (λ z. getD was z 0) (add-zero (19 * j)),
+          ap (λ z. getD t z 0) (sym (add-zero (size j))) ∙ same j e 0 (omega arith) ∙ ap (λ z. getD was z 0) (add-zero (size j)),
           same j e 1 (omega arith),
           same j e 2 (omega arith),
           same j e 3 (omega arith),

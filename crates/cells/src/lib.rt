@@ -1,13 +1,20 @@
-// The table of a job behind the door: a row of numbers for each base character. It says how far its element goes on from here, where a line may end, and what level
-// one has decided of the element; of a J of two characters or more what any part of it is measured by. Nobody above reads classes, widths of words or kinds. One
-// function cuts a J (`part_upto`), one takes a line on by a piece (`advance`). It relies on `word` and `spread` for words, on `line` for places, and on `basics`.
+// The table of a job behind the door: at its head the house ratios, then a row of numbers for each base character. A row says how far its element goes on from here,
+// where a line may end, and what level one has decided of the element; of a J of two characters or more what any part of it is measured by. Nobody above reads
+// classes, widths of words or kinds. One function cuts a J (`part_upto`), one takes a line on by a piece (`advance`). It relies on `word` and `spread` for words and
+// on `line` for places.
 ghost use mathlib.Core.Path.{_≡_};
-ghost use mathlib.Core.Bool.{false};
+ghost use mathlib.Core.Bool.{true, false};
 ghost use Prim.Native.Nat.{_+_, _-_, _*_, _≤_, _<_};
 ghost use lib.ListN.{length};
+ghost use Rattle.spread.specs.Ratio.{ratiosOf};
 ghost use Rattle.line.specs.Setting.{furthest, total};
-ghost use Rattle.cells.specs.Put.{bitOf, numbersOf, Copied, Puts};
-ghost use Rattle.cells.specs.Cells.{cellAt, byNumbers, eachOver, rubyWay, partBy, overWith, part, wordAt, elementOf, stepOf, stepAt, Cuts, Advances};
+ghost use Rattle.cells.specs.Put.{bitOf, numbersOf, Copied, Puts, headed};
+ghost use Rattle.cells.specs.Cells.{size, ratiosAt, cellAt, eachOver, rubyWay, overWith, part, wordAt, elementOf, stepOf, stepAt, Cuts, Advances};
+
+// How many numbers the head of a table has, and how many a row.
+const HEAD: usize = 6;
+
+const ROW: usize = 19;
 
 // A base character. `bases`: how many of its element's there are from it on; `cut`: a line may end between them (its element is a J of two or more); `ends`: a line may
 // end behind them. `word` is that of its element, set to nothing where `cut`; `before` and `after` are the depths to which ruby may lie on it. `ruby` is the
@@ -35,12 +42,33 @@ pub struct Step {
     pub st: line::State,
 }
 
+// The house ratios, from the head of a table.
+fn ratios_at(t: &[u32]) -> [[u32; 3]; 2]
+    requires { ⌜ size 0 ≤ length (now t) ⌝ }
+    ensures { λ r. ⌜ ratiosOf r ≡ ratiosAt (now (t .entry)) ⌝ }
+{
+    [[t[0], t[1], t[2]], [t[3], t[4], t[5]]]
+}
+
+// The head written.
+pub fn put_ratios(t: &mut [u32], ratios: [[u32; 3]; 2])
+    requires { ⌜ size 0 ≤ length (now t) ⌝ }
+    ensures { λ _. ⌜ now (t .exit) ≡ headed (now (t .entry)) (ratiosOf ratios) ⌝ }
+{
+    t[0] = ratios[0][0];
+    t[1] = ratios[0][1];
+    t[2] = ratios[0][2];
+    t[3] = ratios[1][0];
+    t[4] = ratios[1][1];
+    t[5] = ratios[1][2];
+}
+
 // Row i of a table.
 pub fn cell_at(t: &[u32], i: usize) -> Cell
-    requires { ⌜ 19 * i + 19 ≤ length (now t) ⌝ }
+    requires { ⌜ size (i + 1) ≤ length (now t) ⌝ }
     ensures { λ r. ⌜ r ≡ cellAt (now (t .entry)) i ⌝ }
 {
-    let at = 19 * i;
+    let at = HEAD + ROW * i;
     Cell {
         bases: t[at],
         cut: t[at + 1] == 1,
@@ -110,7 +138,7 @@ fn copy_row(t: &mut [u32], at: usize, row: [u32; 19])
     ensures { λ _. ⌜ Copied (now (t .entry)) at row 19 (now (t .exit)) ⌝ }
 {
     let mut j: usize = 0;
-    while j < 19 {
+    while j < ROW {
         t[at + j] = row[j];
         j += 1;
     }
@@ -118,10 +146,10 @@ fn copy_row(t: &mut [u32], at: usize, row: [u32; 19])
 
 // Row i written.
 pub fn put_cell(t: &mut [u32], i: usize, c: Cell)
-    requires { ⌜ 19 * i + 19 ≤ length (now t) ⌝ }
+    requires { ⌜ size (i + 1) ≤ length (now t) ⌝ }
     ensures { λ _. ⌜ Puts (now (t .entry)) i c (now (t .exit)) ⌝ }
 {
-    copy_row(t, 19 * i, numbers_of(c));
+    copy_row(t, HEAD + ROW * i, numbers_of(c));
 }
 
 // a - b, or 0.
@@ -129,47 +157,6 @@ fn less(a: u32, b: u32) -> u32
     ensures { λ r. ⌜ r ≡ a - b ⌝ }
 {
     if b <= a { a - b } else { 0 }
-}
-
-// A word by its sums and counts, and by the way of each string where it is the shorter.
-fn by_numbers(
-    ruby: spread::Way,
-    base: spread::Way,
-    em: u32,
-    b: u32,
-    n: u32,
-    r: u32,
-    m: u32,
-) -> word::Word
-    requires { ⌜ (b ≤ 131072) × (0 < n) × (r ≤ 262144) × (0 < m) ⌝ }
-    ensures { λ w. ⌜ w ≡ byNumbers ruby base em b n r m ⌝ }
-{
-    if r <= b {
-        let g = spread::gap_of(ruby, em, b - r, m);
-        let within = 2 * (b - r) - 2 * g;
-        return word::Word {
-            front: 0,
-            len: 2 * b,
-            ruby: true,
-            from: g,
-            upto: g + 2 * r + within,
-            inbase: 0,
-            inruby: within,
-            runs: false,
-        };
-    }
-    let g = spread::gap_of(base, em, r - b, n);
-    let within = 2 * (r - b) - 2 * g;
-    word::Word {
-        front: g,
-        len: 2 * b + within,
-        ruby: true,
-        from: 0,
-        upto: 2 * r,
-        inbase: within,
-        inruby: 0,
-        runs: false,
-    }
 }
 
 // Each run over its own character.
@@ -199,30 +186,6 @@ fn ruby_way(western: bool) -> spread::Way
     }
 }
 
-// A part of a J by its numbers: n base characters of one em, m ruby characters of r units, no run of them longer than one em, the first and the last run.
-fn part_by(
-    em: u32,
-    n: u32,
-    r: u32,
-    m: u32,
-    same: bool,
-    first: u32,
-    last: u32,
-    western: bool,
-) -> word::Word
-    requires { ⌜ (em ≤ 4096) × (0 < n) × (n ≤ 32) × (r ≤ 262144) × (0 < m) ⌝ }
-    ensures { λ w. ⌜ w ≡ partBy em n r m same first last western ⌝ }
-{
-    let b = em * n;
-    if n == 1 {
-        return by_numbers(spread::Way::Solid, spread::Way::Solid, em, b, n, r, m);
-    }
-    if same {
-        return each_over(em, b, first, last);
-    }
-    by_numbers(ruby_way(western), spread::Way::Spread, em, b, n, r, m)
-}
-
 // How many runs of its J up to and with its own are longer than one em.
 fn over_with(em: u32, z: Cell) -> u32
     requires { ⌜ z .over ≤ 1024 ⌝ }
@@ -231,7 +194,8 @@ fn over_with(em: u32, z: Cell) -> u32
     if em < z.own { z.over + 1 } else { z.over }
 }
 
-// The one place where a J is cut: the word of its base characters from i up to c.
+// The one place where a J is cut: the word of its base characters from i up to c. "A part of one character is set as M, a part of more as J": with no run longer than one
+// em each run stands over its own character, else the part is set as G.
 pub fn part_upto(t: &[u32], i: usize, c: usize, em: u32) -> word::Word
     requires { ⌜ Cuts em (now t) i c ⌝ }
     ensures { λ w. ⌜ w ≡ part em (now (t .entry)) i c ⌝ }
@@ -239,15 +203,33 @@ pub fn part_upto(t: &[u32], i: usize, c: usize, em: u32) -> word::Word
     let a = cell_at(t, i);
     let z = cell_at(t, c - 1);
     let n = (c - i) as u32;
-    part_by(
+    let b = em * n;
+    let r = less(z.wide + z.own, a.wide);
+    let m = less(z.ruby + z.rubies, a.ruby);
+    if n == 1 {
+        return word::word_from(
+            spread::Way::Solid,
+            spread::Way::Solid,
+            ratios_at(t),
+            em,
+            b,
+            n,
+            r,
+            m,
+        );
+    }
+    if a.over == over_with(em, z) {
+        return each_over(em, b, a.own, z.own);
+    }
+    word::word_from(
+        ruby_way(a.western),
+        spread::Way::Spread,
+        ratios_at(t),
         em,
+        b,
         n,
-        less(z.wide + z.own, a.wide),
-        less(z.ruby + z.rubies, a.ruby),
-        a.over == over_with(em, z),
-        a.own,
-        z.own,
-        a.western,
+        r,
+        m,
     )
 }
 
@@ -294,12 +276,22 @@ fn plain_step(w: word::Word, before: u32, after: u32, st: line::State) -> Step
     }
 }
 
+// The part of a J from i up to c after the line so far.
+pub fn advance_cut(t: &[u32], i: usize, c: usize, em: u32, st: line::State) -> Step
+    requires { ⌜ (cellAt (now t) i .cut ≡ true) × (Advances em (now t) st i c) ⌝ }
+    ensures { λ r. ⌜ r ≡ stepAt em (now (t .entry)) st i c ⌝ }
+{
+    let a = cell_at(t, i);
+    step_of(part_upto(t, i, c, em), a.before, a.after, st)
+}
+
 // The piece from i up to c after the line so far.
 pub fn advance(t: &[u32], i: usize, c: usize, em: u32, st: line::State) -> Step
     requires { ⌜ Advances em (now t) st i c ⌝ }
     ensures { λ r. ⌜ r ≡ stepAt em (now (t .entry)) st i c ⌝ }
 {
     let a = cell_at(t, i);
+    // Not by `advance_cut`: a step that comes back whole is kept in memory, and so is every line that is taken on by it.
     if a.cut {
         return step_of(part_upto(t, i, c, em), a.before, a.after, st);
     }

@@ -6,6 +6,7 @@ use Prim.Native.Nat.{ℕ, _+_, _-_, _≤_}
 use lib.Dec.{ltb}
 use lib.ListN.{length, take, drop}
 use Rattle.basics.specs.Lists.{sum}
+use Rattle.spread.specs.Ratio.{Ratios}
 use Rattle.refusal.specs.declared.Refusal.{Refusal}
 use Rattle.refusal.specs.declared.Refusal.the-variants.{Element, Supply, BlankInside, JukugoBase, Mixed, WesternOver}
 use Rattle.word.specs.declared.Form.{Form}
@@ -37,11 +38,12 @@ unfoldable pub countedBy : ℕ → ℕ → ℕ → List ℕ → ℕ → ℕ → 
 countedBy kind base ruby runs b r u = cond (known kind) (countedAs (formOf kind) base ruby runs b r u) Out
 
 -- a job of which only what its elements read is looked at
-abbrev pub partsOnly : ℕ → List ℕ → List ℕ → List ℕ → List ℕ → List ℕ → List ℕ → List ℕ → List ℕ → List ℕ → List ℕ → Job
-partsOnly em class width before after rubyClass rubyWidth kind elementBase elementRuby run =
+abbrev pub partsOnly : Ratios → ℕ → List ℕ → List ℕ → List ℕ → List ℕ → List ℕ → List ℕ → List ℕ → List ℕ → List ℕ → List ℕ → Job
+partsOnly ratios em class width before after rubyClass rubyWidth kind elementBase elementRuby run =
     record {
       em = em;
       measure = 0;
+      ratios = ratios;
       class = class;
       width = width;
       before = before;
@@ -81,7 +83,7 @@ pub record Reads (job : Job) (p : Piece) : Type 0 where
   pub sized : Sized (p .form) (given job p .width) (given job p .rubyWidth) (given job p .run)
 
 -- of a job only what its words read matters
-pub own-reads : (job : Job) (p : Piece) → Reads job p → Reads (partsOnly (job .em) (job .class) (job .width) (job .before) (job .after) (job .rubyClass) (job .rubyWidth) [] [] [] (job .run)) p
+pub own-reads : (job : Job) (p : Piece) → Reads job p → Reads (partsOnly (job .ratios) (job .em) (job .class) (job .width) (job .before) (job .after) (job .rubyClass) (job .rubyWidth) [] [] [] (job .run)) p
 own-reads job p h =
     record { class = h .class; width = h .width; before = h .before; after = h .after; rubyClass = h .rubyClass; rubyWidth = h .rubyWidth; run = h .run; sized = h .sized }
 
@@ -90,6 +92,7 @@ abbrev pub lent : Job → Piece → Given
 lent job p =
     record {
       em = job .em;
+      ratios = job .ratios;
       class = take (p .base + p .bases - p .base) (drop (p .base) (job .class));
       width = take (p .base + p .bases - p .base) (drop (p .base) (job .width));
       before = take (p .base + p .bases - p .base) (drop (p .base) (job .before));
@@ -102,6 +105,7 @@ lent job p =
 runs-unread : (form : Form) (k : ℕ) (job : Job) (p : Piece) → p .run + takesRuns form (p .bases) ≤ length (job .run) →
     answer form k (record {
       em = job .em;
+      ratios = job .ratios;
       class = given job p .class;
       width = given job p .width;
       before = given job p .before;

@@ -5,15 +5,17 @@ use Prim.Native.Nat.{ℕ, zero, suc, _+_, min}
 use lib.Dec.{eqb}
 use lib.ListN.{length, getD}
 use Rattle.basics.specs.Lists.{sum, count, any}
+use Rattle.spread.specs.Ratio.{Ratios, ratiosOf}
 use Rattle.word.specs.declared.Form.{Form}
 use Rattle.word.specs.declared.Form.the-variants.{P, M, G, J}
 use Rattle.word.specs.Given.{Given}
 use Rattle.door.specs.declared.Piece.{Piece}
 
--- each field in a list of its own; em, measure and widths in units
+-- em, measure and the house ratios (R-4); each field in a list of its own. em, measure and widths are in units.
 pub record Job : Type 0 where
   pub em : ℕ
   pub measure : ℕ
+  pub ratios : Ratios
   pub class : List ℕ
   pub width : List ℕ
   pub before : List ℕ
@@ -27,11 +29,12 @@ pub record Job : Type 0 where
   pub run : List ℕ
 
 -- a job by its numbers and lists, as the entry point is lent them
-abbrev pub jobOf : ℕ → ℕ → List ℕ → List ℕ → List ℕ → List ℕ → List ℕ → List ℕ → List ℕ → List ℕ → List ℕ → List ℕ → List ℕ → Job
-jobOf em measure class width before after flag rubyClass rubyWidth kind elementBase elementRuby run =
+abbrev pub jobOf : ℕ → ℕ → List (List ℕ) → List ℕ → List ℕ → List ℕ → List ℕ → List ℕ → List ℕ → List ℕ → List ℕ → List ℕ → List ℕ → List ℕ → Job
+jobOf em measure ratios class width before after flag rubyClass rubyWidth kind elementBase elementRuby run =
     record {
       em = em;
       measure = measure;
+      ratios = ratiosOf ratios;
       class = class;
       width = width;
       before = before;
@@ -43,6 +46,26 @@ jobOf em measure class width before after flag rubyClass rubyWidth kind elementB
       elementBase = elementBase;
       elementRuby = elementRuby;
       run = run;
+    }
+
+-- the job with another measure
+abbrev pub withMeasure : ℕ → Job → Job
+withMeasure measure job =
+    record {
+      em = job .em;
+      measure = measure;
+      ratios = job .ratios;
+      class = job .class;
+      width = job .width;
+      before = job .before;
+      after = job .after;
+      flag = job .flag;
+      rubyClass = job .rubyClass;
+      rubyWidth = job .rubyWidth;
+      kind = job .kind;
+      elementBase = job .elementBase;
+      elementRuby = job .elementRuby;
+      run = job .run;
     }
 
 -- "Where a kind's fields come in several lists, its count is the shortest list's length"
@@ -110,6 +133,7 @@ abbrev pub given : Job → Piece → Given
 given job p =
     record {
       em = job .em;
+      ratios = job .ratios;
       class = entries (job .class) (p .base) (p .bases);
       width = entries (job .width) (p .base) (p .bases);
       before = entries (job .before) (p .base) (p .bases);

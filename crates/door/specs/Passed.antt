@@ -11,7 +11,9 @@ use lib.ListN.{length, getD}
 use Rattle.basics.specs.Lists.{sum, count, any, each, All}
 use Rattle.basics.specs.Laws.{or-none, all-count}
 use Rattle.class.specs.Class.{accepted, blankBefore, blankAfter}
-use Rattle.refusal.specs.declared.Refusal.the-variants.{Range, Count, Short, Character, Blanks, Element, Supply, BlankInside, JukugoBase, Mixed, WesternOver}
+use Rattle.spread.specs.declared.Ratio.{Ratio}
+use Rattle.spread.specs.Ratio.{Sound, Housed}
+use Rattle.refusal.specs.declared.Refusal.the-variants.{Character, Supply}
 use Rattle.word.specs.declared.Form.{Form}
 use Rattle.word.specs.declared.Form.the-variants.{P, M, G, J}
 use Rattle.word.specs.declared.Answer.the-variants.{Set}
@@ -21,8 +23,8 @@ use Rattle.word.specs.Answer.{blankInside, jukugoBase, mixedIn, westernOver, an
 use Rattle.word.specs.Promise as alone
 use Rattle.door.specs.declared.Piece.{Piece}
 use Rattle.door.specs.Job.{Job, baseCount, rubyCount, elementCount, takesBase, takesRuby, takesRuns, known, element, elementsFrom, elements, given}
-use Rattle.door.specs.Refusals.{_when_, outside, emWrong, measureWrong, listShort, baseWrong, rubyWrong, blanksWrong, countsOut, countsWrong, runOut, leftOver, baseFaults, rubyFaults, elementFaults, jobFaults, charFaults, elementsFaults, leftFaults, ownFaults}
-use Rattle.door.specs.Verdict.{append-none, each-none, when-none}
+use Rattle.door.specs.Refusals.{_when_, outside, emWrong, measureWrong, ratioWrong, listShort, rubyWrong, countsOut, countsWrong, runOut, leftOver, jobTable, baseTable, elementTable, baseFaults, rubyFaults, elementFaults, jobFaults, charFaults, elementsFaults, leftFaults, ownFaults}
+use Rattle.door.specs.Verdict.{append-none, each-none, when-none, held-none}
 use Rattle.door.specs.Entries.{length-entries, none-zero, some-sum}
 
 -- a base character that passes 3 and 4
@@ -71,6 +73,7 @@ RubyTiled = Tiled (λ p. p .ruby) (λ p. p .rubies)
 pub record Passed (job : Job) : Type 0 where
   pub em : job .em ≤ 4096
   pub measure : job .measure ≤ 4000000
+  pub house : Housed (job .ratios)
   pub fewBase : baseCount job ≤ 1024
   pub fewRuby : rubyCount job ≤ 2048
   pub fewElements : elementCount job ≤ 1024
@@ -89,11 +92,11 @@ good-base job i e =
     let f = getD (job .flag) i 0 in
     let b = getD (job .before) i 0 in
     let a = getD (job .after) i 0 in
-    let p = append-none (Character i when baseWrong job i) (Blanks i when blanksWrong job i) e in
-    let three = or-none (not (accepted c)) (outside 1 4096 w || ltb 1 f) (when-none (Character i) (baseWrong job i) (p .0)) in
+    let p = held-none (baseTable job i) e in
+    let three = or-none (not (accepted c)) (outside 1 4096 w || ltb 1 f) (p .0) in
     let rest = or-none (outside 1 4096 w) (ltb 1 f) (three .1) in
     let width = or-none (ltb w 1) (ltb 4096 w) (rest .0) in
-    let four = or-none (ltb 0 b && not (blankBefore c)) ((ltb 0 a && not (blankAfter c)) || ltb w (b + a)) (when-none (Blanks i) (blanksWrong job i) (p .1)) in
+    let four = or-none (ltb 0 b && not (blankBefore c)) ((ltb 0 a && not (blankAfter c)) || ltb w (b + a)) (p .1 .0) in
     record {
       class = not-false (accepted c) (three .0);
       some = ltb-false w 1 (width .0);
@@ -158,26 +161,7 @@ pub record Rows (job : Job) (k : ℕ) (x : Piece) : Type 0 where
   pub ten : westernOver (x .form) (given job x) ≡ false
 
 pub rows : (job : Job) (k : ℕ) (x : Piece) → elementFaults job k x ≡ [] → Rows job k x
-rows job k x e =
-    let five = Element k when countsWrong job k x in
-    let six = Supply k when runOut job x in
-    let seven = BlankInside k when blankInside (x .form) (given job x) in
-    let eight = JukugoBase k when jukugoBase (x .form) (given job x) in
-    let nine = Mixed k when mixedIn (x .form) (given job x) in
-    let ten = WesternOver k when westernOver (x .form) (given job x) in
-    let e₁₀ = append-none (five ++ six ++ seven ++ eight ++ nine) ten e in
-    let e₉ = append-none (five ++ six ++ seven ++ eight) nine (e₁₀ .0) in
-    let e₈ = append-none (five ++ six ++ seven) eight (e₉ .0) in
-    let e₇ = append-none (five ++ six) seven (e₈ .0) in
-    let e₆ = append-none five six (e₇ .0) in
-    record {
-      five = when-none (Element k) (countsWrong job k x) (e₆ .0);
-      six = when-none (Supply k) (runOut job x) (e₆ .1);
-      seven = when-none (BlankInside k) (blankInside (x .form) (given job x)) (e₇ .1);
-      eight = when-none (JukugoBase k) (jukugoBase (x .form) (given job x)) (e₈ .1);
-      nine = when-none (Mixed k) (mixedIn (x .form) (given job x)) (e₉ .1);
-      ten = when-none (WesternOver k) (westernOver (x .form) (given job x)) (e₁₀ .1);
-    }
+rows job k x e = let none = held-none (elementTable job k x) e in search
 
 pub good-element : (job : Job) (k b r u : ℕ) → Rows job k (element job k b r u) → GoodElement job (element job k b r u)
 unfolding element
@@ -284,33 +268,29 @@ groups job base ruby lines e =
 pub record Limits (job : Job) (base ruby lines : ℕ) : Type 0 where
   pub em : emWrong job ≡ false
   pub measure : measureWrong job ≡ false
+  pub house : Housed (job .ratios)
   pub bases : baseCount job ≤ 1024
   pub rubies : rubyCount job ≤ 2048
   pub elements : elementCount job ≤ 1024
   pub long : listShort job base ruby lines ≡ false
 
+-- a ratio that number 15 lets pass
+sound : (r : Ratio) → ratioWrong r ≡ false → Sound r
+sound r e =
+    let p = or-none (ltb 7 (r .a)) _ e in
+    let q = or-none (ltb 7 (r .m)) _ (p .1) in
+    let s = or-none (ltb 7 (r .c)) _ (q .1) in
+    record { front = ltb-false _ _ (p .0); middle = ltb-false _ _ (q .0); rear = ltb-false _ _ (s .0); some = more (r .a) (r .m) (r .c) (s .1) }
+  where
+    more : (a m c : ℕ) → (eqb a 0 && (eqb m 0 && eqb c 0)) ≡ false → 0 < a + m + c
+    more zero zero zero e = absurd (true≢false e)
+    more zero zero (suc c) e = omega arith
+    more zero (suc m) c e = omega arith
+    more (suc a) m c e = omega arith
+
 pub limits : (job : Job) (base ruby lines : ℕ) → jobFaults job base ruby lines ≡ [] → Limits job base ruby lines
 unfolding jobFaults
-limits job base ruby lines e =
-    let em = Range 0 when emWrong job in
-    let measure = Range 1 when measureWrong job in
-    let bases = Count 0 when ltb 1024 (baseCount job) in
-    let rubies = Count 1 when ltb 2048 (rubyCount job) in
-    let many = Count 2 when ltb 1024 (elementCount job) in
-    let short = Short when listShort job base ruby lines in
-    let e₅ = append-none (em ++ measure ++ bases ++ rubies ++ many) short e in
-    let e₄ = append-none (em ++ measure ++ bases ++ rubies) many (e₅ .0) in
-    let e₃ = append-none (em ++ measure ++ bases) rubies (e₄ .0) in
-    let e₂ = append-none (em ++ measure) bases (e₃ .0) in
-    let e₁ = append-none em measure (e₂ .0) in
-    record {
-      em = when-none (Range 0) (emWrong job) (e₁ .0);
-      measure = when-none (Range 1) (measureWrong job) (e₁ .1);
-      bases = ltb-false _ _ (when-none (Count 0) (ltb 1024 (baseCount job)) (e₂ .1));
-      rubies = ltb-false _ _ (when-none (Count 1) (ltb 2048 (rubyCount job)) (e₃ .1));
-      elements = ltb-false _ _ (when-none (Count 2) (ltb 1024 (elementCount job)) (e₄ .1));
-      long = when-none Short (listShort job base ruby lines) (e₅ .1);
-    }
+limits job base ruby lines e = let none = held-none (jobTable job base ruby lines) e in search (ltb-false, sound)
 
 pub passed : (job : Job) (base ruby lines : ℕ) → ownFaults job base ruby lines ≡ [] → Passed job
 passed job base ruby lines e =
@@ -320,6 +300,7 @@ passed job base ruby lines e =
     record {
       em = within 2 4096 (job .em) (or-none (eqb (job .em % 2) 1) (outside 2 4096 (job .em)) (l .em) .1) .1;
       measure = within 1 4000000 (job .measure) (l .measure) .1;
+      house = l .house;
       fewBase = l .bases;
       fewRuby = l .rubies;
       fewElements = l .elements;

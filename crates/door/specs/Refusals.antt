@@ -7,7 +7,8 @@ use lib.ListN.{getD}
 use Rattle.basics.specs.Lists.{sum, count, any, each}
 use Rattle.class.specs.Class.{accepted, western, kanaLike, blankBefore, blankAfter}
 use Rattle.refusal.specs.declared.Refusal.{Refusal}
-use Rattle.refusal.specs.declared.Refusal.the-variants.{Range, Count, Short, Character, Blanks, Element, Supply, BlankInside, JukugoBase, Mixed, WesternOver}
+use Rattle.refusal.specs.declared.Refusal.the-variants.{Range, Ratio, Count, Short, Character, Blanks, Element, Supply, BlankInside, JukugoBase, Mixed, WesternOver}
+use Rattle.spread.specs.declared.Ratio.{Ratio as RatioNumbers}
 use Rattle.word.specs.declared.Form.{Form}
 use Rattle.word.specs.declared.Form.the-variants.{P, M, G, J}
 use Rattle.word.specs.Answer.{blankInside, jukugoBase, mixedIn, westernOver}
@@ -23,6 +24,10 @@ emWrong job = eqb (job .em % 2) 1 || outside 2 4096 (job .em)
 
 abbrev pub measureWrong : Job → Bool
 measureWrong job = outside 1 4000000 (job .measure)
+
+-- 15: "a ratio number over 7 or all three 0"
+abbrev pub ratioWrong : RatioNumbers → Bool
+ratioWrong r = ltb 7 (r .a) || (ltb 7 (r .m) || (ltb 7 (r .c) || (eqb (r .a) 0 && (eqb (r .m) 0 && eqb (r .c) 0))))
 
 -- 12: "base list or line list below the base count, ruby list below the ruby count"; base, ruby and lines are the lengths of the result lists
 abbrev pub listShort : Job → ℕ → ℕ → ℕ → Bool
@@ -70,37 +75,64 @@ abbrev pub _when_ : Refusal → Bool → List Refusal
 r when true = r ∷ []
 r when false = []
 
--- "1, 2 and 12, each by lowest place": "At most 1,024 base characters, 2,048 ruby characters, 1,024 elements"
+-- Rows of the list are refusals with their conditions, in order: those that hold, after what was found before them.
+abbrev pub heldAfter : List Refusal → List (Refusal × Bool) → List Refusal
+heldAfter found [] = found
+heldAfter found (r ∷ rs) = heldAfter (found ++ r .0 when r .1) rs
+
+-- the rows that hold
+abbrev pub held : List (Refusal × Bool) → List Refusal
+held [] = []
+held (r ∷ rs) = heldAfter (r .0 when r .1) rs
+
+-- "1, 2 and 12, each by lowest place", with 15 "checked after 1, place 0 for the ruby ratio, 1 for the base": "At most 1,024 base characters, 2,048 ruby
+-- characters, 1,024 elements"
+abbrev pub jobTable : Job → ℕ → ℕ → ℕ → List (Refusal × Bool)
+jobTable job base ruby lines =
+    (Range 0, emWrong job)
+    ∷ (Range 1, measureWrong job)
+    ∷ (Ratio 0, ratioWrong (job .ratios .ruby))
+    ∷ (Ratio 1, ratioWrong (job .ratios .base))
+    ∷ (Count 0, ltb 1024 (baseCount job))
+    ∷ (Count 1, ltb 2048 (rubyCount job))
+    ∷ (Count 2, ltb 1024 (elementCount job))
+    ∷ (Short, listShort job base ruby lines)
+    ∷ []
+
 unfoldable pub jobFaults : Job → ℕ → ℕ → ℕ → List Refusal
 unfolding baseCount rubyCount elementCount
-jobFaults job base ruby lines =
-    Range 0 when emWrong job
-    ++ Range 1 when measureWrong job
-    ++ Count 0 when ltb 1024 (baseCount job)
-    ++ Count 1 when ltb 2048 (rubyCount job)
-    ++ Count 2 when ltb 1024 (elementCount job)
-    ++ Short when listShort job base ruby lines
+jobFaults job base ruby lines = held (jobTable job base ruby lines)
 
 -- "then base characters and then ruby characters in turn, 3 before 4"; "ruby ones 1,024 + index"
+abbrev pub baseTable : Job → ℕ → List (Refusal × Bool)
+baseTable job i = (Character i, baseWrong job i) ∷ (Blanks i, blanksWrong job i) ∷ []
+
 abbrev pub baseFaults : Job → ℕ → List Refusal
-baseFaults job i = Character i when baseWrong job i ++ Blanks i when blanksWrong job i
+baseFaults job i = held (baseTable job i)
+
+abbrev pub rubyTable : Job → ℕ → List (Refusal × Bool)
+rubyTable job i = (Character (1024 + i), rubyWrong job i) ∷ []
 
 abbrev pub rubyFaults : Job → ℕ → List Refusal
-rubyFaults job i = Character (1024 + i) when rubyWrong job i
+rubyFaults job i = held (rubyTable job i)
 
 unfoldable pub charFaults : Job → List Refusal
 unfolding baseCount rubyCount accepted blankBefore blankAfter
 charFaults job = each (baseFaults job) (count 0 (baseCount job)) ++ each (rubyFaults job) (count 0 (rubyCount job))
 
 -- "then elements in turn, in the table's order from 5"; 7 to 10 are level one's own rows
+abbrev pub elementTable : Job → ℕ → Piece → List (Refusal × Bool)
+elementTable job k e =
+    (Element k, countsWrong job k e)
+    ∷ (Supply k, runOut job e)
+    ∷ (BlankInside k, blankInside (e .form) (given job e))
+    ∷ (JukugoBase k, jukugoBase (e .form) (given job e))
+    ∷ (Mixed k, mixedIn (e .form) (given job e))
+    ∷ (WesternOver k, westernOver (e .form) (given job e))
+    ∷ []
+
 abbrev pub elementFaults : Job → ℕ → Piece → List Refusal
-elementFaults job k e =
-    Element k when countsWrong job k e
-    ++ Supply k when runOut job e
-    ++ BlankInside k when blankInside (e .form) (given job e)
-    ++ JukugoBase k when jukugoBase (e .form) (given job e)
-    ++ Mixed k when mixedIn (e .form) (given job e)
-    ++ WesternOver k when westernOver (e .form) (given job e)
+elementFaults job k e = held (elementTable job k e)
 
 unfoldable pub elementsFaults : Job → ℕ → List Piece → List Refusal
 unfolding baseCount rubyCount western kanaLike

@@ -8,19 +8,26 @@ use lib.ListN.{length}
 use lib.Dec.{eqb, ltb}
 use Rattle.basics.specs.Lists.{sum, any}
 use Rattle.class.specs.Class.{accepted, blankBefore, blankAfter}
+use Rattle.spread.specs.Ratio.{Ratios, usual}
 use Rattle.refusal.specs.declared.Refusal.{Refusal}
-use Rattle.refusal.specs.declared.Refusal.the-variants.{Range, Count, Short, Character, Blanks}
+use Rattle.refusal.specs.declared.Refusal.the-variants.{Range, Ratio, Count, Short, Character, Blanks}
 use Rattle.door.specs.declared.Runs.{Runs}
 use Rattle.door.specs.declared.Runs.the-variants.{Sum, Wrong}
 use Rattle.door.specs.Job.{Job, entries}
-use Rattle.door.specs.Refusals.{outside, _when_}
+use Rattle.door.specs.Refusals.{outside, ratioWrong, _when_}
 
--- numbers 1, 2 and 12, by the counts and the lengths of the result lists
-abbrev pub sizeRows : ℕ → ℕ → ℕ → ℕ → ℕ → ℕ → ℕ → ℕ → List Refusal
-sizeRows em measure bases rubies elements base ruby lines =
+-- numbers 1 and 15
+abbrev pub houseRows : ℕ → ℕ → Ratios → List Refusal
+houseRows em measure ratios =
     Range 0 when (eqb (em % 2) 1 || outside 2 4096 em)
     ++ Range 1 when outside 1 4000000 measure
-    ++ Count 0 when ltb 1024 bases
+    ++ Ratio 0 when ratioWrong (ratios .ruby)
+    ++ Ratio 1 when ratioWrong (ratios .base)
+
+-- numbers 2 and 12, by the counts and the lengths of the result lists
+abbrev pub sizeRows : ℕ → ℕ → ℕ → ℕ → ℕ → ℕ → List Refusal
+sizeRows bases rubies elements base ruby lines =
+    Count 0 when ltb 1024 bases
     ++ Count 1 when ltb 2048 rubies
     ++ Count 2 when ltb 1024 elements
     ++ Short when (ltb base bases || (ltb lines bases || ltb ruby rubies))
@@ -45,6 +52,7 @@ basesOnly class width before after flag =
     record {
       em = 0;
       measure = 0;
+      ratios = usual;
       class = class;
       width = width;
       before = before;
@@ -63,6 +71,7 @@ rubiesOnly class width =
     record {
       em = 0;
       measure = 0;
+      ratios = usual;
       class = [];
       width = [];
       before = [];

@@ -1,7 +1,7 @@
 -- The first refusal of a list that is in order, and how a walk along such a list finds it.
-use mathlib.Core.Path.{_≡_, refl, ap, _∙_}
+use mathlib.Core.Path.{_≡_, refl, sym, ap, _∙_}
 use mathlib.Core.Bool.{Bool, true, false}
-use mathlib.Core.List.{List, [], _∷_, _++_}
+use mathlib.Core.List.{List, [], _∷_, _++_, append-assoc, append-nil}
 use Prim.Native.Nat.{ℕ, suc, _+_, _-_, _≤_, _<_}
 use native.Mathlib.Numerals.{add-one}
 use native.Mathlib.Nat.{sub-zero}
@@ -10,7 +10,7 @@ use Rattle.basics.specs.Lists.{count, each, All}
 use Rattle.refusal.specs.declared.Refusal.{Refusal}
 use Rattle.door.specs.declared.Checked.{Checked}
 use Rattle.door.specs.declared.Checked.the-variants.{Passed, Refused}
-use Rattle.door.specs.Refusals.{_when_}
+use Rattle.door.specs.Refusals.{_when_, heldAfter, held}
 
 abbrev pub verdict : List Refusal → Checked
 verdict [] = Passed
@@ -39,6 +39,27 @@ when-none r false e = refl
 pub each-none : {A : Type 0} (f : A → List Refusal) (xs : List A) → each f xs ≡ [] → All (λ x. f x ≡ []) xs
 each-none f [] e = tt
 each-none f (x ∷ xs) e = let p = append-none (f x) (each f xs) e in (p .0, each-none f xs (p .1))
+
+-- A list of rows, row by row.
+
+abbrev pub one : Refusal × Bool → List Refusal
+one r = r .0 when r .1
+
+held-after : (found : List Refusal) (rs : List (Refusal × Bool)) → heldAfter found rs ≡ found ++ each one rs
+held-after found [] = sym (append-nil found)
+held-after found (r ∷ rs) = held-after (found ++ one r) rs ∙ append-assoc found (one r) (each one rs)
+
+pub held-is : (rs : List (Refusal × Bool)) → held rs ≡ each one rs
+held-is [] = refl
+held-is (r ∷ rs) = held-after (one r) rs
+
+-- where no row holds, no condition does
+pub held-none : (rs : List (Refusal × Bool)) → held rs ≡ [] → All (λ r. r .1 ≡ false) rs
+held-none rs e = go rs (each-none one rs (sym (held-is rs) ∙ e))
+  where
+    go : (rs : List (Refusal × Bool)) → All (λ r. one r ≡ []) rs → All (λ r. r .1 ≡ false) rs
+    go [] a = tt
+    go (r ∷ rs) a = (when-none (r .0) (r .1) (a .0), go rs (a .1))
 
 -- a walk over 0, 1, .. n - 1: what is left of it decides
 module _ (f : ℕ → List Refusal) (n i : ℕ) (h : i < n) where

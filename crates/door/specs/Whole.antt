@@ -3,22 +3,24 @@ use mathlib.Core.Path.{_≡_, refl, sym, ap, _∙_}
 use mathlib.Core.List.{List, [], _∷_, _++_, append-assoc}
 use Prim.Native.Nat.{ℕ, zero, suc, _+_, _≤_, min}
 use native.Mathlib.Omega.{arith}
+use lib.Dec.{ltb}
 use lib.ListN.{length}
 use Rattle.basics.specs.Lists.{each, count}
 use Rattle.refusal.specs.declared.Refusal.{Refusal}
 use Rattle.door.specs.declared.Piece.{Piece}
 use Rattle.door.specs.declared.Checked.the-variants.{Passed, Refused}
 use Rattle.door.specs.Job.{Job, baseCount, rubyCount, elementCount, takesRuns, element, elementsFrom, elements}
-use Rattle.door.specs.Refusals.{baseFaults, rubyFaults, elementFaults, jobFaults, charFaults, elementsFaults, leftFaults, ownFaults}
+use Rattle.refusal.specs.declared.Refusal.the-variants.{Count, Short}
+use Rattle.door.specs.Refusals.{_when_, listShort, baseFaults, rubyFaults, elementFaults, jobFaults, charFaults, elementsFaults, leftFaults, ownFaults}
 use Rattle.door.specs.Verdict.{verdict, passed-none, front-refused, front-passed}
-use Rattle.door.specs.Values.{sizeRows, basesOnly, rubiesOnly, BaseHolds, RubyHolds}
+use Rattle.door.specs.Values.{houseRows, sizeRows, basesOnly, rubiesOnly, BaseHolds, RubyHolds}
 use Rattle.door.specs.Elements.{partsOnly}
-use Rattle.door.specs.Loop.{elementsRows, allRows, Holds}
-use Rattle.door.specs.Passed.{base-good, ruby-good, limits}
+use Rattle.door.specs.Loop.{elementsRows, allRows}
+use Rattle.door.specs.Passed.{limits}
 
 -- a job's parts
 abbrev pub partsOf : Job → Job
-partsOf job = partsOnly (job .em) (job .class) (job .width) (job .before) (job .after) (job .rubyClass) (job .rubyWidth) (job .kind) (job .elementBase) (job .elementRuby) (job .run)
+partsOf job = partsOnly (job .ratios) (job .em) (job .class) (job .width) (job .before) (job .after) (job .rubyClass) (job .rubyWidth) (job .kind) (job .elementBase) (job .elementRuby) (job .run)
 
 pub same-elements : (job : Job) (n k b r u : ℕ) → elementsFrom (partsOf job) n k b r u ≡ elementsFrom job n k b r u
 unfolding elementsFrom element
@@ -59,8 +61,11 @@ element-within job = go _ _ _
     go a b c = (omega arith, omega arith, omega arith)
 
 module _ (job : Job) (base ruby lines : ℕ) where
+  abbrev pub house : List Refusal
+  house = houseRows (job .em) (job .measure) (job .ratios)
+
   abbrev pub sizes : List Refusal
-  sizes = sizeRows (job .em) (job .measure) (baseCount job) (rubyCount job) (elementCount job) base ruby lines
+  sizes = sizeRows (baseCount job) (rubyCount job) (elementCount job) base ruby lines
 
   abbrev pub bases : List Refusal
   bases = each (baseFaults (basesOnly (job .class) (job .width) (job .before) (job .after) (job .flag))) (count 0 (baseCount job))
@@ -68,82 +73,44 @@ module _ (job : Job) (base ruby lines : ℕ) where
   abbrev pub rubies : List Refusal
   rubies = each (rubyFaults (rubiesOnly (job .rubyClass) (job .rubyWidth))) (count 0 (rubyCount job))
 
-  abbrev pub parts : List Refusal
-  parts = allRows (baseCount job) (rubyCount job) (partsOf job) (elementCount job)
-
-  -- the whole is the four groups in turn
-  whole : ownFaults job base ruby lines ≡ sizes ++ (bases ++ (rubies ++ parts))
-  unfolding ownFaults jobFaults charFaults
-  whole = rw (same-all job) (ap (λ (l : List Refusal). sizes ++ l) (append-assoc bases rubies (elementsFaults job 0 (elements job) ++ leftFaults job)))
-
-  -- what is judged before any element
+  -- what is judged before any element: the four groups in turn
   abbrev pub ahead : List Refusal
   ahead = jobFaults job base ruby lines ++ charFaults job
 
-  first-groups : ahead ≡ sizes ++ (bases ++ rubies)
-  unfolding jobFaults charFaults
-  first-groups = refl
+  own : jobFaults job base ruby lines ≡ house ++ sizes
+  unfolding jobFaults
+  own =
+      let c = Count 0 when ltb 1024 (baseCount job) in
+      let d = Count 1 when ltb 2048 (rubyCount job) in
+      let e = Count 2 when ltb 1024 (elementCount job) in
+      let s = Short when listShort job base ruby lines in
+      ap (λ (l : List Refusal). l ++ e ++ s) (append-assoc house c d) ∙ ap (λ (l : List Refusal). l ++ s) (append-assoc house (c ++ d) e) ∙ append-assoc house (c ++ d ++ e) s
 
-  pub sizes-end : {q : Refusal} → verdict sizes ≡ Refused q → Refused q ≡ verdict ahead
-  sizes-end e = sym (ap verdict first-groups ∙ front-refused sizes _ e)
+  groups : ahead ≡ house ++ (sizes ++ (bases ++ rubies))
+  unfolding charFaults
+  groups = ap (λ (l : List Refusal). l ++ (bases ++ rubies)) own ∙ append-assoc house sizes (bases ++ rubies)
 
-  pub bases-end : {q : Refusal} → verdict sizes ≡ Passed → verdict bases ≡ Refused q → Refused q ≡ verdict ahead
-  bases-end one e = sym (ap verdict first-groups ∙ front-passed sizes _ one ∙ front-refused bases _ e)
+  pub house-end : {q : Refusal} → verdict house ≡ Refused q → Refused q ≡ verdict ahead
+  house-end e = sym (ap verdict groups ∙ front-refused house _ e)
 
-  pub rubies-end : verdict sizes ≡ Passed → verdict bases ≡ Passed → verdict rubies ≡ verdict ahead
-  rubies-end one two = sym (ap verdict first-groups ∙ front-passed sizes _ one ∙ front-passed bases _ two)
+  module _ (one : verdict house ≡ Passed) where
+    pub sizes-end : {q : Refusal} → verdict sizes ≡ Refused q → Refused q ≡ verdict ahead
+    sizes-end e = sym (ap verdict groups ∙ front-passed house _ one ∙ front-refused sizes _ e)
 
-  pub sizes-refuse : {q : Refusal} → verdict sizes ≡ Refused q → Refused q ≡ verdict (ownFaults job base ruby lines)
-  sizes-refuse e = sym (ap verdict whole ∙ front-refused sizes _ e)
+    module _ (two : verdict sizes ≡ Passed) where
+      limited : jobFaults job base ruby lines ≡ []
+      limited = own ∙ rw (passed-none house one, passed-none sizes two)
 
-  module _ (one : verdict sizes ≡ Passed) where
-    limited : jobFaults job base ruby lines ≡ []
-    unfolding jobFaults
-    limited = passed-none sizes one
+      pub base-holds : BaseHolds (baseCount job) (job .class) (job .width) (job .before) (job .after) (job .flag)
+      base-holds =
+          let w = base-within job in
+          record { most = limits job base ruby lines limited .bases; class = w .0; width = w .1; before = w .2; after = w .3; flag = w .4 }
 
-    pub base-holds : BaseHolds (baseCount job) (job .class) (job .width) (job .before) (job .after) (job .flag)
-    base-holds =
-        let w = base-within job in
-        record { most = limits job base ruby lines limited .bases; class = w .0; width = w .1; before = w .2; after = w .3; flag = w .4 }
+      pub ruby-holds : RubyHolds (rubyCount job) (job .rubyClass) (job .rubyWidth)
+      ruby-holds = let w = ruby-within job in record { most = limits job base ruby lines limited .rubies; class = w .0; width = w .1 }
 
-    pub ruby-holds : RubyHolds (rubyCount job) (job .rubyClass) (job .rubyWidth)
-    ruby-holds = let w = ruby-within job in record { most = limits job base ruby lines limited .rubies; class = w .0; width = w .1 }
+      pub bases-end : {q : Refusal} → verdict bases ≡ Refused q → Refused q ≡ verdict ahead
+      bases-end e = sym (ap verdict groups ∙ front-passed house _ one ∙ front-passed sizes _ two ∙ front-refused bases _ e)
 
-    pub bases-refuse : {q : Refusal} → verdict bases ≡ Refused q → Refused q ≡ verdict (ownFaults job base ruby lines)
-    bases-refuse e = sym (ap verdict whole ∙ front-passed sizes _ one ∙ front-refused bases _ e)
-
-    module _ (two : verdict bases ≡ Passed) where
-      pub rubies-refuse : {q : Refusal} → verdict rubies ≡ Refused q → Refused q ≡ verdict (ownFaults job base ruby lines)
-      rubies-refuse e = sym (ap verdict whole ∙ front-passed sizes _ one ∙ front-passed bases _ two ∙ front-refused rubies _ e)
-
-      module _ (three : verdict rubies ≡ Passed) where
-        characters : charFaults job ≡ []
-        unfolding charFaults
-        characters = rw (passed-none bases two, passed-none rubies three)
-
-        pub parts-hold : Holds (elementCount job) (baseCount job) (rubyCount job) (partsOf job)
-        parts-hold =
-            let l = limits job base ruby lines limited in
-            let w = base-within job in
-            let r = ruby-within job in
-            let e = element-within job in
-            record {
-              most = l .elements;
-              kind = e .0;
-              elementBase = e .1;
-              elementRuby = e .2;
-              few = l .bases;
-              fewRuby = l .rubies;
-              class = w .0;
-              width = w .1;
-              before = w .2;
-              after = w .3;
-              rubyClass = r .0;
-              rubyWidth = r .1;
-              some = λ i h. base-good job characters i h .some;
-              narrow = λ i h. base-good job characters i h .narrow;
-              narrowRuby = λ i h. ruby-good job characters i h .narrow;
-            }
-
-        pub parts-decide : verdict parts ≡ verdict (ownFaults job base ruby lines)
-        parts-decide = sym (ap verdict whole ∙ front-passed sizes _ one ∙ front-passed bases _ two ∙ front-passed rubies _ three)
+      pub rubies-end : verdict bases ≡ Passed → verdict rubies ≡ verdict ahead
+      rubies-end three = sym (ap verdict groups ∙ front-passed house _ one ∙ front-passed sizes _ two ∙ front-passed bases _ three)

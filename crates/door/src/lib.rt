@@ -1,4 +1,4 @@
-// The door (document 01, "The job" and "Refusal list"): numbers 1, 2 and 12, then the characters (3, 4), before any element is looked at; and of an element what `layout`
+// The door (document 01, "The job" and "Refusal list"): numbers 1, 15, 2 and 12, then the characters (3, 4), before any element is looked at; and of an element what `layout`
 // asks for as it goes over them: its counts (5), whether its characters are there (6), level one's answer (7 to 10), and what is left over. It relies on
 // `word` for level one, on `class` for the class table, on `refusal` and on `basics`.
 
@@ -9,12 +9,13 @@ ghost use Prim.Native.Nat.{_+_, _%_, _^_, _≤_, _<_, min};
 ghost use lib.Dec.{ltb, eqb};
 ghost use lib.ListN.{length, getD};
 ghost use Rattle.basics.specs.Lists.{each, count};
+ghost use Rattle.spread.specs.Ratio.{ratioOf, ratiosOf, Housed};
 ghost use Rattle.class.specs.Class.{accepted, blankBefore, blankAfter};
 ghost use Rattle.door.specs.Job.{known, formOf, takesRuns, given, jobOf};
-ghost use Rattle.door.specs.Refusals.{outside, _when_, baseFaults, rubyFaults};
+ghost use Rattle.door.specs.Refusals.{outside, ratioWrong, _when_, baseFaults, rubyFaults};
 ghost use Rattle.refusal.specs.declared.Refusal.the-variants.{Character};
 ghost use Rattle.door.specs.Verdict.{verdict};
-ghost use Rattle.door.specs.Values.{sizeRows, characterWrong, baseRows, runsFrom, basesOnly, rubiesOnly, BaseHolds, RubyHolds};
+ghost use Rattle.door.specs.Values.{houseRows, sizeRows, characterWrong, baseRows, runsFrom, basesOnly, rubiesOnly, BaseHolds, RubyHolds};
 ghost use Rattle.word.specs.declared.Form.the-variants as form;
 ghost use Rattle.door.specs.Elements.{countedAs, countedBy, partsOnly, Reads};
 ghost use Rattle.door.specs.Whole.{ahead};
@@ -30,10 +31,12 @@ pub const GROUP: u32 = 71;
 
 pub const JUKUGO: u32 = 74;
 
-// The most that a job may have (numbers 1 and 2), that a character may be wide (3) and that an element may take (5).
+// The most that a job may have (numbers 1, 15 and 2), that a character may be wide (3) and that an element may take (5).
 pub const MOST_EM: u32 = 4096;
 
 pub const MOST_MEASURE: u32 = 4000000;
+
+pub const MOST_RATIO: u32 = 7;
 
 pub const MOST_BASES: usize = 1024;
 
@@ -123,18 +126,30 @@ fn too_short(base: usize, ruby: usize, lines: usize, bases: usize, rubies: usize
     ruby < rubies
 }
 
-// Numbers 1, 2 and 12.
-fn check_sizes(
-    em: u32,
-    measure: u32,
-    bases: usize,
-    rubies: usize,
-    elements: usize,
-    base: usize,
-    ruby: usize,
-    lines: usize,
-) -> Checked
-    ensures { λ r. ⌜ r ≡ verdict (sizeRows em measure bases rubies elements base ruby lines) ⌝ }
+// Number 15 of one ratio.
+fn ratio_wrong(r: [u32; 3]) -> bool
+    ensures { λ t. ⌜ t ≡ ratioWrong (ratioOf r) ⌝ }
+{
+    if MOST_RATIO < r[0] {
+        return true;
+    }
+    if MOST_RATIO < r[1] {
+        return true;
+    }
+    if MOST_RATIO < r[2] {
+        return true;
+    }
+    if r[0] == 0 {
+        if r[1] == 0 {
+            return r[2] == 0;
+        }
+    }
+    false
+}
+
+// Numbers 1 and 15.
+fn check_house(em: u32, measure: u32, ratios: [[u32; 3]; 2]) -> Checked
+    ensures { λ r. ⌜ r ≡ verdict (houseRows em measure (ratiosOf ratios)) ⌝ }
 {
     if em_wrong(em) {
         return Checked::Refused(Refusal::Range(0));
@@ -142,6 +157,26 @@ fn check_sizes(
     if is_outside(1, MOST_MEASURE, measure) {
         return Checked::Refused(Refusal::Range(1));
     }
+    if ratio_wrong(ratios[0]) {
+        return Checked::Refused(Refusal::Ratio(0));
+    }
+    if ratio_wrong(ratios[1]) {
+        return Checked::Refused(Refusal::Ratio(1));
+    }
+    Checked::Passed
+}
+
+// Numbers 2 and 12.
+fn check_sizes(
+    bases: usize,
+    rubies: usize,
+    elements: usize,
+    base: usize,
+    ruby: usize,
+    lines: usize,
+) -> Checked
+    ensures { λ r. ⌜ r ≡ verdict (sizeRows bases rubies elements base ruby lines) ⌝ }
+{
     if MOST_BASES < bases {
         return Checked::Refused(Refusal::Count(0));
     }
@@ -442,6 +477,7 @@ pub fn runs_end(p: Piece) -> usize
 pub fn measure_piece(
     k: u32,
     p: Piece,
+    ratios: [[u32; 3]; 2],
     em: u32,
     class: &[u32],
     width: &[u32],
@@ -451,8 +487,8 @@ pub fn measure_piece(
     rwidth: &[u32],
     runs: &[u32],
 ) -> word::Answer
-    requires { ⌜ (p .run + p .bases < 2 ^ 40) × Reads (partsOnly em (now class) (now width) (now before) (now after) (now rclass) (now rwidth) [] [] [] (now runs)) p ⌝ }
-    ensures { λ a. ⌜ a ≡ answer (p .form) k (given (partsOnly em (now (class .entry)) (now (width .entry)) (now (before .entry)) (now (after .entry)) (now (rclass .entry)) (now (rwidth .entry)) [] [] [] (now (runs .entry))) p) ⌝ }
+    requires { let job = partsOnly (ratiosOf ratios) em (now class) (now width) (now before) (now after) (now rclass) (now rwidth) [] [] [] (now runs) in ⌜ (p .run + p .bases < 2 ^ 40) × (p .ruby + p .rubies < 2 ^ 40) × (Reads job p) × (Housed (job .ratios)) ⌝ }
+    ensures { λ a. ⌜ a ≡ answer (p .form) k (given (partsOnly (ratiosOf ratios) em (now (class .entry)) (now (width .entry)) (now (before .entry)) (now (after .entry)) (now (rclass .entry)) (now (rwidth .entry)) [] [] [] (now (runs .entry))) p) ⌝ }
 {
     let form = p.form;
     let b = p.base;
@@ -464,6 +500,7 @@ pub fn measure_piece(
     word::measure(
         form,
         k,
+        ratios,
         em,
         &class[b..e],
         &width[b..e],
@@ -511,10 +548,11 @@ pub fn element_count(kind: &[u32], ebase: &[u32], eruby: &[u32]) -> usize
     fewer(kind.len(), fewer(ebase.len(), eruby.len()))
 }
 
-// What is judged before any element: numbers 1, 2 and 12, then the characters. `base`, `ruby` and `lines` are the lengths of the result lists.
+// What is judged before any element: numbers 1, 15, 2 and 12, then the characters. `base`, `ruby` and `lines` are the lengths of the result lists.
 pub fn check_characters(
     em: u32,
     measure: u32,
+    ratios: [[u32; 3]; 2],
     class: &[u32],
     width: &[u32],
     before: &[u32],
@@ -529,12 +567,16 @@ pub fn check_characters(
     ruby: usize,
     lines: usize,
 ) -> Checked
-    ensures { λ c. let job = jobOf em measure (now (class .entry)) (now (width .entry)) (now (before .entry)) (now (after .entry)) (now (flag .entry)) (now (rclass .entry)) (now (rwidth .entry)) (now (kind .entry)) (now (ebase .entry)) (now (eruby .entry)) [] in ⌜ c ≡ verdict (ahead job base ruby lines) ⌝ }
+    ensures { λ c. let job = jobOf em measure ratios (now (class .entry)) (now (width .entry)) (now (before .entry)) (now (after .entry)) (now (flag .entry)) (now (rclass .entry)) (now (rwidth .entry)) (now (kind .entry)) (now (ebase .entry)) (now (eruby .entry)) [] in ⌜ c ≡ verdict (ahead job base ruby lines) ⌝ }
 {
+    let house = check_house(em, measure, ratios);
+    let Checked::Passed = house else {
+        return house;
+    };
     let bases = base_count(class, width, before, after, flag);
     let rubies = ruby_count(rclass, rwidth);
     let elements = element_count(kind, ebase, eruby);
-    let sizes = check_sizes(em, measure, bases, rubies, elements, base, ruby, lines);
+    let sizes = check_sizes(bases, rubies, elements, base, ruby, lines);
     let Checked::Passed = sizes else {
         return sizes;
     };

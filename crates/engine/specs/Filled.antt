@@ -11,7 +11,7 @@ use Rattle.basics.specs.Lists.{lastOr}
 use Rattle.refusal.specs.declared.Refusal.{Refusal}
 use Rattle.refusal.specs.declared.Refusal.the-variants.{NoBreak}
 use Rattle.door.specs.declared.Checked.the-variants as checked
-use Rattle.door.specs.Job.{Job, jobOf, baseCount, rubyCount, elementCount, elements}
+use Rattle.door.specs.Job.{Job, baseCount, rubyCount, elementCount, elements}
 use Rattle.door.specs.Refusals.{jobFaults, charFaults, elementsFaults, leftFaults, ownFaults}
 use Rattle.door.specs.Verdict.{verdict, passed-none, append-none, front-refused, front-passed}
 use Rattle.door.specs.Passed.{Passed, limits, base-good, ruby-good}
@@ -24,7 +24,7 @@ use Rattle.join.specs.Rows.{Holds}
 use Rattle.join.specs.Join.{sound, lines-join, faults-join}
 use Rattle.layout.specs.Walk.{Ready}
 use Rattle.layout.specs.Measure.{unmeasured, same-faults, measured}
-use Rattle.cells.specs.Cells.{linesOf}
+use Rattle.cells.specs.Cells.{size, linesOf}
 use Rattle.filling.specs.declared.Lines.{Lines}
 use Rattle.filling.specs.declared.Lines.the-variants as filling
 use Rattle.filling.specs.Lines.{over, toldOf, extentsOf}
@@ -32,7 +32,7 @@ use Rattle.engine.specs.Fault as fault
 
 -- tables with room for the rows and the lines of a job that is not too large
 pub record Room (job : Job) (t found far : List ℕ) : Type 0 where
-  pub rows : baseCount job ≤ 1024 → 19 * baseCount job ≤ length t
+  pub rows : baseCount job ≤ 1024 → size (baseCount job) ≤ length t
   pub ends : baseCount job ≤ 1024 → baseCount job ≤ length found
   pub extents : baseCount job ≤ 1024 → baseCount job ≤ length far
 
@@ -56,9 +56,26 @@ Keeps job base ruby lines wasFar t found far (answer.Refused q) = Unit
 Keeps job base ruby lines wasFar t found far (answer.Set n) = Full job base ruby lines wasFar t found far n
 
 -- no character's refusal depends on the runs
-pub any-runs : (job : Job) (base ruby lines : ℕ) →
-    ahead (jobOf (job .em) (job .measure) (job .class) (job .width) (job .before) (job .after) (job .flag) (job .rubyClass) (job .rubyWidth) (job .kind) (job .elementBase) (job .elementRuby) []) base ruby lines
-    ≡ ahead job base ruby lines
+abbrev runless : Job → Job
+runless job =
+    record {
+      em = job .em;
+      measure = job .measure;
+      ratios = job .ratios;
+      class = job .class;
+      width = job .width;
+      before = job .before;
+      after = job .after;
+      flag = job .flag;
+      rubyClass = job .rubyClass;
+      rubyWidth = job .rubyWidth;
+      kind = job .kind;
+      elementBase = job .elementBase;
+      elementRuby = job .elementRuby;
+      run = [];
+    }
+
+pub any-runs : (job : Job) (base ruby lines : ℕ) → ahead (runless job) base ruby lines ≡ ahead job base ruby lines
 unfolding jobFaults charFaults baseCount rubyCount elementCount
 any-runs job base ruby lines = refl
 
@@ -82,11 +99,12 @@ module _ (job : Job) (base ruby lines : ℕ) where
     few = limits job base ruby lines (first .0) .bases
 
     -- what the layout asks for
-    pub ready : (t : List ℕ) → 19 * baseCount job ≤ length t → Ready (unmeasured job) t
+    pub ready : (t : List ℕ) → size (baseCount job) ≤ length t → Ready (unmeasured job) t
     unfolding baseCount rubyCount elementCount
     ready t h =
         let l = limits job base ruby lines (first .0) in
         record {
+          house = l .house;
           few = l .bases;
           fewRuby = l .rubies;
           fewElements = l .elements;

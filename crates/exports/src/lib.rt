@@ -1,6 +1,7 @@
 // The library for callers in C and C++ (include/bolyverit.h): the setting and the account, each over lists and of a sheet, as functions over pointers and lengths. Nothing is decided here: an
 // answer becomes a struct of two numbers, and the tables of a sheet are lent to `setter` and `account_sheet`. It relies on these two, on `engine`, `job_account` and `refusal`.
 ghost use mathlib.Core.Path.{_≡_};
+ghost use mathlib.Core.List.{[], _∷_};
 ghost use Rattle.text.specs.Print.{Wrote};
 ghost use Rattle.door.specs.Job.{jobOf};
 ghost use Rattle.setter.specs.Answer.{answerText, Fits};
@@ -31,11 +32,13 @@ fn answer_of(a: job::Answer) -> Answer
     }
 }
 
-// Sets a job in lists.
+// Sets a job in lists. `rratio` and `bratio` are the ratios of spread ruby and of spread base, three numbers each, a, m, c.
 #[no_mangle]
 pub extern "C" fn bv_set_job(
     em: u32,
     measure: u32,
+    rratio: &[u32; 3],
+    bratio: &[u32; 3],
     class: &[u32],
     width: &[u32],
     before: &[u32],
@@ -51,11 +54,12 @@ pub extern "C" fn bv_set_job(
     ruby: &mut [u32],
     lines: &mut [u32],
 ) -> Answer
-    ensures { λ r. ⌜ Left (jobOf em measure (now (class .entry)) (now (width .entry)) (now (before .entry)) (now (after .entry)) (now (flag .entry)) (now (rclass .entry)) (now (rwidth .entry)) (now (kind .entry)) (now (ebase .entry)) (now (eruby .entry)) (now (runs .entry))) (now (base .entry)) (now (ruby .entry)) (now (lines .entry)) r (now (base .exit)) (now (ruby .exit)) (now (lines .exit)) ⌝ }
+    ensures { λ r. ⌜ Left (jobOf em measure (now (rratio .entry) ∷ now (bratio .entry) ∷ []) (now (class .entry)) (now (width .entry)) (now (before .entry)) (now (after .entry)) (now (flag .entry)) (now (rclass .entry)) (now (rwidth .entry)) (now (kind .entry)) (now (ebase .entry)) (now (eruby .entry)) (now (runs .entry))) (now (base .entry)) (now (ruby .entry)) (now (lines .entry)) r (now (base .exit)) (now (ruby .exit)) (now (lines .exit)) ⌝ }
 {
     let answer = engine::set_job(
         em,
         measure,
+        [*rratio, *bratio],
         class,
         width,
         before,
@@ -107,6 +111,8 @@ pub extern "C" fn bv_set_sheet(sheet: &[u8], out: &mut [u8; 131072]) -> usize
 pub extern "C" fn bv_account_job(
     em: u32,
     measure: u32,
+    rratio: &[u32; 3],
+    bratio: &[u32; 3],
     class: &[u32],
     width: &[u32],
     before: &[u32],
@@ -122,11 +128,12 @@ pub extern "C" fn bv_account_job(
     told: &mut [u32],
     extents: &mut [u32],
 ) -> Answer
-    ensures { λ r. ⌜ Accounted (jobOf em measure (now (class .entry)) (now (width .entry)) (now (before .entry)) (now (after .entry)) (now (flag .entry)) (now (rclass .entry)) (now (rwidth .entry)) (now (kind .entry)) (now (ebase .entry)) (now (eruby .entry)) (now (runs .entry))) (now (rows .entry)) (now (told .entry)) (now (extents .entry)) r (now (rows .exit)) (now (told .exit)) (now (extents .exit)) ⌝ }
+    ensures { λ r. ⌜ Accounted (jobOf em measure (now (rratio .entry) ∷ now (bratio .entry) ∷ []) (now (class .entry)) (now (width .entry)) (now (before .entry)) (now (after .entry)) (now (flag .entry)) (now (rclass .entry)) (now (rwidth .entry)) (now (kind .entry)) (now (ebase .entry)) (now (eruby .entry)) (now (runs .entry))) (now (rows .entry)) (now (told .entry)) (now (extents .entry)) r (now (rows .exit)) (now (told .exit)) (now (extents .exit)) ⌝ }
 {
     let answer = job_account::account_job(
         em,
         measure,
+        [*rratio, *bratio],
         class,
         width,
         before,

@@ -12,7 +12,7 @@ use lib.ListN.{length}
 use Rattle.line.specs.declared.State.{State}
 use Rattle.line.specs.Setting.{start, furthest, origin}
 use Rattle.cells.specs.declared.Cell.{Cell}
-use Rattle.cells.specs.Cells.{cellAt, piece, next, stop, walk, rest, stateAt, mayEnd, holds, lastOf, breaks, endOf, Advances}
+use Rattle.cells.specs.Cells.{size, cellAt, piece, next, stop, walk, rest, stateAt, mayEnd, holds, lastOf, breaks, endOf, Advances}
 use Rattle.cells.specs.Sound.{Row, Sound, advances}
 use Rattle.cells.specs.Walk.{stop-whole, stop-within, may-within, may-end, step, next-near, rest-none, grows, last-split, last-none, last-same, last-at}
 use Rattle.filling.specs.declared.Break.{Break}
@@ -109,7 +109,7 @@ module _ (em : ℕ) (t : List ℕ) (n i : ℕ) (st : State) (h : Stands em t n i
   pub row : Row t n i
   row = h .sound .row i (h .inside)
 
-  pub held : 19 * i + 19 ≤ length t
+  pub held : size (i + 1) ≤ length t
   held = omega (arith, h .inside, h .sound .long)
 
   pub goes : (c : ℕ) → i < c → c ≤ i + cellAt t i .bases → Advances em t st i c

@@ -56,7 +56,7 @@ fn within(
 {
     let mut k = most_within(bases, st.end, em, limit);
     while 0 < k {
-        let step = cells::advance(t, i, i + k, em, st);
+        let step = cells::advance_cut(t, i, i + k, em, st);
         let extent = extent_of(step.st);
         if extent <= limit {
             return Break { at: i + k, extent };

@@ -127,7 +127,7 @@ part-alike form v w i n j s =
     let f = s .alike .rubyWidth in
     let r = s .alike .run j in
     record {
-      alike = record { em = s .alike .em; class = cc; width = cc; rubyClass = cc; rubyWidth = cc; run = λ _. cc };
+      alike = record { em = s .alike .em; ratios = s .alike .ratios; class = cc; width = cc; rubyClass = cc; rubyWidth = cc; run = λ _. cc };
       before = ap (parts.within i n) (s .before);
       after = ap (parts.within i n) (s .after);
     }

@@ -1,18 +1,20 @@
 -- The refusal list as document 01 prints it ("Refusal list"): what the table says of each number and place, and the order, as a relation between any two.
 -- `Demands` shows that a job gets the first by this order of those that the table gives it, and none exactly when the table gives it none.
 use mathlib.Core.Path.{_≡_}
-use mathlib.Core.Bool.{Bool, true}
+use mathlib.Core.Bool.{Bool, true, cond}
 use mathlib.Core.List.{List, [], _∷_}
 use mathlib.Core.Logic.{_⊎_}
-use Prim.Native.Nat.{ℕ, _+_, _<_}
+use Prim.Native.Nat.{ℕ, suc, _+_, _<_}
+use lib.Dec.{eqb}
 use lib.ListN.{getD}
+use Rattle.basics.specs.Lists.{any}
 use Rattle.refusal.specs.declared.Refusal.{Refusal}
-use Rattle.refusal.specs.declared.Refusal.the-variants.{Range, Count, Short, Character, Blanks, Element, Supply, BlankInside, JukugoBase, Mixed, WesternOver, NoBreak, Form}
-use Rattle.refusal.specs.Refusal.{placeOf}
+use Rattle.refusal.specs.declared.Refusal.the-variants.{Range, Ratio, Count, Short, Character, Blanks, Element, Supply, BlankInside, JukugoBase, Mixed, WesternOver, NoBreak, Form}
+use Rattle.refusal.specs.Refusal.{numberOf, placeOf}
 use Rattle.word.specs.Answer.{blankInside, jukugoBase, mixedIn, westernOver}
 use Rattle.door.specs.declared.Piece.{Piece}
 use Rattle.door.specs.Job.{Job, baseCount, rubyCount, elementCount, elements, given}
-use Rattle.door.specs.Refusals.{emWrong, measureWrong, listShort, baseWrong, rubyWrong, blanksWrong, countsWrong, runOut, leftOver}
+use Rattle.door.specs.Refusals.{emWrong, measureWrong, ratioWrong, listShort, baseWrong, rubyWrong, blanksWrong, countsWrong, runOut, leftOver}
 use Rattle.job.specs.Line.{ends}
 use Rattle.job.specs.Refusals.{noBreak}
 use Rattle.job.specs.Promise.{nobody}
@@ -32,6 +34,7 @@ Begins job s = (s < baseCount job) × Member s (0 ∷ ends job)
 -- "given exactly when", with the place; base, ruby and lines are the lengths of the result lists
 abbrev pub Row : Job → ℕ → ℕ → ℕ → Refusal → Type 0
 Row job base ruby lines (Range p) = ((p ≡ 0) × (emWrong job ≡ true)) ⊎ ((p ≡ 1) × (measureWrong job ≡ true))  -- "0 em, 1 measure"
+Row job base ruby lines (Ratio p) = ((p ≡ 0) × (ratioWrong (job .ratios .ruby) ≡ true)) ⊎ ((p ≡ 1) × (ratioWrong (job .ratios .base) ≡ true))  -- "0 for the ruby ratio, 1 for the base"
 Row job base ruby lines (Count p) =
     ((p ≡ 0) × (1024 < baseCount job)) ⊎ (((p ≡ 1) × (2048 < rubyCount job)) ⊎ ((p ≡ 2) × (1024 < elementCount job)))  -- "0 base, 1 ruby, 2 elements"
 Row job base ruby lines Short = listShort job base ruby lines ≡ true
@@ -47,37 +50,31 @@ Row job base ruby lines (WesternOver p) = Of job (λ x. westernOver (x .form) (g
 Row job base ruby lines (NoBreak p) = Begins job p × (noBreak job p ≡ true)  -- "first base character of the line"
 Row job base ruby lines (Form p) = ⊥  -- 13 is the sheet's own
 
--- "Order: 1, 2 and 12, ..; then base characters and then ruby characters ..; then elements ..; then leftover characters; then lines"
-abbrev pub stage : Refusal → ℕ
-stage (Range p) = 0
-stage (Count p) = 1
-stage Short = 2
-stage (Character p) = 3
-stage (Blanks p) = 3
-stage (Element p) = 4
-stage (Supply p) = 4
-stage (BlankInside p) = 4
-stage (JukugoBase p) = 4
-stage (Mixed p) = 4
-stage (WesternOver p) = 4
-stage (NoBreak p) = 5
-stage (Form p) = 6
+-- "Order: 1, 2 and 12, each by lowest place", 15 "checked after 1"; "then base characters and then ruby characters in turn, 3 before 4; then elements in turn, in the table's order
+-- from 5; then leftover characters; then lines in turn": the numbers stage by stage, each stage's in the table's order. 13 is the sheet's own.
+abbrev pub order : List (List ℕ)
+order =
+    (1 ∷ [])
+    ∷ (15 ∷ [])
+    ∷ (2 ∷ [])
+    ∷ (12 ∷ [])
+    ∷ (3 ∷ 4 ∷ [])
+    ∷ (5 ∷ 6 ∷ 7 ∷ 8 ∷ 9 ∷ 10 ∷ [])
+    ∷ (11 ∷ [])
+    ∷ (13 ∷ [])
+    ∷ []
 
--- "in the table's order"
+-- how many stand before the first that passes a test
+abbrev pub ahead : {A : Type 0} → (A → Bool) → List A → ℕ
+ahead p [] = 0
+ahead p (x ∷ xs) = cond (p x) 0 (suc (ahead p xs))
+
+-- a refusal's key: the stage that its number stands in, and its line there
+abbrev pub stage : Refusal → ℕ
+stage r = ahead (any (eqb (numberOf r))) order
+
 abbrev pub line : Refusal → ℕ
-line (Range p) = 0
-line (Count p) = 1
-line Short = 2
-line (Character p) = 3
-line (Blanks p) = 4
-line (Element p) = 5
-line (Supply p) = 6
-line (BlankInside p) = 7
-line (JukugoBase p) = 8
-line (Mixed p) = 9
-line (WesternOver p) = 10
-line (NoBreak p) = 11
-line (Form p) = 12
+line r = ahead (eqb (numberOf r)) (getD order (stage r) [])
 
 -- One comes before another: by its stage; of one stage "by lowest place", which is "in turn", as ruby characters have places past all base characters' and
 -- what is left over has the place past all elements'; and at one place in the table's order.

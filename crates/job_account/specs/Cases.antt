@@ -2,6 +2,7 @@
 use mathlib.Core.Path.{_≡_, refl}
 use mathlib.Core.List.{List, [], _∷_}
 use Prim.Native.Nat.{ℕ}
+use Rattle.spread.specs.Ratio.{usual}
 use Rattle.line.specs.Setting.{origin, settleFrom}
 use Rattle.door.specs.Job.{Job}
 use Rattle.job.specs.Line.{lineOf, origins, ends}
@@ -14,6 +15,7 @@ example =
     record {
       em = 10;
       measure = 35;
+      ratios = usual;
       class = 19 ∷ 15 ∷ 19 ∷ 19 ∷ [];
       width = 10 ∷ 10 ∷ 10 ∷ 10 ∷ [];
       before = 0 ∷ 0 ∷ 0 ∷ 0 ∷ [];

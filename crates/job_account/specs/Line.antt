@@ -14,7 +14,7 @@ use Rattle.line.specs.declared.Element.{Element}
 use Rattle.line.specs.declared.State.{State}
 use Rattle.line.specs.Rules.{blockOf, rubyOf}
 use Rattle.line.specs.Setting.{start, origin, furthest}
-use Rattle.cells.specs.Cells.{cellAt, piece, stop, Advances}
+use Rattle.cells.specs.Cells.{size, cellAt, piece, stop, Advances}
 use Rattle.cells.specs.Sound.{Sound, advances}
 use Rattle.cells.specs.Walk.{next-near}
 use Rattle.account.specs.declared.Before.{Before}
@@ -188,7 +188,7 @@ module _ {em : ℕ} {t : List ℕ} {s e : ℕ} {from : Place} {was : List ℕ} (
       ahead : (i < stop t i e) × (stop t i e ≤ i + cellAt t i .bases)
       ahead = let some = ready .sound .row i in-table .some in (omega arith, omega arith)
 
-      pub held : 19 * i + 19 ≤ length t
+      pub held : size (i + 1) ≤ length t
       held = omega (arith, in-table, ready .sound .long)
 
       pub few : (i < 1024) × (0 < cellAt t i .bases) × (cellAt t i .bases ≤ 32)

@@ -15,6 +15,7 @@ use Rattle.basics.specs.Lists.{sum, All, lastOr}
 use Rattle.class.specs.Class.{western, depthsOn}
 use Rattle.class.specs.declared.Depths.{Depths}
 use Rattle.class.specs.Laws.{before-within}
+use Rattle.spread.specs.Ratio.{Ratios, Housed}
 use Rattle.word.specs.declared.Form.{Form}
 use Rattle.word.specs.declared.Form.the-variants.{P, M, G, J}
 use Rattle.word.specs.declared.Word.{Word}
@@ -165,7 +166,8 @@ module _ (job : Job) (passed : Passed job) (t : List ℕ) (table : Holds job t) 
         let k = i - x .base in
         let low : x .base ≤ z = omega arith in
         let high : z < x .base + x .bases = omega arith in
-        ap₂ (λ a b. byEnds a (cellAt t i .wide) b (cellAt t i .ruby) (cellAt t i .over) (overWith (job .em) (cellAt t z)) (cellAt t i .own) (cellAt t z .own) (cellAt t i .western))
+        ap (λ r. byRatios r (cellAt t i) (cellAt t z)) (table .house)
+        ∙ ap₂ (λ a b. byEnds a (cellAt t i .wide) b (cellAt t i .ruby) (cellAt t i .over) (overWith (job .em) (cellAt t z)) (cellAt t i .own) (cellAt t z .own) (cellAt t i .western))
         (wide-with j z low high ∙ ap (wideBefore job x) (top (x .base) h l)) (ruby-with j z low high ∙ ap (firstRuby job x) (top (x .base) h l))
         ∙ ap₂ (λ a b. byEnds (wideBefore job x (k + (c - i))) a (firstRuby job x (k + (c - i))) b (cellAt t i .over) (overWith (job .em) (cellAt t z)) (cellAt t i .own) (cellAt t z .own) (cellAt t i .western))
         (wide-at j i h (omega arith)) (ruby-at j i h (omega arith))
@@ -177,8 +179,12 @@ module _ (job : Job) (passed : Passed job) (t : List ℕ) (table : Holds job t) 
         (western-at j i h (omega arith))
         ∙ part-word job x passed at j k (c - i) (omega arith) (omega arith)
       where
+        byRatios : Ratios → Cell → Cell → Word
+        byRatios h a z =
+            partBy h (job .em) (c - i) (z .wide + z .own - a .wide) (z .ruby + z .rubies - a .ruby) (eqb (a .over) (overWith (job .em) z)) (a .own) (z .own) (a .western)
+
         byEnds : ℕ → ℕ → ℕ → ℕ → ℕ → ℕ → ℕ → ℕ → Bool → Word
-        byEnds wz wa rz ra oa oz first last western = partBy (job .em) (c - i) (wz - wa) (rz - ra) (eqb oa oz) first last western
+        byEnds wz wa rz ra oa oz first last western = partBy (job .ratios) (job .em) (c - i) (wz - wa) (rz - ra) (eqb oa oz) first last western
 
         top : (b : ℕ) → b ≤ i → i < c → suc (c - 1 - b) ≡ i - b + (c - i)
         top b h l = omega arith
@@ -367,6 +373,7 @@ module _ (job : Job) (passed : Passed job) (t : List ℕ) (table : Holds job t) 
   sound =
       record {
         small = passed .em;
+        house = subst Housed (sym (table .house)) (passed .house);
         few = passed .fewBase;
         long = table .long;
         row = λ i h. let v = covers i h in row (v .x) (is-element job passed (v .front) (v .rest) (v .x) (v .split)) i (v .from) (v .ahead);

@@ -13,7 +13,6 @@ use lib.Seq.{take-all}
 use Rattle.basics.specs.Lists.{sum, count, any, keep, other, All, lastOr}
 use Rattle.basics.specs.Laws.{or-none, any-none, all-take, all-drop}
 use Rattle.class.specs.Class.{accepted, western, kanaLike}
-use Rattle.spread.specs.declared.Way.{Way}
 use Rattle.spread.specs.declared.Way.the-variants.{Solid, Spread, Limited}
 use Rattle.word.specs.declared.Form.{Form}
 use Rattle.word.specs.declared.Form.the-variants.{P, M, G, J}
@@ -22,11 +21,12 @@ use Rattle.word.specs.declared.Script.the-variants.{Kana, Western}
 use Rattle.word.specs.Given.{Given, hasRuby, isJ}
 use Rattle.word.specs.Alone as alone
 use Rattle.word.specs.Word as word
+use Rattle.word.specs.Numbers.{wordFrom, word-from}
 use Rattle.word.specs.declared.Answer.the-variants.{Set}
 use Rattle.word.specs.Answer.{answer}
 use Rattle.word.specs.First.{Speaks, judged}
 use Rattle.word.specs.Promise as promise
-use Rattle.cells.specs.Cells.{byNumbers, eachOver, rubyWay, partBy}
+use Rattle.cells.specs.Cells.{eachOver, rubyWay, partBy}
 use Rattle.door.specs.declared.Piece.{Piece}
 use Rattle.door.specs.Job.{Job, baseCount, rubyCount, entries, given}
 use Rattle.door.specs.Entries.{length-entries}
@@ -36,11 +36,6 @@ use Rattle.job.specs.Laws.{entries-at, entries-cut, entries-add, count-join, ke
 use Rattle.job.specs.Pieces.{IsElement}
 use Rattle.job.specs.Words.{GoodPiece, part-piece}
 use Rattle.join.specs.Rows.{taken, firstRuby, runAt, runWidth, wideBefore, longer}
-
--- a word by the sums and counts of its strings
-by-sums : (r b : Way) (em : ℕ) (bs rs : List ℕ) → byNumbers r b em (sum bs) (length bs) (sum rs) (length rs) ≡ word.wordBy r b em bs rs
-unfolding byNumbers word.wordBy word.shortRuby word.shortBase
-by-sums r b em bs rs = refl
 
 -- entries in two pieces
 entries-take : (xs : List ℕ) (a c n : ℕ) → take c (entries xs a (c + n)) ≡ entries xs a c
@@ -231,10 +226,11 @@ module _ (job : Job) (x : Piece) where
     script : eqb n 1 ≡ false → alone.script (given job (part job x k n) .rubyClass) ≡ cond (western (getD (job .rubyClass) (firstRuby job x k) 0)) Western Kana
     script e = ap (λ z. cond z Western Kana) (speaks e .first ∙ ap western head)
 
-    group : (t : Bool) (bs rs : List ℕ) → byNumbers (rubyWay t) Spread (job .em) (sum bs) (length bs) (sum rs) (length rs) ≡ word.groupWord (cond t Western Kana) Kana (job .em) bs rs
+    group : (t : Bool) (bs rs : List ℕ) →
+        wordFrom (rubyWay t) Spread (job .ratios) (job .em) (sum bs) (length bs) (sum rs) (length rs) ≡ word.groupWord (cond t Western Kana) Kana (job .ratios) (job .em) bs rs
     unfolding word.groupWord
-    group true bs rs = by-sums Solid Spread (job .em) bs rs
-    group false bs rs = by-sums Limited Spread (job .em) bs rs
+    group true bs rs = sym (word-from Solid Spread (job .ratios) (job .em) bs rs)
+    group false bs rs = sym (word-from Limited Spread (job .ratios) (job .em) bs rs)
 
     abbrev bs : List ℕ
     bs = given job (part job x k n) .width
@@ -257,16 +253,16 @@ module _ (job : Job) (x : Piece) where
     -- the numbers of the two rows are those of the part's own strings
     abbrev byRows : Bool → Bool → Word
     byRows one none =
-        cond one (byNumbers Solid Solid (job .em) (sum bs) (length bs) (sum rs) (length rs))
+        cond one (wordFrom Solid Solid (job .ratios) (job .em) (sum bs) (length bs) (sum rs) (length rs))
         (cond none (eachOver (job .em) (sum bs) (getD (map sum runs) 0 0) (lastOr 0 (map sum runs)))
-        (byNumbers (rubyWay (western (getD (job .rubyClass) (firstRuby job x k) 0))) Spread (job .em) (sum bs) (length bs) (sum rs) (length rs)))
+        (wordFrom (rubyWay (western (getD (job .rubyClass) (firstRuby job x k) 0))) Spread (job .ratios) (job .em) (sum bs) (length bs) (sum rs) (length rs)))
 
     by-rows : (one : Bool) → eqb n 1 ≡ one → (long : Bool) → alone.anyLonger (job .em) runs ≡ long → byRows one (not long) ≡ wordOf job (part job x k n)
     unfolding word.wordOf word.jukugoWord
-    by-rows true e long f = by-sums Solid Solid (job .em) bs rs ∙ sym (word-of true e)
+    by-rows true e long f = sym (word-from Solid Solid (job .ratios) (job .em) bs rs) ∙ sym (word-of true e)
     by-rows false e true f =
         group (western (getD (job .rubyClass) (firstRuby job x k) 0)) bs rs
-        ∙ ap (λ z. word.groupWord z Kana (job .em) bs rs) (sym (script e))
+        ∙ ap (λ z. word.groupWord z Kana (job .ratios) (job .em) bs rs) (sym (script e))
         ∙ sym (word-of false e ∙ rw f)
     by-rows false e false f = over-each ∙ sym (word-of false e ∙ rw f)
 
@@ -275,21 +271,21 @@ module _ (job : Job) (x : Piece) where
     W = western (getD (job .rubyClass) (firstRuby job x k) 0)
 
     pub part-word :
-        partBy (job .em) n (wideBefore job x (k + n) - wideBefore job x k) (firstRuby job x (k + n) - firstRuby job x k) (eqb (longer job x k) (longer job x (k + n)))
+        partBy (job .ratios) (job .em) n (wideBefore job x (k + n) - wideBefore job x k) (firstRuby job x (k + n) - firstRuby job x k) (eqb (longer job x k) (longer job x (k + n)))
         (runWidth job x k) (runWidth job x (k + n - 1)) (western (getD (job .rubyClass) (firstRuby job x k) 0))
         ≡ wordOf job (part job x k n)
     unfolding partBy
     part-word =
-        ap₂ (λ R m. partBy (job .em) n R m (eqb (longer job x k) (longer job x (k + n))) (runWidth job x k) (runWidth job x (k + n - 1)) W) (sym wide) (sym rubies)
-        ∙ ap₂ (λ a z. partBy (job .em) n (sum rs) (length rs) (eqb (longer job x k) (longer job x (k + n))) a z W) (sym first) (sym last)
-        ∙ ap (λ t. partBy (job .em) n (sum rs) (length rs) t (getD (map sum runs) 0 0) (lastOr 0 (map sum runs)) W) same
+        ap₂ (λ R m. partBy (job .ratios) (job .em) n R m (eqb (longer job x k) (longer job x (k + n))) (runWidth job x k) (runWidth job x (k + n - 1)) W) (sym wide) (sym rubies)
+        ∙ ap₂ (λ a z. partBy (job .ratios) (job .em) n (sum rs) (length rs) (eqb (longer job x k) (longer job x (k + n))) a z W) (sym first) (sym last)
+        ∙ ap (λ t. partBy (job .ratios) (job .em) n (sum rs) (length rs) t (getD (map sum runs) 0 0) (lastOr 0 (map sum runs)) W) same
         ∙ numbers (eqb n 1) (not (alone.anyLonger (job .em) runs))
         ∙ by-rows (eqb n 1) refl (alone.anyLonger (job .em) runs) refl
       where
         byCount : Bool → Bool → ℕ → ℕ → Word
         byCount one none b m =
-            cond one (byNumbers Solid Solid (job .em) b m (sum rs) (length rs))
-            (cond none (eachOver (job .em) b (getD (map sum runs) 0 0) (lastOr 0 (map sum runs))) (byNumbers (rubyWay W) Spread (job .em) b m (sum rs) (length rs)))
+            cond one (wordFrom Solid Solid (job .ratios) (job .em) b m (sum rs) (length rs))
+            (cond none (eachOver (job .em) b (getD (map sum runs) 0 0) (lastOr 0 (map sum runs))) (wordFrom (rubyWay W) Spread (job .ratios) (job .em) b m (sum rs) (length rs)))
 
         numbers : (one none : Bool) → byCount one none (job .em * n) n ≡ byRows one none
         numbers one none = ap₂ (byCount one none) (sym widths) (sym many)

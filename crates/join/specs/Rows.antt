@@ -12,7 +12,7 @@ use Rattle.word.specs.declared.Word.{Word}
 use Rattle.word.specs.Given.{isJ}
 use Rattle.word.specs.Word as word
 use Rattle.cells.specs.declared.Cell.{Cell}
-use Rattle.cells.specs.Cells.{cellAt}
+use Rattle.cells.specs.Cells.{size, ratiosAt, cellAt}
 use Rattle.door.specs.declared.Piece.{Piece}
 use Rattle.door.specs.Job.{Job, baseCount, entries, elements}
 use Rattle.job.specs.Line.{part, wordOf, onP, depthsAt}
@@ -85,7 +85,8 @@ rowOf job x i = rowBy job x (wordOf job x) (endsBehind job x) (onP (x .form) (de
 abbrev pub HasRows : Job → List ℕ → Piece → Type 0
 HasRows job t x = (i : ℕ) → x .base ≤ i → i < x .base + x .bases → cellAt t i ≡ rowOf job x i
 
--- a table that has the rows of all elements
+-- a table that has the job's ratios at its head and the rows of all elements
 pub record Holds (job : Job) (t : List ℕ) : Type 0 where
-  pub long : 19 * baseCount job ≤ length t
+  pub long : size (baseCount job) ≤ length t
+  pub house : ratiosAt t ≡ job .ratios
   pub rows : All (HasRows job t) (elements job)

@@ -71,7 +71,7 @@ abbrev pub runsIn : Job → Job
 runsIn job = runsOnly (job .em) (job .rubyClass) (job .rubyWidth) (job .run)
 
 abbrev pub partsIn : Job → Job
-partsIn job = partsOnly (job .em) (job .class) (job .width) (job .before) (job .after) (job .rubyClass) (job .rubyWidth) [] [] [] (job .run)
+partsIn job = partsOnly (job .ratios) (job .em) (job .class) (job .width) (job .before) (job .after) (job .rubyClass) (job .rubyWidth) [] [] [] (job .run)
 
 module _ (bases rubies : ℕ) (job : Job) (k b r u : ℕ) (was : List ℕ) (h : Standing bases rubies job k b r u was) where
   abbrev x : Piece
@@ -174,4 +174,4 @@ module _ (bases rubies : ℕ) (job : Job) (k b r u : ℕ) (was : List ℕ) (h : 
               ∙ ap₂ (λ c d. rowBy job x (wordOf job x) (endsBehind job x) c d i) (sym (on-none (x .form) _ ruby)) (sym (on-none (x .form) _ ruby))
 
           laid : Laid job x was t
-          laid = record { long = filled .long; rows = λ i l m. filled .here i l m ∙ row i; other = filled .other }
+          laid = record { long = filled .long; head = filled .head; rows = λ i l m. filled .here i l m ∙ row i; other = filled .other }

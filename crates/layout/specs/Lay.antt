@@ -11,11 +11,12 @@ use lib.Dec.{eqb, ltb}
 use lib.ListN.{length, getD}
 use Rattle.basics.specs.Lists.{sum, All}
 use Rattle.class.specs.Class.{western, depthsOn}
+use Rattle.spread.specs.Ratio.{usual, Housed}
 use Rattle.word.specs.Word.{plain}
 use Rattle.word.specs.declared.Word.{Word}
 use Rattle.word.specs.Given.{isJ}
 use Rattle.cells.specs.declared.Cell.{Cell}
-use Rattle.cells.specs.Cells.{cellAt}
+use Rattle.cells.specs.Cells.{size, ratiosAt, cellAt}
 use Rattle.cells.specs.Put.{Puts}
 use Rattle.door.specs.declared.Piece.{Piece}
 use Rattle.door.specs.declared.Step.{Step}
@@ -27,19 +28,21 @@ use Rattle.join.specs.Rows.{taken, firstRuby, runAt, runWidth, wideBefore, long
 use Rattle.join.specs.Part.{first-next, first-more, wide-next, wide-more, longer-next, longer-few}
 use Rattle.layout.specs.declared.Cursor.{Cursor}
 
--- Rows from a up to e are those of f, and all others are as they were.
+-- Rows from a up to e are those of f, and all else is as it was.
 pub record Filled (f : ℕ → Cell) (a e : ℕ) (was t : List ℕ) : Type 0 where
   pub long : length t ≡ length was
+  pub head : ratiosAt t ≡ ratiosAt was
   pub here : (i : ℕ) → a ≤ i → i < e → cellAt t i ≡ f i
   pub other : (i : ℕ) → (i < a) ⊎ (e ≤ i) → cellAt t i ≡ cellAt was i
 
 pub filled-none : (f : ℕ → Cell) (a : ℕ) (was : List ℕ) → Filled f a a was was
-filled-none f a was = record { long = refl; here = λ i h l. absurd (omega arith); other = λ i z. refl }
+filled-none f a was = record { long = refl; head = refl; here = λ i h l. absurd (omega arith); other = λ i z. refl }
 
 pub filled-more : (f : ℕ → Cell) (a e : ℕ) (was t u : List ℕ) → a ≤ e → Filled f a e was t → Puts t e (f e) u → Filled f a (e + 1) was u
 filled-more f a e was t u l q p =
     record {
       long = p .long ∙ q .long;
+      head = p .head ∙ q .head;
       here = λ i h m. row i h m (decLt i e);
       other = λ i z. other i z;
     }
@@ -75,7 +78,7 @@ word-row job x w ends before after i j = rw (j, add-zero (x .ruby))
 
 -- by another name
 pub filled-as : (f g : ℕ → Cell) (a e : ℕ) (was t : List ℕ) → ((i : ℕ) → f i ≡ g i) → Filled f a e was t → Filled g a e was t
-filled-as f g a e was t h q = record { long = q .long; here = λ i l m. q .here i l m ∙ h i; other = q .other }
+filled-as f g a e was t h q = record { long = q .long; head = q .head; here = λ i l m. q .here i l m ∙ h i; other = q .other }
 
 -- rows up to the end are all rows
 pub upto-end : (f : ℕ → Cell) {a i e : ℕ} {was t : List ℕ} → i ≡ e → Filled f a i was t → Filled f a e was t
@@ -83,11 +86,11 @@ upto-end f {a} {i} {e} {was} {t} h q = subst (λ (z : ℕ). Filled f a z was t) 
 
 -- of a J's rows only these lists matter
 abbrev pub runsOnly : ℕ → List ℕ → List ℕ → List ℕ → Job
-runsOnly em rubyClass rubyWidth run = partsOnly em [] [] [] [] rubyClass rubyWidth [] [] [] run
+runsOnly em rubyClass rubyWidth run = partsOnly usual em [] [] [] [] rubyClass rubyWidth [] [] [] run
 
 -- A J whose runs lie within their lists.
 pub record HasRuns (job : Job) (x : Piece) (t : List ℕ) : Type 0 where
-  pub held : 19 * (x .base + x .bases) ≤ length t
+  pub held : size (x .base + x .bases) ≤ length t
   pub small : x .base + x .bases ≤ 4096
   pub few : x .bases ≤ 32
   pub runs : x .run + x .bases ≤ length (job .run)
@@ -138,7 +141,7 @@ past-run job x k at run own a r o =
 
 -- what the rows of a word with ruby ask for
 pub record ElementReady (job : Job) (x : Piece) (t : List ℕ) : Type 0 where
-  pub held : 19 * (x .base + x .bases) ≤ length t
+  pub held : size (x .base + x .bases) ≤ length t
   pub small : x .base + x .bases ≤ 4096
   pub ruby : x .ruby ≤ 4096
   pub rubies : x .rubies ≤ 4096
@@ -226,7 +229,7 @@ pub record PlainReady (b r : ℕ) (cs ws bs ss fs t : List ℕ) : Type 0 where
   pub after : b < length ss
   pub flag : b < length fs
   pub narrow : getD ws b 0 ≤ 4096
-  pub held : 19 * b + 19 ≤ length t
+  pub held : size (b + 1) ≤ length t
 
 -- the row of base character b, a P before which r ruby characters were taken
 abbrev pub plainRow : ℕ → ℕ → ℕ → List ℕ → List ℕ → List ℕ → List ℕ → List ℕ → Cell
@@ -252,13 +255,15 @@ plainRow b r em class width before after flag =
 -- where the walk stands: at no P, the flags too are there, and the table has room
 pub record Standing (bases rubies : ℕ) (job : Job) (k b r u : ℕ) (t : List ℕ) : Type 0 where
   pub stands : Stands bases rubies job k b r u
+  pub house : Housed (job .ratios)
   pub flags : bases ≤ length (job .flag)
-  pub room : 19 * bases ≤ length t
+  pub room : size bases ≤ length t
   pub ruby : getD (job .kind) k 0 ≡ 80 → ⊥
 
 -- the rows of an element are written, and no other
 pub record Laid (job : Job) (x : Piece) (was t : List ℕ) : Type 0 where
   pub long : length t ≡ length was
+  pub head : ratiosAt t ≡ ratiosAt was
   pub rows : HasRows job t x
   pub other : (j : ℕ) → (j < x .base) ⊎ (x .base + x .bases ≤ j) → cellAt t j ≡ cellAt was j
 

@@ -5,15 +5,14 @@ use Prim.Native.Nat.{ℕ, _*_, _≤_}
 use lib.ListN.{length}
 use Rattle.basics.specs.Lists.{All}
 use Rattle.door.specs.declared.Piece.{Piece}
-use Rattle.door.specs.Job.{Job, jobOf, baseCount, rubyCount, elementCount, elements}
+use Rattle.door.specs.Job.{Job, withMeasure, baseCount, rubyCount, elementCount, elements}
 use Rattle.door.specs.Refusals.{elementsFaults, leftFaults}
 use Rattle.door.specs.Whole.{same-elements, same-all}
 use Rattle.join.specs.Rows.{rowOf, HasRows, Holds}
 
 -- the job without its measure
 abbrev pub unmeasured : Job → Job
-unmeasured job =
-    jobOf (job .em) 0 (job .class) (job .width) (job .before) (job .after) (job .flag) (job .rubyClass) (job .rubyWidth) (job .kind) (job .elementBase) (job .elementRuby) (job .run)
+unmeasured job = withMeasure 0 job
 
 pub same-faults : (job : Job) → elementsFaults (unmeasured job) 0 (elements (unmeasured job)) ++ leftFaults (unmeasured job) ≡ elementsFaults job 0 (elements job) ++ leftFaults job
 unfolding baseCount rubyCount elementCount
@@ -30,4 +29,4 @@ all-rows job t (x ∷ xs) a = (a .0, all-rows job t xs (a .1))
 
 pub measured : (job : Job) (t : List ℕ) → Holds (unmeasured job) t → Holds job t
 unfolding baseCount
-measured job t h = record { long = h .long; rows = subst (All (HasRows job t)) (same job) (all-rows job t (elements (unmeasured job)) (h .rows)) }
+measured job t h = record { long = h .long; house = h .house; rows = subst (All (HasRows job t)) (same job) (all-rows job t (elements (unmeasured job)) (h .rows)) }

@@ -13,10 +13,11 @@ use lib.Seq.{take-all, take-add}
 use Rattle.basics.specs.Lists.{sum, All}
 use Rattle.refusal.specs.declared.Refusal.{Refusal}
 use Rattle.class.specs.Class.{depthsOn}
+use Rattle.spread.specs.Ratio.{Housed}
 use Rattle.word.specs.declared.Form.the-variants.{P}
 use Rattle.word.specs.Word as word
-use Rattle.cells.specs.Cells.{cellAt}
-use Rattle.cells.specs.Put.{Puts}
+use Rattle.cells.specs.Cells.{size, ratiosAt, cellAt}
+use Rattle.cells.specs.Put.{headed, length-headed, head-written, Puts}
 use Rattle.door.specs.declared.Piece.{Piece}
 use Rattle.door.specs.Job.{Job, baseCount, rubyCount, elementCount, entries, element, elementsFrom, elements, takesRuns}
 use Rattle.door.specs.Refusals.{elementFaults, elementsFaults, leftFaults}
@@ -35,13 +36,14 @@ three Q {a} {a'} {b} {b'} {c} {c'} e f g h = subst (λ z. Q a' b' z) g (subst (�
 
 -- What the walk asks for: characters that their checks leave, and a table with room.
 pub record Ready (job : Job) (t : List ℕ) : Type 0 where
+  pub house : Housed (job .ratios)
   pub few : baseCount job ≤ 1024
   pub fewRuby : rubyCount job ≤ 2048
   pub fewElements : elementCount job ≤ 1024
   pub some : (i : ℕ) → i < baseCount job → 1 ≤ getD (job .width) i 0
   pub narrow : (i : ℕ) → i < baseCount job → getD (job .width) i 0 ≤ 4096
   pub narrowRuby : (i : ℕ) → i < rubyCount job → getD (job .rubyWidth) i 0 ≤ 4096
-  pub room : 19 * baseCount job ≤ length t
+  pub room : size (baseCount job) ≤ length t
 
 pub holds : (job : Job) (t : List ℕ) → Ready job t → loop.Holds (elementCount job) (baseCount job) (rubyCount job) job
 holds job t h =
@@ -76,17 +78,36 @@ pub own-all : (job : Job) → allRows (baseCount job) (rubyCount job) job (eleme
 unfolding allRows elements leftFaults
 own-all job = rw (own-rows job 0 (elementsFrom job (elementCount job) 0 0 0 0))
 
--- the rows of the first k elements are written
+-- the head and the rows of the first k elements are written
 pub record Walking (job : Job) (was t : List ℕ) (k b r u : ℕ) : Type 0 where
   pub ready : Ready job was
   pub along : Along (baseCount job) (rubyCount job) job (elementCount job) k b r u
   pub at : At job k b r u
   pub long : length t ≡ length was
+  pub head : ratiosAt t ≡ job .ratios
   pub rows : All (HasRows job t) (take k (elements job))
 
-pub walking-first : (job : Job) (was : List ℕ) → Ready job was → Walking job was was 0 0 0 0
+pub walking-first : (job : Job) (was : List ℕ) → Ready job was → let t = headed was (job .ratios) in Walking job t t 0 0 0 0
 walking-first job was ready =
-    record { ready = ready; along = loop.along-first (baseCount job) (rubyCount job) job (elementCount job); at = at-first job; long = refl; rows = tt }
+    let long = length-headed was (job .ratios) in
+    record {
+      ready =
+          record {
+            house = ready .house;
+            few = ready .few;
+            fewRuby = ready .fewRuby;
+            fewElements = ready .fewElements;
+            some = ready .some;
+            narrow = ready .narrow;
+            narrowRuby = ready .narrowRuby;
+            room = rw long (ready .room);
+          };
+      along = loop.along-first (baseCount job) (rubyCount job) job (elementCount job);
+      at = at-first job;
+      long = refl;
+      head = head-written was (job .ratios) (omega (arith, ready .room));
+      rows = tt;
+    }
 
 stays : (job : Job) (x : Piece) (was t : List ℕ) → Laid job x was t → (ys : List Piece) → All (HasRows job was) ys → All (λ y. y .base + y .bases ≤ x .base) ys → All (HasRows job t) ys
 stays job x was t l [] a b = tt
@@ -97,6 +118,7 @@ module _ (job : Job) (was t : List ℕ) (k b r u : ℕ) (q : Walking job was t k
   walking-end h =
       record {
         long = omega (arith, q .long, q .ready .room);
+        house = q .head;
         rows = subst (All (HasRows job t)) (take-all k (elements job) (omega (arith, length-elements job))) (q .rows);
       }
 
@@ -108,7 +130,7 @@ module _ (job : Job) (was t : List ℕ) (k b r u : ℕ) (q : Walking job was t k
     stands = loop.stands (baseCount job) (rubyCount job) job (elementCount job) k b r u h (holds job was (q .ready)) (q .along)
 
     pub standing : (getD (job .kind) k 0 ≡ 80 → ⊥) → Standing (baseCount job) (rubyCount job) job k b r u t
-    standing e = record { stands = stands; flags = base-within job .4; room = omega (arith, q .long, q .ready .room); ruby = e }
+    standing e = record { stands = stands; house = q .ready .house; flags = base-within job .4; room = omega (arith, q .long, q .ready .room); ruby = e }
 
     -- its rest is the element and the rest after it
     cons : drop k (elements job) ≡ x ∷ elementsFrom job (elementCount job - (k + 1)) (k + 1) (b + x .bases) (r + x .rubies) (u + takesRuns (x .form) (x .bases))
@@ -132,6 +154,7 @@ module _ (job : Job) (was t : List ℕ) (k b r u : ℕ) (q : Walking job was t k
           along = along;
           at = at-next job k b r u h (q .at);
           long = l .long ∙ q .long;
+          head = l .head ∙ q .head;
           rows = subst (All (HasRows job v)) (sym more) (all-append (HasRows job v) (take k (elements job)) (x ∷ []) (stays job x t v l (take k (elements job)) (q .rows) ends-before) (l .rows, tt));
         }
       where
@@ -176,6 +199,7 @@ module _ (job : Job) (was t : List ℕ) (k b r u : ℕ) (q : Walking job was t k
       laid v p =
           record {
             long = p .long;
+            head = p .head;
             rows = λ i l m. let e : i ≡ b = omega arith in ap (cellAt v) e ∙ p .here ∙ plain-row ∙ ap (rowOf job alone) (sym e);
             other = λ i z. p .other i (λ e. not-here i e z);
           }

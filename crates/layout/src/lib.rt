@@ -1,6 +1,6 @@
-// The table of a job's lists: a row for each base character (`rowOf` of `join`). It goes over the elements once, in the order of the refusal list from number 5 on: an
-// element is counted, its characters have to be there, level one's answer is taken apart, and its rows are written. Behind it nobody sees the lists. It
-// relies on `door` for the counts, on `word` for level one, on `class` for depths and kinds, and on `cells` for rows.
+// The table of a job's lists: the house ratios at its head, and a row for each base character (`rowOf` of `join`). It goes over the elements once, in the order of the
+// refusal list from number 5 on: an element is counted, its characters have to be there, level one's answer is taken apart, and its rows are written. Behind it nobody
+// sees the lists. It relies on `door` for the counts, on `word` for level one, on `class` for depths and kinds, and on `cells` for rows.
 ghost use mathlib.Core.Path.{_≡_};
 ghost use mathlib.Core.Bool.{true, false};
 ghost use mathlib.Core.List.{_++_};
@@ -12,6 +12,7 @@ ghost use Rattle.door.specs.Job.{jobOf, baseCount, rubyCount, elements, entries
 ghost use Rattle.door.specs.Refusals.{elementsFaults, leftFaults};
 ghost use Rattle.door.specs.Verdict.{verdict};
 ghost use Rattle.door.specs.declared.Checked.the-variants.{Passed};
+ghost use Rattle.cells.specs.Cells.{size};
 ghost use Rattle.cells.specs.Put.{Puts};
 ghost use Rattle.join.specs.Rows.{rowBy, Holds};
 ghost use Rattle.layout.specs.Lay.{wordRow, runRow, pastRun, runsOnly, Filled, HasRuns, ElementReady, PlainReady, plainRow, Standing, Stepped};
@@ -32,7 +33,7 @@ const NONE: word::Word = word::Word {
 
 // The rows of an M or a G.
 fn put_word(t: &mut [u32], p: door::Piece, w: word::Word, ends: bool)
-    requires { ⌜ (19 * (p .base + p .bases) ≤ length (now t)) × (p .base + p .bases ≤ 4096) × (p .ruby ≤ 4096) × (p .rubies ≤ 4096) ⌝ }
+    requires { ⌜ (size (p .base + p .bases) ≤ length (now t)) × (p .base + p .bases ≤ 4096) × (p .ruby ≤ 4096) × (p .rubies ≤ 4096) ⌝ }
     ensures { λ _. ⌜ Filled (wordRow p w ends 0 0) (p .base) (p .base + p .bases) (now (t .entry)) (now (t .exit)) ⌝ }
 {
     let e = p.base + p.bases;
@@ -261,6 +262,7 @@ fn lay_word(
     bases: usize,
     rubies: usize,
     em: u32,
+    ratios: [[u32; 3]; 2],
     class: &[u32],
     width: &[u32],
     before: &[u32],
@@ -273,8 +275,8 @@ fn lay_word(
     eruby: &[u32],
     runs: &[u32],
 ) -> door::Step
-    requires { let job = jobOf em 0 (now class) (now width) (now before) (now after) (now flag) (now rclass) (now rwidth) (now kind) (now ebase) (now eruby) (now runs) in ⌜ Standing bases rubies job k b r u (now t) ⌝ }
-    ensures { λ s. let job = jobOf em 0 (now (class .entry)) (now (width .entry)) (now (before .entry)) (now (after .entry)) (now (flag .entry)) (now (rclass .entry)) (now (rwidth .entry)) (now (kind .entry)) (now (ebase .entry)) (now (eruby .entry)) (now (runs .entry)) in ⌜ Stepped bases rubies job k b r u (now (t .entry)) (now (t .exit)) s ⌝ }
+    requires { let job = jobOf em 0 ratios (now class) (now width) (now before) (now after) (now flag) (now rclass) (now rwidth) (now kind) (now ebase) (now eruby) (now runs) in ⌜ Standing bases rubies job k b r u (now t) ⌝ }
+    ensures { λ s. let job = jobOf em 0 ratios (now (class .entry)) (now (width .entry)) (now (before .entry)) (now (after .entry)) (now (flag .entry)) (now (rclass .entry)) (now (rwidth .entry)) (now (kind .entry)) (now (ebase .entry)) (now (eruby .entry)) (now (runs .entry)) in ⌜ Stepped bases rubies job k b r u (now (t .entry)) (now (t .exit)) s ⌝ }
 {
     let place = k as u32;
     let counted = door::count_element(kind[k], ebase[k], eruby[k], b, r, u, runs);
@@ -287,6 +289,7 @@ fn lay_word(
     let answer = door::measure_piece(
         place,
         p,
+        ratios,
         em,
         class,
         width,
@@ -308,10 +311,11 @@ fn lay_word(
     door::Step::Next(p)
 }
 
-// The rows of a job's elements, or the first of their refusals; characters have passed numbers 3 and 4.
+// The head of the table and the rows of a job's elements, or the first of their refusals; characters have passed numbers 3 and 4.
 pub fn layout(
     t: &mut [u32],
     em: u32,
+    ratios: [[u32; 3]; 2],
     class: &[u32],
     width: &[u32],
     before: &[u32],
@@ -324,9 +328,10 @@ pub fn layout(
     eruby: &[u32],
     runs: &[u32],
 ) -> door::Checked
-    requires { let job = jobOf em 0 (now class) (now width) (now before) (now after) (now flag) (now rclass) (now rwidth) (now kind) (now ebase) (now eruby) (now runs) in ⌜ Ready job (now t) ⌝ }
-    ensures { λ c. let job = jobOf em 0 (now (class .entry)) (now (width .entry)) (now (before .entry)) (now (after .entry)) (now (flag .entry)) (now (rclass .entry)) (now (rwidth .entry)) (now (kind .entry)) (now (ebase .entry)) (now (eruby .entry)) (now (runs .entry)) in ⌜ (c ≡ verdict (elementsFaults job 0 (elements job) ++ leftFaults job)) × (c ≡ Passed → Holds job (now (t .exit))) ⌝ }
+    requires { let job = jobOf em 0 ratios (now class) (now width) (now before) (now after) (now flag) (now rclass) (now rwidth) (now kind) (now ebase) (now eruby) (now runs) in ⌜ Ready job (now t) ⌝ }
+    ensures { λ c. let job = jobOf em 0 ratios (now (class .entry)) (now (width .entry)) (now (before .entry)) (now (after .entry)) (now (flag .entry)) (now (rclass .entry)) (now (rwidth .entry)) (now (kind .entry)) (now (ebase .entry)) (now (eruby .entry)) (now (runs .entry)) in ⌜ (c ≡ verdict (elementsFaults job 0 (elements job) ++ leftFaults job)) × (c ≡ Passed → Holds job (now (t .exit))) ⌝ }
 {
+    cells::put_ratios(t, ratios);
     let elements = door::element_count(kind, ebase, eruby);
     let bases = door::base_count(class, width, before, after, flag);
     let rubies = door::ruby_count(rclass, rwidth);
@@ -335,7 +340,7 @@ pub fn layout(
     let mut r: usize = 0;
     let mut u: usize = 0;
     while k < elements {
-        if kind[k] == 80 {
+        if kind[k] == door::PLAIN {
             if bases <= b {
                 return door::Checked::Refused(Refusal::Supply(k as u32));
             }
@@ -353,6 +358,7 @@ pub fn layout(
             bases,
             rubies,
             em,
+            ratios,
             class,
             width,
             before,

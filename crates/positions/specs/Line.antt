@@ -13,7 +13,7 @@ use Rattle.word.specs.Word.{baseStarts}
 use Rattle.line.specs.declared.State.{State}
 use Rattle.line.specs.Setting.{start, origin, furthest}
 use Rattle.line.specs.Bound.{origin-bound}
-use Rattle.cells.specs.Cells.{cellAt, next, stop, Advances}
+use Rattle.cells.specs.Cells.{size, cellAt, next, stop, Advances}
 use Rattle.cells.specs.Sound.{advances}
 use Rattle.cells.specs.Walk.{next-near, stop-whole}
 use Rattle.positions.specs.Positions.{Sheet, lent, wordOf, pieceOf, rubyBy, basePut, rubyPut, putFrom, baseOf, rubyOf}
@@ -71,7 +71,7 @@ module _ {g : Sheet} {s e : ℕ} {was wasRuby : List ℕ} (ready : LineReady g s
       here : Fits g (ready .n) (ready .m) i (stop (g .t) i e)
       here = fits-here (ready .table) e (ready .within) (ready .permits) i h (q .begins h)
 
-      pub held : 19 * i + 19 ≤ length (g .t)
+      pub held : size (i + 1) ≤ length (g .t)
       held = omega (arith, in-table, ready .table .sound .long)
 
       pub few : (i < 1024) × (0 < cellAt (g .t) i .bases) × (cellAt (g .t) i .bases ≤ 32)

@@ -8,7 +8,7 @@ use lib.ListN.{length}
 use Rattle.spread.specs.Laws.{length-starts}
 use Rattle.word.specs.declared.Word.{Word}
 use Rattle.word.specs.Word.{baseStarts}
-use Rattle.cells.specs.Cells.{cellAt}
+use Rattle.cells.specs.Cells.{size, cellAt}
 use Rattle.positions.specs.Positions.{Sheet, lent, runEnd, rubyEnd, rubyLent, rubyBy, wordOf, basePut, rubyPut}
 use Rattle.positions.specs.Lists.{lent-long}
 use Rattle.positions.specs.Ready.{StringReady, Runs, Fits, Writable}
@@ -18,7 +18,7 @@ use Rattle.positions.specs.Runs.{RunsReady, runs-long}
 pub record RubyReady (em : ℕ) (t : List ℕ) (i c : ℕ) (w : Word) (x : ℕ) (ws ruby : List ℕ) : Type 0 where
   pub ahead : i < c
   pub rows : c ≤ 1024
-  pub held : 19 * c ≤ length t
+  pub held : size c ≤ length t
   pub runs : w .runs ≡ true → RunsReady em t i c x ws ruby
   pub string : w .runs ≡ false → StringReady (x + w .from) (w .inruby) (cellAt t i .ruby) (rubyEnd t i c) ws ruby
 

@@ -10,7 +10,7 @@ use lib.Seq.{sets, length-sets}
 use Rattle.basics.specs.Laws.{sets-append}
 use Rattle.spread.specs.Gap.{starts}
 use Rattle.spread.specs.Laws.{length-starts}
-use Rattle.cells.specs.Cells.{cellAt}
+use Rattle.cells.specs.Cells.{size, cellAt}
 use Rattle.positions.specs.Positions.{runEnd, runLent, runsPut}
 use Rattle.positions.specs.Lists.{lent-long, sets-any}
 use Rattle.positions.specs.Ready.{StringReady, Run, Runs}
@@ -25,7 +25,7 @@ pub record RunsReady (em : ℕ) (t : List ℕ) (i c x : ℕ) (ws ruby : List ℕ
   pub ahead : i < c
   pub few : c ≤ i + 32
   pub rows : c ≤ 1024
-  pub held : 19 * c ≤ length t
+  pub held : size c ≤ length t
   pub small : em ≤ 4096
   pub near : x ≤ 1073741824
 

@@ -8,7 +8,7 @@ ghost use lib.ListN.{length, take};
 ghost use lib.Seq.{sets};
 ghost use Rattle.spread.specs.Gap.{starts};
 ghost use Rattle.word.specs.Word.{baseStarts};
-ghost use Rattle.cells.specs.Cells.{cellAt};
+ghost use Rattle.cells.specs.Cells.{size, cellAt};
 ghost use Rattle.positions.specs.Positions.{sheet, lent, over, rubyEnd, runsPut, rubyBy, baseOf, rubyOf, byLine};
 ghost use Rattle.positions.specs.Ready.{StringReady, LineReady, LinesReady};
 ghost use Rattle.positions.specs.Runs.{RunsReady};
@@ -49,7 +49,7 @@ fn put_runs(t: &[u32], i: usize, c: usize, em: u32, at: u32, rwidth: &[u32], rub
 
 // Where the ruby of the piece from i up to c ends.
 pub fn rubies_upto(t: &[u32], i: usize, c: usize) -> usize
-    requires { ⌜ (i < c) × (c ≤ 1024) × (19 * c ≤ length (now t)) ⌝ }
+    requires { ⌜ (i < c) × (c ≤ 1024) × (size c ≤ length (now t)) ⌝ }
     ensures { λ r. ⌜ r ≡ rubyEnd (now (t .entry)) i c ⌝ }
 {
     let a = cells::cell_at(t, i);

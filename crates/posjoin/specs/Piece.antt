@@ -9,17 +9,15 @@ use borrow.Author.Tests.{ltb-true, ltb-false}
 use lib.Dec.{eqb, leb, ltb}
 use lib.ListN.{length, getD, take, drop}
 use Rattle.basics.specs.Lists.{sum, All}
-use Rattle.spread.specs.declared.Way.{Way}
-use Rattle.spread.specs.declared.Way.the-variants.{Solid}
-use Rattle.spread.specs.Gap.{gap}
 use Rattle.spread.specs.Worded.{solid, along}
 use Rattle.word.specs.declared.Form.{Form}
 use Rattle.word.specs.declared.Form.the-variants.{P, M, G, J}
 use Rattle.word.specs.declared.Word.{Word}
 use Rattle.word.specs.Given.{Given, hasRuby, isJ}
 use Rattle.word.specs.Alone as alone
-use Rattle.word.specs.Alone.{places, script, rubyWay, baseWay}
+use Rattle.word.specs.Alone.{places}
 use Rattle.word.specs.Word as word
+use Rattle.word.specs.Rising.{only-j}
 use Rattle.word.specs.Theorems.{base-stands, ruby-stands}
 use Rattle.cells.specs.Cells.{cellAt, wordAt, piece}
 use Rattle.door.specs.declared.Piece.{Piece}
@@ -65,26 +63,6 @@ all-one job = one-from job (elementCount job) 0 0 0 0
 
 one : (job : Job) (x : Piece) → IsElement job x → hasRuby (x .form) ≡ false → x .bases ≡ 1
 one job x at = all-split One (at .front) (x ∷ at .rest) (subst (All One) (at .split) (all-one job)) .1 .0
-
--- only a J is set run by run
-by-none : (r b : Way) (em : ℕ) (bs rs : List ℕ) → word.wordBy r b em bs rs .runs ≡ false
-unfolding word.wordBy word.shortRuby word.shortBase
-by-none r b em bs rs = go (leb (sum rs) (sum bs))
-  where
-    go : (t : Bool) →
-        cond t (word.shortRuby (sum bs) (sum rs) (gap r em (sum bs - sum rs) (length rs))) (word.shortBase (sum bs) (sum rs) (gap b em (sum rs - sum bs) (length bs))) .runs ≡ false
-    go true = refl
-    go false = refl
-
-runs-jukugo : (form : Form) (g : Given) → word.wordOf form g .runs ≡ true → isJ form ≡ true
-unfolding word.wordOf word.plain word.groupWord
-runs-jukugo P g h = absurd (false≢true h)
-runs-jukugo M g h = absurd (false≢true (sym (by-none Solid Solid (g .em) (g .width) (g .rubyWidth)) ∙ h))
-runs-jukugo G g h =
-    let r = script (g .rubyClass) in
-    let b = script (g .class) in
-    absurd (false≢true (sym (by-none (rubyWay r b) (baseWay r b) (g .em) (g .width) (g .rubyWidth)) ∙ h))
-runs-jukugo J g h = refl
 
 -- The runs of a piece by rows are those that level one is given.
 pub record ByRuns (job : Job) (t : List ℕ) (i c : ℕ) (p : Piece) : Type 0 where
@@ -163,7 +141,7 @@ module _ (job : Job) (passed : Passed job) (t : List ℕ) (table : Holds job t) 
         word = join.word-join job passed t table x at i c from ahead within ∙ ap (wordOf job) (join.upto-whole job passed t table x at e i c ahead);
         good = whole-piece job passed x (at .good);
         single = one job x at;
-        runs = λ w. by-runs (runs-jukugo (x .form) (given job x) w) w;
+        runs = λ w. by-runs (only-j (x .form) (given job x) w) w;
       }
     where
       back : (b : ℕ) → i ≡ b → i - b ≡ 0

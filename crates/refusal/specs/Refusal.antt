@@ -1,13 +1,15 @@
 -- The number and the place of each refusal (document 01, "Refusal list": "Each returns its number and a place").
-use mathlib.Core.Path.{_≡_, refl, sym, ap₂, _∙_}
+use mathlib.Core.Path.{_≡_, refl, sym, ap, ap₂, _∙_}
 use mathlib.Core.Bool.{cond}
-use Prim.Native.Nat.{ℕ}
+use Prim.Native.Nat.{ℕ, _≤_}
+use native.Mathlib.Omega.{arith}
 use lib.Dec.{eqb}
 use Rattle.refusal.specs.declared.Refusal.{Refusal}
-use Rattle.refusal.specs.declared.Refusal.the-variants.{Range, Count, Short, Character, Blanks, Element, Supply, BlankInside, JukugoBase, Mixed, WesternOver, NoBreak, Form}
+use Rattle.refusal.specs.declared.Refusal.the-variants.{Range, Ratio, Count, Short, Character, Blanks, Element, Supply, BlankInside, JukugoBase, Mixed, WesternOver, NoBreak, Form}
 
 abbrev pub numberOf : Refusal → ℕ
 numberOf (Range p) = 1
+numberOf (Ratio p) = 15
 numberOf (Count p) = 2
 numberOf Short = 12
 numberOf (Character p) = 3
@@ -24,6 +26,7 @@ numberOf (Form p) = 13
 -- 12 has the place 0, whichever list is short
 abbrev pub placeOf : Refusal → ℕ
 placeOf (Range p) = p
+placeOf (Ratio p) = p
 placeOf (Count p) = p
 placeOf Short = 0
 placeOf (Character p) = p
@@ -37,10 +40,28 @@ placeOf (WesternOver p) = p
 placeOf (NoBreak p) = p
 placeOf (Form p) = p
 
+-- no number has more than two digits
+pub two-digits : (r : Refusal) → numberOf r ≤ 99
+two-digits (Range p) = omega arith
+two-digits (Ratio p) = omega arith
+two-digits (Count p) = omega arith
+two-digits Short = omega arith
+two-digits (Character p) = omega arith
+two-digits (Blanks p) = omega arith
+two-digits (Element p) = omega arith
+two-digits (Supply p) = omega arith
+two-digits (BlankInside p) = omega arith
+two-digits (JukugoBase p) = omega arith
+two-digits (Mixed p) = omega arith
+two-digits (WesternOver p) = omega arith
+two-digits (NoBreak p) = omega arith
+two-digits (Form p) = omega arith
+
 -- The paper's number and place determine the case: `byPaper` finds it again.
-byPaper : ℕ → ℕ → Refusal
+unfoldable pub byPaper : ℕ → ℕ → Refusal
 byPaper n p =
     cond (eqb n 1) (Range p)
+    (cond (eqb n 15) (Ratio p)
     (cond (eqb n 2) (Count p)
     (cond (eqb n 3) (Character p)
     (cond (eqb n 4) (Blanks p)
@@ -51,11 +72,12 @@ byPaper n p =
     (cond (eqb n 9) (Mixed p)
     (cond (eqb n 10) (WesternOver p)
     (cond (eqb n 11) (NoBreak p)
-    (cond (eqb n 13) (Form p) Short)))))))))))
+    (cond (eqb n 13) (Form p) Short))))))))))))
 
 back : (r : Refusal) → byPaper (numberOf r) (placeOf r) ≡ r
 unfolding byPaper
 back (Range p) = refl
+back (Ratio p) = refl
 back (Count p) = refl
 back Short = refl
 back (Character p) = refl
@@ -68,6 +90,10 @@ back (Mixed p) = refl
 back (WesternOver p) = refl
 back (NoBreak p) = refl
 back (Form p) = refl
+
+-- so a number gives its case
+pub of-number : (r : Refusal) (n : ℕ) → numberOf r ≡ n → r ≡ byPaper n (placeOf r)
+of-number r n e = sym (back r) ∙ ap (λ m. byPaper m (placeOf r)) e
 
 pub same-refusal : (r q : Refusal) → numberOf r ≡ numberOf q → placeOf r ≡ placeOf q → r ≡ q
 same-refusal r q n p = sym (back r) ∙ ap₂ byPaper n p ∙ back q

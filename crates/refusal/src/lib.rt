@@ -1,4 +1,4 @@
-// Why a job is refused: one case for each number of document 01's refusal list, in the list's order, with the place inside. The
+// Why a job is refused: one case for each number of the refusal list (documents 01 and 02), in the order of the checks, with the place inside. The
 // number and the place as the paper has them are functions of the case, so that every program and every export prints the
 // same. It relies on nothing.
 ghost use mathlib.Core.Path.{_≡_};
@@ -7,6 +7,8 @@ ghost use Rattle.refusal.specs.Refusal.{numberOf, placeOf};
 pub enum Refusal {
     // 1: em odd, or em or measure out of range; 0 em, 1 measure.
     Range(u32),
+    // 15: a ratio number over 7, or all three 0; 0 the ruby ratio, 1 the base ratio.
+    Ratio(u32),
     // 2: a count over its maximum; 0 base, 1 ruby, 2 elements.
     Count(u32),
     // 12: a result list too short. Its place is always 0.
@@ -39,6 +41,7 @@ pub fn number(r: Refusal) -> u32
 {
     match r {
         Refusal::Range(_) => 1,
+        Refusal::Ratio(_) => 15,
         Refusal::Count(_) => 2,
         Refusal::Short => 12,
         Refusal::Character(_) => 3,
@@ -60,6 +63,7 @@ pub fn place(r: Refusal) -> u32
 {
     match r {
         Refusal::Range(p) => p,
+        Refusal::Ratio(p) => p,
         Refusal::Count(p) => p,
         Refusal::Short => 0,
         Refusal::Character(p) => p,

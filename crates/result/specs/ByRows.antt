@@ -10,7 +10,7 @@ use lib.Dec.{ltb}
 use lib.ListN.{length, getD, take, drop, length-append}
 use Rattle.text.specs.Print.{Wrote}
 use Rattle.text.specs.Written.{then}
-use Rattle.cells.specs.Cells.{cellAt, stop, mayEnd}
+use Rattle.cells.specs.Cells.{size, cellAt, stop, mayEnd}
 use Rattle.cells.specs.Sound.{Sound}
 use Rattle.positions.specs.Positions.{Sheet, sheet, rubyEnd}
 use Rattle.positions.specs.Ready.{Fits, Begins, Writable, Chained, LinesReady}
@@ -100,13 +100,13 @@ module _ {t : List ℕ} {s e : ℕ} {base ruby was : List ℕ} {from i at : ℕ}
     inside : i < q .ready .line .n
     inside = omega (arith, q .ready .line .within)
 
-    pub held : (19 * i + 19 ≤ length t) × (0 < cellAt t i .bases) × (i + cellAt t i .bases ≤ 1024) × (e ≤ 1024)
+    pub held : (size (i + 1) ≤ length t) × (0 < cellAt t i .bases) × (i + cellAt t i .bases ≤ 1024) × (e ≤ 1024)
     held =
         let w = table .sound in
         let r = w .row i inside in
         (omega (arith, w .long, inside), r .some, omega (arith, r .inside, w .few), omega (arith, q .ready .line .within, w .few))
 
-    pub ahead : (i < stop t i e) × (stop t i e ≤ 1024) × (19 * stop t i e ≤ length t)
+    pub ahead : (i < stop t i e) × (stop t i e ≤ 1024) × (size (stop t i e) ≤ length t)
     ahead =
         let a = stop-ahead table e (q .ready .line .within) (q .ready .line .permits) i h in
         let w = table .sound in

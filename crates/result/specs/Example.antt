@@ -3,6 +3,7 @@ use mathlib.Core.Path.{_≡_, refl}
 use mathlib.Core.List.{List, [], _∷_}
 use Prim.Native.Nat.{ℕ}
 use lib.ListN.{length, replicate}
+use Rattle.spread.specs.Ratio.{usual}
 use Rattle.refusal.specs.declared.Refusal.the-variants.{NoBreak}
 use Rattle.door.specs.Job.{Job}
 use Rattle.job.specs.Outcome.{outcome}
@@ -14,6 +15,7 @@ plain measure classes rubies kinds bases counts runs =
     record {
       em = 10;
       measure = measure;
+      ratios = usual;
       class = classes;
       width = replicate (length classes) 10;
       before = replicate (length classes) 0;

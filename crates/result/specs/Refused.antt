@@ -9,26 +9,9 @@ use Rattle.text.specs.Text.{most, number}
 use Rattle.text.specs.Print.{decimal}
 use Rattle.text.specs.Back.{number-back}
 use Rattle.refusal.specs.declared.Refusal.{Refusal}
-use Rattle.refusal.specs.declared.Refusal.the-variants.{Range, Count, Short, Character, Blanks, Element, Supply, BlankInside, JukugoBase, Mixed, WesternOver, NoBreak, Form}
-use Rattle.refusal.specs.Refusal.{numberOf, placeOf}
+use Rattle.refusal.specs.Refusal.{numberOf, placeOf, two-digits}
 use Rattle.door.specs.Job.{Job}
 use Rattle.result.specs.Text.{bytes, lineOne, lineTwo, resultText, refusalText}
-
--- the refusal list's numbers
-pub number-most : (r : Refusal) → numberOf r ≤ 13
-number-most (Range p) = omega arith
-number-most (Count p) = omega arith
-number-most Short = omega arith
-number-most (Character p) = omega arith
-number-most (Blanks p) = omega arith
-number-most (Element p) = omega arith
-number-most (Supply p) = omega arith
-number-most (BlankInside p) = omega arith
-number-most (JukugoBase p) = omega arith
-number-most (Mixed p) = omega arith
-number-most (WesternOver p) = omega arith
-number-most (NoBreak p) = omega arith
-number-most (Form p) = omega arith
 
 -- two numbers that a space follows: the same text, the same number and the same rest
 same-number : (n m : ℕ) (xs ys : List ℕ) → n ≤ most → m ≤ most → decimal n ++ (32 ∷ xs) ≡ decimal m ++ (32 ∷ ys) → (n ≡ m) × (xs ≡ ys)
@@ -53,7 +36,7 @@ pub refused-is : (r : Refusal) (n p : ℕ) → n ≤ most → refusalText r ≡ 
 unfolding refusalText lineTwo
 refused-is r n p h e =
     let f = ap (λ l. drop 8 l) e in
-    let x = same-number (numberOf r) n (decimal (placeOf r) ++ (10 ∷ [])) (decimal p ++ (10 ∷ [])) (omega (arith, number-most r)) h f in
+    let x = same-number (numberOf r) n (decimal (placeOf r) ++ (10 ∷ [])) (decimal p ++ (10 ∷ [])) (omega (arith, two-digits r)) h f in
     (x .0, same-front (decimal (placeOf r)) (decimal p) (x .1))
 
 -- and a text that begins with a refusal's is not another's
@@ -62,7 +45,7 @@ unfolding refusalText lineTwo
 refused-begins r more n p h e =
     let rest = decimal (placeOf r) ++ (10 ∷ []) in
     let f = sym (append-assoc (decimal (numberOf r)) (32 ∷ rest) more) ∙ ap (λ l. drop 8 l) e in
-    same-number (numberOf r) n (rest ++ more) (decimal p ++ (10 ∷ [])) (omega (arith, number-most r)) h f .0
+    same-number (numberOf r) n (rest ++ more) (decimal p ++ (10 ∷ [])) (omega (arith, two-digits r)) h f .0
 
 -- a result begins with `lines`
 pub no-refusal : (job : Job) (base ruby : List ℕ) (n p : ℕ) → resultText job base ruby ≡ lineTwo (bytes "refused") n p → ⊥

@@ -12,6 +12,7 @@ use Rattle.sheet.specs.declared.Counts.{Counts}
 use Rattle.sheet.specs.declared.Reading.{Reading}
 use Rattle.sheet.specs.declared.Reading.the-variants.{Sound, Refused}
 use Rattle.sheet.specs.Sheet.{Sheet, reading, emOf, measureOf}
+use Rattle.spread.specs.Ratio.{usualLists}
 use Rattle.door.specs.Job.{Job, jobOf}
 use Rattle.job.specs.Line.{ends, baseIn, rubyIn, byLine}
 use Rattle.job.specs.Refusals.{fault}
@@ -35,12 +36,14 @@ unfoldable pub jobText : Job → ℕ → ℕ → ℕ → List ℕ
 unfolding textBy fault
 jobText job base ruby lines = textBy job (fault job base ruby lines)
 
--- "`set 2` with em and measure ..; `base` (class, width, blank before, blank after, flag); `ruby` (class, width); `elem`": the job that a sheet holds
+-- "`set 2` with em and measure ..; `base` (class, width, blank before, blank after, flag); `ruby` (class, width); `elem`": the job that a sheet holds; it has no ratios
+-- and means 1:2:1
 unfoldable pub sheetJob : Sheet → Job
 sheetJob t =
     jobOf
     (emOf t)
     (measureOf t)
+    usualLists
     (column 0 (t .base))
     (column 1 (t .base))
     (column 2 (t .base))
@@ -88,6 +91,7 @@ tablesJob n set base ruby elem runs =
     jobOf
     (getD set 0 0)
     (getD set 1 0)
+    usualLists
     (part 0 (n .bases) base)
     (part 1024 (1024 + n .bases) base)
     (part 2048 (2048 + n .bases) base)

@@ -11,8 +11,8 @@ use Rattle.text.specs.Text.{most}
 use Rattle.text.specs.Print.{bytes, decimal}
 use Rattle.text.specs.Unique.{decimal-one}
 use Rattle.refusal.specs.declared.Refusal.{Refusal}
-use Rattle.refusal.specs.declared.Refusal.the-variants.{Range, Count, Short, Character, Blanks, Element, Supply, BlankInside, JukugoBase, Mixed, WesternOver, NoBreak, Form}
-use Rattle.refusal.specs.Refusal.{numberOf, placeOf, same-refusal}
+use Rattle.refusal.specs.declared.Refusal.the-variants.{Count, Short, Form}
+use Rattle.refusal.specs.Refusal.{numberOf, placeOf, byPaper, of-number}
 use Rattle.sheet.specs.declared.Counts.{Counts}
 use Rattle.sheet.specs.declared.Reading.the-variants.{Sound, Refused}
 use Rattle.sheet.specs.Sheet.{reading}
@@ -34,25 +34,16 @@ pub data Given (s : List ℕ) (n p : ℕ) : Type 0 where
 
 -- the number gives the case
 is-form : (r : Refusal) → numberOf r ≡ 13 → r ≡ Form (placeOf r)
-is-form r e = same-refusal r (Form (placeOf r)) e refl
+unfolding byPaper
+is-form r e = of-number r 13 e
 
 is-count : (r : Refusal) → numberOf r ≡ 2 → r ≡ Count (placeOf r)
-is-count r e = same-refusal r (Count (placeOf r)) e refl
+unfolding byPaper
+is-count r e = of-number r 2 e
 
 is-short : (r : Refusal) → numberOf r ≡ 12 → r ≡ Short
-is-short (Range p) e = absurd (omega arith)
-is-short (Count p) e = absurd (omega arith)
-is-short Short e = refl
-is-short (Character p) e = absurd (omega arith)
-is-short (Blanks p) e = absurd (omega arith)
-is-short (Element p) e = absurd (omega arith)
-is-short (Supply p) e = absurd (omega arith)
-is-short (BlankInside p) e = absurd (omega arith)
-is-short (JukugoBase p) e = absurd (omega arith)
-is-short (Mixed p) e = absurd (omega arith)
-is-short (WesternOver p) e = absurd (omega arith)
-is-short (NoBreak p) e = absurd (omega arith)
-is-short (Form p) e = absurd (omega arith)
+unfolding byPaper
+is-short r e = of-number r 12 e
 
 -- a refusal's text, with its number as it is written
 line-two : (p : ℕ) → bytes "refused 2 " ++ (decimal p ++ bytes "\n") ≡ lineTwo (bytes "refused") 2 p

@@ -2,6 +2,7 @@
 use mathlib.Core.Path.{_≡_, refl}
 use mathlib.Core.List.{List, [], _∷_}
 use Prim.Native.Nat.{ℕ}
+use Rattle.spread.specs.Ratio.{usual}
 use Rattle.refusal.specs.declared.Refusal.the-variants.{NoBreak}
 use Rattle.door.specs.Job.{Job}
 use Rattle.job.specs.declared.Answer.the-variants.{Refused}
@@ -14,6 +15,7 @@ example measure flag =
     record {
       em = 10;
       measure = measure;
+      ratios = usual;
       class = 19 ∷ 15 ∷ 19 ∷ 19 ∷ [];
       width = 10 ∷ 10 ∷ 10 ∷ 10 ∷ [];
       before = 0 ∷ 0 ∷ 0 ∷ 0 ∷ [];

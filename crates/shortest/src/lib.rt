@@ -30,7 +30,7 @@ fn within(t: &[u32], n: usize, i: usize, bases: usize, st: line::State, least: u
     let mut k: usize = 1;
     let mut found = least;
     while k < bases {
-        let step = cells::advance(t, i, i + k, em, st);
+        let step = cells::advance_cut(t, i, i + k, em, st);
         found = lesser(step.st, found);
         k += 1;
     }

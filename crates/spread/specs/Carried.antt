@@ -1,5 +1,6 @@
--- The spread by pencil, as a trainee does it: the remainder of one division is carried from gap to gap. s is the space within a string, 2D - 2g, and p the
--- number of its gaps, n - 1. The engine's loop works in the same way; positions are defined by document 01's floor, and `by-pencil` says that the two agree.
+-- The spread by pencil, as a trainee does it: the remainder of one division is carried from gap to gap. s is the space within a string, what the end gaps leave
+-- of 2D, and p the number of its gaps, n - 1. The engine's loop works in the same way; positions are defined by document 01's floor, and `by-pencil` says that the
+-- two agree.
 use mathlib.Core.Path.{_≡_, refl, ap, _∙_}
 use mathlib.Core.Bool.{cond}
 use mathlib.Core.List.{[], _∷_}
@@ -66,15 +67,17 @@ by-pencil s p (suc i) h = ap (next s p) (by-pencil s p i h) ∙ go (decLe p (s *
 pub below : (s p i : ℕ) → 0 < p → after s p i .carried < p
 below s p i h = rw (by-pencil s p i h) (mod-lt (s * i) h)
 
--- In document 01's letters, for a string of n characters with the gap g at each end: the sum carried through i gaps is floor((2D - 2g) * i / (n - 1)), the carried
--- remainder is what that division leaves, and it stays below n - 1.
-pub pencil : (D g n i : ℕ) → 1 < n →
-    (after (2 * D - 2 * g) (n - 1) i .given ≡ (2 * D - 2 * g) * i / (n - 1))
-    × (after (2 * D - 2 * g) (n - 1) i .carried ≡ (2 * D - 2 * g) * i % (n - 1))
-    × (after (2 * D - 2 * g) (n - 1) i .carried < n - 1)
-pencil D g n i h =
+-- In the documents' letters, for a string of n characters with the end gaps f and c: the sum carried through i gaps is floor((2D - (f + c)) * i / (n - 1)), the
+-- carried remainder is what that division leaves, and it stays below n - 1.
+pub pencil : (D f c n i : ℕ) → 1 < n →
+    let s = 2 * D - (f + c) in
+    (after s (n - 1) i .given ≡ s * i / (n - 1))
+    × (after s (n - 1) i .carried ≡ s * i % (n - 1))
+    × (after s (n - 1) i .carried < n - 1)
+pencil D f c n i h =
     let p : 0 < n - 1 = omega arith in
-    (ap (λ (a : Paper). a .given) (by-pencil (2 * D - 2 * g) (n - 1) i p), ap (λ (a : Paper). a .carried) (by-pencil (2 * D - 2 * g) (n - 1) i p), below (2 * D - 2 * g) (n - 1) i p)
+    let s = 2 * D - (f + c) in
+    (ap (λ (a : Paper). a .given) (by-pencil s (n - 1) i p), ap (λ (a : Paper). a .carried) (by-pencil s (n - 1) i p), below s (n - 1) i p)
 
 -- The two words of the manual, gap by gap: K5, 14 half units in two gaps, and one whose division leaves a remainder, 16 in three.
 worked :

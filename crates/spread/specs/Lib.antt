@@ -1,4 +1,6 @@
+pub mod Ratio
 pub mod Worded
+pub mod Today
 pub mod Gap
 pub mod Carried
 pub mod Running

@@ -3,7 +3,7 @@ use mathlib.Core.Path.{_≡_, refl, sym, ap, ap₂, _∙_}
 use mathlib.Core.Bool.{Bool, true, false, cond, false≢true}
 use mathlib.Core.List.{List, [], _∷_, _++_, map, map-append}
 use Prim.Native.Nat.{ℕ, _+_, _-_, _*_, _≤_}
-use native.Mathlib.Nat.{add-zero, add-assoc, sub-self}
+use native.Mathlib.Nat.{add-zero, add-assoc}
 use native.Mathlib.Omega.{arith}
 use borrow.Author.Tests.{le-leb, eqb-true, ltb-false}
 use lib.Dec.{leb, eqb, ltb}
@@ -13,8 +13,11 @@ use Rattle.basics.specs.Laws.{or-none}
 use Rattle.spread.specs.declared.Way.{Way}
 use Rattle.spread.specs.declared.Way.the-variants.{Solid}
 use Rattle.spread.specs.Worded.{solid, shorter, along}
-use Rattle.spread.specs.Gap.{gap, inner, starts}
-use Rattle.spread.specs.Laws.{worded-starts, longer-starts, gap-le, starts-moved}
+use Rattle.spread.specs.Gap.{gaps, starts}
+use Rattle.spread.specs.Laws.{worded-starts, solid-starts, longer-starts, no-difference, starts-moved, as-today-all}
+use Rattle.spread.specs.Ratio.{oneTwoOne}
+use Rattle.spread.specs.Today as today
+use Rattle.spread.specs.Ratio.{Ratios}
 use Rattle.word.specs.declared.Script.{Script}
 use Rattle.word.specs.declared.Script.the-variants.{Kana}
 use Rattle.word.specs.declared.Form.{Form}
@@ -33,70 +36,73 @@ rubyAlone v em runs rs = cond (v .runs) (runStarts em 0 (split runs rs)) (starts
 
 -- Two strings, each by its way where it is the shorter.
 
-module _ (r b : Way) (em : ℕ) (bs rs : List ℕ) where
-  pub by-base : baseAlone (wordBy r b em bs rs) bs ≡ byWay r b em bs rs .base
+module _ (r b : Way) (h : Ratios) (em : ℕ) (bs rs : List ℕ) where
+  pub by-base : baseAlone (wordBy r b h em bs rs) bs ≡ byWay (shorter r (h .ruby) em) (shorter b (h .base) em) bs rs .base
   unfolding wordBy shortRuby shortBase byWay
   by-base = go (leb (sum rs) (sum bs))
     where
       go : (t : Bool) →
-          baseAlone (cond t (shortRuby (sum bs) (sum rs) (gap r em (sum bs - sum rs) (length rs))) (shortBase (sum bs) (sum rs) (gap b em (sum rs - sum bs) (length bs)))) bs
-          ≡ cond {A = Places} t (record { base = along (solid 0 bs) bs; ruby = along (shorter r em (sum bs - sum rs) rs) rs }) (record { base = along (shorter b em (sum rs - sum bs) bs) bs; ruby = along (solid 0 rs) rs }) .base
+          baseAlone (cond t (shortRuby (sum bs) (sum rs) (gaps r (h .ruby) em (sum bs - sum rs) (length rs))) (shortBase (sum bs) (sum rs) (gaps b (h .base) em (sum rs - sum bs) (length bs)))) bs
+          ≡ cond {A = Places} t (record { base = along (solid 0 bs) bs; ruby = along (shorter r (h .ruby) em (sum bs - sum rs) rs) rs }) (record { base = along (shorter b (h .base) em (sum rs - sum bs) bs) bs; ruby = along (solid 0 rs) rs }) .base
       go true = sym (longer-starts bs)
-      go false = sym (worded-starts b em (sum rs - sum bs) bs)
+      go false = sym (worded-starts b (h .base) em (sum rs - sum bs) bs)
 
-  pub by-ruby : (runs : List ℕ) → rubyAlone (wordBy r b em bs rs) em runs rs ≡ byWay r b em bs rs .ruby
+  pub by-ruby : (runs : List ℕ) → rubyAlone (wordBy r b h em bs rs) em runs rs ≡ byWay (shorter r (h .ruby) em) (shorter b (h .base) em) bs rs .ruby
   unfolding wordBy shortRuby shortBase byWay
   by-ruby runs = go (leb (sum rs) (sum bs))
     where
       go : (t : Bool) →
-          rubyAlone (cond t (shortRuby (sum bs) (sum rs) (gap r em (sum bs - sum rs) (length rs))) (shortBase (sum bs) (sum rs) (gap b em (sum rs - sum bs) (length bs)))) em runs rs
-          ≡ cond {A = Places} t (record { base = along (solid 0 bs) bs; ruby = along (shorter r em (sum bs - sum rs) rs) rs }) (record { base = along (shorter b em (sum rs - sum bs) bs) bs; ruby = along (solid 0 rs) rs }) .ruby
-      go true = sym (worded-starts r em (sum bs - sum rs) rs)
+          rubyAlone (cond t (shortRuby (sum bs) (sum rs) (gaps r (h .ruby) em (sum bs - sum rs) (length rs))) (shortBase (sum bs) (sum rs) (gaps b (h .base) em (sum rs - sum bs) (length bs)))) em runs rs
+          ≡ cond {A = Places} t (record { base = along (solid 0 bs) bs; ruby = along (shorter r (h .ruby) em (sum bs - sum rs) rs) rs }) (record { base = along (shorter b (h .base) em (sum rs - sum bs) bs) bs; ruby = along (solid 0 rs) rs }) .ruby
+      go true = sym (worded-starts r (h .ruby) em (sum bs - sum rs) rs)
       go false = sym (longer-starts rs)
 
 -- with equal sums every way is solid
-same-way : (r s : Way) (em D : ℕ) (ws : List ℕ) → D ≡ 0 → along (shorter r em D ws) ws ≡ along (shorter s em D ws) ws
-same-way r s em D ws e =
-    worded-starts r em D ws
-    ∙ ap (λ (g : ℕ). starts (inner D g) g ws) (none (gap r em D (length ws)) (gap s em D (length ws)) (gap-le r em D (length ws)) (gap-le s em D (length ws)))
-    ∙ sym (worded-starts s em D ws)
-  where
-    none : (a b : ℕ) → a ≤ D → b ≤ D → a ≡ b
-    none a b h k = omega arith
-
-equal-sums : (r b : Way) (em : ℕ) (bs rs : List ℕ) → sum bs ≡ sum rs → byWay r b em bs rs ≡ byWay Solid Solid em bs rs
+equal-sums : (r b : Way) (h : Ratios) (em : ℕ) (bs rs : List ℕ) → sum bs ≡ sum rs → byWay (shorter r (h .ruby) em) (shorter b (h .base) em) bs rs ≡ byWay solid solid bs rs
 unfolding byWay
-equal-sums r b em bs rs e =
+equal-sums r b h em bs rs e =
     rw (le-leb (sum rs) (sum bs) (omega arith))
-    (ap {B = Places} (λ (l : List ℕ). record { base = along (solid 0 bs) bs; ruby = l }) (same-way r Solid em (sum bs - sum rs) rs (omega arith)))
+    (ap {B = Places} (λ (l : List ℕ). record { base = along (solid 0 bs) bs; ruby = l }) (no-difference r (h .ruby) em (sum bs - sum rs) rs (omega arith)))
 
 -- G
 
-pub group-is : (r b : Script) (em : ℕ) (bs rs : List ℕ) → group r b em bs rs ≡ byWay (rubyWay r b) (baseWay r b) em bs rs
+pub group-is : (r b : Script) (h : Ratios) (em : ℕ) (bs rs : List ℕ) → group r b h em bs rs ≡ byWay (shorter (rubyWay r b) (h .ruby) em) (shorter (baseWay r b) (h .base) em) bs rs
 unfolding group
-group-is r b em bs rs = go (eqb (sum bs) (sum rs)) refl
+group-is r b h em bs rs = go (eqb (sum bs) (sum rs)) refl
   where
-    go : (t : Bool) → eqb (sum bs) (sum rs) ≡ t → cond t (byWay Solid Solid em bs rs) (byWay (rubyWay r b) (baseWay r b) em bs rs) ≡ byWay (rubyWay r b) (baseWay r b) em bs rs
-    go true e = sym (equal-sums (rubyWay r b) (baseWay r b) em bs rs (eqb-true (sum bs) (sum rs) e))
+    spread : Places
+    spread = byWay (shorter (rubyWay r b) (h .ruby) em) (shorter (baseWay r b) (h .base) em) bs rs
+
+    go : (t : Bool) → eqb (sum bs) (sum rs) ≡ t → cond t (byWay solid solid bs rs) spread ≡ spread
+    go true e = sym (equal-sums (rubyWay r b) (baseWay r b) h em bs rs (eqb-true (sum bs) (sum rs) e))
     go false e = refl
 
-module _ (r b : Script) (em : ℕ) (bs rs : List ℕ) where
-  group-base : baseAlone (groupWord r b em bs rs) bs ≡ group r b em bs rs .base
+module _ (r b : Script) (h : Ratios) (em : ℕ) (bs rs : List ℕ) where
+  group-base : baseAlone (groupWord r b h em bs rs) bs ≡ group r b h em bs rs .base
   unfolding groupWord
-  group-base = by-base (rubyWay r b) (baseWay r b) em bs rs ∙ ap (λ (p : Places). p .base) (sym (group-is r b em bs rs))
+  group-base = by-base (rubyWay r b) (baseWay r b) h em bs rs ∙ ap (λ (p : Places). p .base) (sym (group-is r b h em bs rs))
 
-  group-ruby : (runs : List ℕ) → rubyAlone (groupWord r b em bs rs) em runs rs ≡ group r b em bs rs .ruby
+  group-ruby : (runs : List ℕ) → rubyAlone (groupWord r b h em bs rs) em runs rs ≡ group r b h em bs rs .ruby
   unfolding groupWord
-  group-ruby runs = by-ruby (rubyWay r b) (baseWay r b) em bs rs runs ∙ ap (λ (p : Places). p .ruby) (sym (group-is r b em bs rs))
+  group-ruby runs = by-ruby (rubyWay r b) (baseWay r b) h em bs rs runs ∙ ap (λ (p : Places). p .ruby) (sym (group-is r b h em bs rs))
+
+-- 1:2:1: what is spread stands where document 01's sentences put it, before R-4
+pub by-today : (r b : Way) (em : ℕ) (bs rs : List ℕ) → byWay (shorter r oneTwoOne em) (shorter b oneTwoOne em) bs rs ≡ byWay (today.shorter r em) (today.shorter b em) bs rs
+unfolding byWay
+by-today r b em bs rs = go (leb (sum rs) (sum bs))
+  where
+    go : (t : Bool) →
+        cond {A = Places} t (record { base = along (solid 0 bs) bs; ruby = along (shorter r oneTwoOne em (sum bs - sum rs) rs) rs }) (record { base = along (shorter b oneTwoOne em (sum rs - sum bs) bs) bs; ruby = along (solid 0 rs) rs })
+        ≡ cond t (record { base = along (solid 0 bs) bs; ruby = along (today.shorter r em (sum bs - sum rs) rs) rs }) (record { base = along (today.shorter b em (sum rs - sum bs) bs) bs; ruby = along (solid 0 rs) rs })
+    go true = ap {B = Places} (λ (l : List ℕ). record { base = along (solid 0 bs) bs; ruby = l }) (as-today-all r em (sum bs - sum rs) rs)
+    go false = ap {B = Places} (λ (l : List ℕ). record { base = l; ruby = along (solid 0 rs) rs }) (as-today-all b em (sum rs - sum bs) bs)
 
 -- J, each run over its own character
 
 -- a run of at most one em is solid over its character
-own-run : (em : ℕ) (run : List ℕ) → sum run ≤ em → mono em (em ∷ []) run .ruby ≡ starts 0 (em - sum run) run
+own-run : (em : ℕ) (run : List ℕ) → sum run ≤ em → mono (em ∷ []) run .ruby ≡ starts 0 (em - sum run) run
 unfolding mono byWay
-own-run em run h =
-    rw (le-leb (sum run) (em + 0) (omega arith))
-    (worded-starts Solid em (em + 0 - sum run) run ∙ rw (add-zero em, sub-self (2 * (em - sum run))))
+own-run em run h = rw (le-leb (sum run) (em + 0) (omega arith)) (solid-starts (em + 0 - sum run) run ∙ rw (add-zero em))
 
 pub over-own : (em at : ℕ) (runs : List (List ℕ)) → anyLonger em runs ≡ false → runStarts em at runs ≡ overOwn em at runs
 unfolding runStarts overOwn
@@ -112,33 +118,33 @@ over-own em at (run ∷ runs) e =
 pub base-alone : (form : Form) (w : Given) → baseAlone (wordOf form w) (w .width) ≡ places form w .base
 unfolding wordOf places mono plain groupWord jukugoWord jukugo overEach
 base-alone P w = sym (longer-starts (w .width))
-base-alone M w = by-base Solid Solid (w .em) (w .width) (w .rubyWidth)
-base-alone G w = group-base (script (w .rubyClass)) (script (w .class)) (w .em) (w .width) (w .rubyWidth)
+base-alone M w = by-base Solid Solid (w .ratios) (w .em) (w .width) (w .rubyWidth)
+base-alone G w = group-base (script (w .rubyClass)) (script (w .class)) (w .ratios) (w .em) (w .width) (w .rubyWidth)
 base-alone J w = go (anyLonger (w .em) (split (w .run) (w .rubyWidth)))
   where
     r : Script
     r = script (w .rubyClass)
 
     go : (t : Bool) →
-        baseAlone (cond t (groupWord r Kana (w .em) (w .width) (w .rubyWidth)) (overEach (w .em) (sum (w .width)) (map sum (split (w .run) (w .rubyWidth))))) (w .width)
-        ≡ cond {A = Places} t (group r Kana (w .em) (w .width) (w .rubyWidth)) (record { base = along (solid 0 (w .width)) (w .width); ruby = overOwn (w .em) 0 (split (w .run) (w .rubyWidth)) }) .base
-    go true = group-base r Kana (w .em) (w .width) (w .rubyWidth)
+        baseAlone (cond t (groupWord r Kana (w .ratios) (w .em) (w .width) (w .rubyWidth)) (overEach (w .em) (sum (w .width)) (map sum (split (w .run) (w .rubyWidth))))) (w .width)
+        ≡ cond {A = Places} t (group r Kana (w .ratios) (w .em) (w .width) (w .rubyWidth)) (record { base = along (solid 0 (w .width)) (w .width); ruby = overOwn (w .em) 0 (split (w .run) (w .rubyWidth)) }) .base
+    go true = group-base r Kana (w .ratios) (w .em) (w .width) (w .rubyWidth)
     go false = sym (longer-starts (w .width))
 
 pub ruby-alone : (form : Form) (w : Given) → hasRuby form ≡ true → rubyAlone (wordOf form w) (w .em) (w .run) (w .rubyWidth) ≡ places form w .ruby
 unfolding wordOf places mono plain groupWord jukugoWord jukugo overEach
 ruby-alone P w h = absurd (false≢true h)
-ruby-alone M w h = by-ruby Solid Solid (w .em) (w .width) (w .rubyWidth) (w .run)
-ruby-alone G w h = group-ruby (script (w .rubyClass)) (script (w .class)) (w .em) (w .width) (w .rubyWidth) (w .run)
+ruby-alone M w h = by-ruby Solid Solid (w .ratios) (w .em) (w .width) (w .rubyWidth) (w .run)
+ruby-alone G w h = group-ruby (script (w .rubyClass)) (script (w .class)) (w .ratios) (w .em) (w .width) (w .rubyWidth) (w .run)
 ruby-alone J w h = go (anyLonger (w .em) (split (w .run) (w .rubyWidth))) refl
   where
     r : Script
     r = script (w .rubyClass)
 
     go : (t : Bool) → anyLonger (w .em) (split (w .run) (w .rubyWidth)) ≡ t →
-        rubyAlone (cond t (groupWord r Kana (w .em) (w .width) (w .rubyWidth)) (overEach (w .em) (sum (w .width)) (map sum (split (w .run) (w .rubyWidth))))) (w .em) (w .run) (w .rubyWidth)
-        ≡ cond {A = Places} t (group r Kana (w .em) (w .width) (w .rubyWidth)) (record { base = along (solid 0 (w .width)) (w .width); ruby = overOwn (w .em) 0 (split (w .run) (w .rubyWidth)) }) .ruby
-    go true e = group-ruby r Kana (w .em) (w .width) (w .rubyWidth) (w .run)
+        rubyAlone (cond t (groupWord r Kana (w .ratios) (w .em) (w .width) (w .rubyWidth)) (overEach (w .em) (sum (w .width)) (map sum (split (w .run) (w .rubyWidth))))) (w .em) (w .run) (w .rubyWidth)
+        ≡ cond {A = Places} t (group r Kana (w .ratios) (w .em) (w .width) (w .rubyWidth)) (record { base = along (solid 0 (w .width)) (w .width); ruby = overOwn (w .em) 0 (split (w .run) (w .rubyWidth)) }) .ruby
+    go true e = group-ruby r Kana (w .ratios) (w .em) (w .width) (w .rubyWidth) (w .run)
     go false e = over-own (w .em) 0 (split (w .run) (w .rubyWidth)) e
 
 -- An origin moves each character alike.

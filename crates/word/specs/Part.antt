@@ -1,12 +1,12 @@
 -- A J cut by a line end (document 01, "Level one"): "A J cut by a line end is two words: a part of one character is set as M, a part of more as J."
--- A part of a J that is set is set, and a part of one character stands alike as M and as J.
-use mathlib.Core.Path.{_≡_, refl, sym, _∙_}
+-- A part of a J that is set is set, and a part of one character is centred; a J of one character that is not cut is no part.
+use mathlib.Core.Path.{_≡_, refl, sym, ap, _∙_}
 use mathlib.Core.Bool.{Bool, true, false, cond, not, _&&_, _||_, true≢false}
 use mathlib.Core.List.{List, [], _∷_, _++_, map, map-id, append-nil}
 use Prim.Native.Nat.{ℕ, zero, suc, _+_, _-_, _≤_, _<_}
 use native.Mathlib.Nat.{zero-add, add-zero}
 use native.Mathlib.Omega.{arith}
-use borrow.Author.Tests.{lt-leb, le-leb, ltb-true, ltb-false, eqb-true, not-false}
+use borrow.Author.Tests.{lt-leb, le-leb, lt-ltb, le-ltb, ltb-true, ltb-false, eqb-true, not-false}
 use lib.Dec.{eqb, ltb}
 use lib.ListN.{length, take, drop, length-drop}
 use lib.Seq.{length-take-le, take-all}
@@ -14,12 +14,13 @@ use Rattle.basics.specs.Lists.{sum, any, other, All}
 use Rattle.basics.specs.Laws.{or-none, any-none, none-any, all-take, all-drop, all-least, sum-part, sum-split}
 use Rattle.class.specs.Class.{western, kanaLike}
 use Rattle.word.specs.declared.Form.{Form}
-use Rattle.word.specs.declared.Form.the-variants.{M, J}
+use Rattle.word.specs.declared.Form.the-variants.{M, G, J}
 use Rattle.word.specs.declared.Word.{Word}
 use Rattle.word.specs.declared.Answer.the-variants.{Set}
 use Rattle.word.specs.Given.{Given}
-use Rattle.spread.specs.declared.Way.the-variants.{Solid}
-use Rattle.spread.specs.Worded.{solid, along}
+use Rattle.spread.specs.Worded.{solid, shorter, along}
+use Rattle.spread.specs.Laws.{Even, even-one}
+use Rattle.spread.specs.Ratio.{Ratios}
 use Rattle.word.specs.declared.Script.{Script}
 use Rattle.word.specs.declared.Script.the-variants.{Kana, Western}
 use Rattle.word.specs.Alone.{Places, byWay, mono, group, jukugo, places, script, rubyWay, baseWay, overOwn}
@@ -40,6 +41,7 @@ part w i n =
     let m = sum (within i n (w .run)) in
     record {
       em = w .em;
+      ratios = w .ratios;
       class = within i n (w .class);
       width = within i n (w .width);
       before = within i n (w .before);
@@ -125,27 +127,57 @@ part-sized place w e s same some i n h k =
         em-some zero xs (q .1) (omega (arith, eqb-true 0 x (not-false (eqb 0 x) (q .0))))
     em-some (suc v) xs e h = omega arith
 
--- a longer ruby over one character: its one character has all the difference in front, spread or solid
-single : (r : Script) (em : ℕ) (rs : List ℕ) → em < sum rs → byWay (rubyWay r Kana) (baseWay r Kana) em (em ∷ []) rs ≡ byWay Solid Solid em (em ∷ []) rs
+-- A part of one character is M: solid, whatever the ratios.
+pub part-centred : (w : Given) (i : ℕ) → places (formOfPart 1) (part w i 1) ≡ mono (part w i 1 .width) (part w i 1 .rubyWidth)
+unfolding places
+part-centred w i = refl
+
+-- a longer ruby over one character: with an even base ratio its one character has all the difference in front, spread or solid
+single : (r : Script) (h : Ratios) (em : ℕ) (rs : List ℕ) → Even (h .base) → em < sum rs →
+    byWay (shorter (rubyWay r Kana) (h .ruby) em) (shorter (baseWay r Kana) (h .base) em) (em ∷ []) rs ≡ byWay solid solid (em ∷ []) rs
 unfolding byWay
-single Kana em rs h = rw (lt-leb (sum rs) (em + 0) (omega arith), add-zero (sum rs - (em + 0)))
-single Western em rs h = rw (lt-leb (sum rs) (em + 0) (omega arith), add-zero (sum rs - (em + 0)))
+single r h em rs v l =
+    rw (lt-leb (sum rs) (em + 0) (omega arith))
+    (ap {B = Places} (λ (p : List ℕ). record { base = p; ruby = along (solid 0 rs) rs }) (even-one (baseWay r Kana) (h .base) em (sum rs - (em + 0)) (em ∷ []) v refl))
 
 -- a ruby no longer than its one character is solid over it
 under : (em : ℕ) (rs : List ℕ) → sum rs ≤ em →
-    _≡_ {A = Places} (record { base = along (solid 0 (em ∷ [])) (em ∷ []); ruby = map (λ x. 0 + x) (byWay Solid Solid em (em ∷ []) rs .ruby) ++ [] }) (byWay Solid Solid em (em ∷ []) rs)
+    _≡_ {A = Places} (record { base = along (solid 0 (em ∷ [])) (em ∷ []); ruby = map (λ x. 0 + x) (byWay solid solid (em ∷ []) rs .ruby) ++ [] }) (byWay solid solid (em ∷ []) rs)
 unfolding byWay
 under em rs h = rw (le-leb (sum rs) (em + 0) (omega arith)) (simp (append-nil, zero-add, map-id))
 
--- A part of one character: set as M or as J, its characters stand alike.
-pub one-alike : (w : Given) (n : ℕ) → w .width ≡ w .em ∷ [] → w .run ≡ n ∷ [] → n ≡ length (w .rubyWidth) → places J w ≡ places M w
-unfolding places jukugo mono overOwn
-one-alike w n e f g =
-    rw (e, f, take-all n (w .rubyWidth) (omega arith)) (go (ltb (w .em) (sum (w .rubyWidth))) refl)
-  where
-    go : (t : Bool) → ltb (w .em) (sum (w .rubyWidth)) ≡ t →
-        cond {A = Places} (t || false) (group (script (w .rubyClass)) Kana (w .em) (w .em ∷ []) (w .rubyWidth))
-        (record { base = along (solid 0 (w .em ∷ [])) (w .em ∷ []); ruby = map (λ x. 0 + x) (byWay Solid Solid (w .em) (w .em ∷ []) (w .rubyWidth) .ruby) ++ [] })
-        ≡ byWay Solid Solid (w .em) (w .em ∷ []) (w .rubyWidth)
-    go true h = group-is (script (w .rubyClass)) Kana (w .em) (w .em ∷ []) (w .rubyWidth) ∙ single (script (w .rubyClass)) (w .em) (w .rubyWidth) (ltb-true _ _ h)
-    go false h = under (w .em) (w .rubyWidth) (ltb-false _ _ h)
+as-mono : (w : Given) {p : Places} → p ≡ byWay solid solid (w .width) (w .rubyWidth) → p ≡ places M w
+unfolding places mono
+as-mono w h = h
+
+-- A J of one character: as M where its run is no longer than one em; else "the whole is set as G", so the base ratio decides.
+module _ (w : Given) (n : ℕ) (e : w .width ≡ w .em ∷ []) (f : w .run ≡ n ∷ []) (g : n ≡ length (w .rubyWidth)) where
+  pub one-fits : sum (w .rubyWidth) ≤ w .em → places J w ≡ places M w
+  unfolding places jukugo mono overOwn
+  one-fits h = rw (e, f, take-all n (w .rubyWidth) (omega arith), le-ltb _ _ h) (under (w .em) (w .rubyWidth) h)
+
+  pub one-longer : w .em < sum (w .rubyWidth) → places J w ≡ group (script (w .rubyClass)) Kana (w .ratios) (w .em) (w .width) (w .rubyWidth)
+  unfolding places jukugo
+  one-longer h = rw (f, take-all n (w .rubyWidth) (omega arith), lt-ltb _ _ h)
+
+  pub one-as-group : w .em < sum (w .rubyWidth) → any western (w .class) ≡ false → places J w ≡ places G w
+  unfolding places
+  one-as-group h k = one-longer h ∙ rw k
+
+  -- with an even base ratio, as 1:2:1, the two stand alike
+  pub one-alike : Even (w .ratios .base) → places J w ≡ places M w
+  one-alike v = go (ltb (w .em) (sum (w .rubyWidth))) refl
+    where
+      r : Script
+      r = script (w .rubyClass)
+
+      solidly : w .em < sum (w .rubyWidth) →
+          byWay (shorter (rubyWay r Kana) (w .ratios .ruby) (w .em)) (shorter (baseWay r Kana) (w .ratios .base) (w .em)) (w .width) (w .rubyWidth) ≡ places M w
+      solidly h = as-mono w (rw e (single (script (w .rubyClass)) (w .ratios) (w .em) (w .rubyWidth) v h))
+
+      longer : w .em < sum (w .rubyWidth) → group (script (w .rubyClass)) Kana (w .ratios) (w .em) (w .width) (w .rubyWidth) ≡ places M w
+      longer h = group-is (script (w .rubyClass)) Kana (w .ratios) (w .em) (w .width) (w .rubyWidth) ∙ solidly h
+
+      go : (t : Bool) → ltb (w .em) (sum (w .rubyWidth)) ≡ t → places J w ≡ places M w
+      go true h = one-longer (ltb-true _ _ h) ∙ longer (ltb-true _ _ h)
+      go false h = one-fits (ltb-false _ _ h)

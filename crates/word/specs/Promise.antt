@@ -5,9 +5,8 @@ use mathlib.Core.Bool.{Bool, true, false, cond, not, false≢true, true≢false}
 use mathlib.Core.List.{List, map}
 use mathlib.Core.Logic.{_⊎_, inl, inr}
 use Prim.Native.Nat.{ℕ, _+_, _-_, _*_, _≤_, _<_, zero-le}
-use native.Mathlib.Nat.{sub-self}
 use native.Mathlib.Omega.{arith}
-use borrow.Author.Tests.{leb-true, leb-false}
+use borrow.Author.Tests.{leb-true, leb-false, le-leb, lt-leb}
 use lib.Dec.{leb}
 use lib.ListN.{length, getD}
 use Rattle.basics.specs.Lists.{sum, any, other, lastOr}
@@ -16,9 +15,11 @@ use Rattle.class.specs.Class.{kanaLike}
 use Rattle.refusal.specs.declared.Refusal.the-variants.{BlankInside, JukugoBase, Mixed, WesternOver}
 use Rattle.spread.specs.declared.Way.{Way}
 use Rattle.spread.specs.declared.Way.the-variants.{Solid}
-use Rattle.spread.specs.Gap.{gap, inner}
-use Rattle.spread.specs.Running.{Ready}
-use Rattle.spread.specs.Laws.{gap-le, gap-one}
+use Rattle.spread.specs.declared.Gaps.{Gaps}
+use Rattle.spread.specs.Gap.{gaps}
+use Rattle.spread.specs.Laws.{Sums, sums, Even, all-space, even-ends, within-one}
+use Rattle.spread.specs.Ratio.{Ratios}
+use Rattle.word.specs.declared.Script.{Script}
 use Rattle.word.specs.declared.Script.the-variants.{Kana}
 use Rattle.word.specs.declared.Form.{Form}
 use Rattle.word.specs.declared.Form.the-variants.{P, M, G, J}
@@ -26,9 +27,9 @@ use Rattle.word.specs.declared.Word.{Word}
 use Rattle.word.specs.declared.Answer.the-variants.{Set, Refused}
 use Rattle.word.specs.Given.{Given, hasRuby, isJ}
 use Rattle.word.specs.Alone.{script, rubyWay, baseWay, split, anyLonger}
-use Rattle.word.specs.Word.{shortRuby, shortBase, wordBy, plain, groupWord, overEach, jukugoWord, wordOf, total}
+use Rattle.word.specs.Word.{shortRuby, shortBase, wordBy, plain, groupWord, overEach, jukugoWord, wordOf, total, protrusionFront, protrusionBehind}
 use Rattle.word.specs.Answer.{blankInside, jukugoBase, mixedIn, westernOver, answer}
-use Rattle.word.specs.Sized.{Small, Sized, RunsReady, small}
+use Rattle.word.specs.Sized.{Small, Sized, small}
 use Rattle.word.specs.Runs.{first-fits, last-fits}
 
 -- ruby lies within its block, or around it
@@ -41,13 +42,13 @@ pub record Around (v : Word) : Type 0 where
   pub leads : v .from ≤ v .front
   pub trails : v .front + v .len ≤ v .upto
 
--- The promises. `equal` is document 01's "It is equal at both ends"; the others from `block` on are what the writers ask for.
+-- The promises. `equal` is document 01's "It is equal at both ends", which R-4 leaves to base ratios whose a is their c, as 1:2:1; the others from `block` on are what the writers ask for.
 pub record Promise (form : Form) (w : Given) (v : Word) : Type 0 where
   pub some : 0 < v .len
   pub reads : v .ruby ≡ hasRuby form
   pub shape : v .ruby ≡ true → Inside v ⊎ Around v
   pub edge : (v .front ≡ 0) ⊎ (v .from ≡ 0)
-  pub equal : v .front + v .len + v .front ≡ total v
+  pub equal : Even (w .ratios .base) → v .front + v .len + v .front ≡ total v
   pub limit : total v ≤ 524288
   pub sums : total v ≤ 2 * (sum (w .width) + sum (w .rubyWidth))
   pub block : v .len ≡ 2 * sum (w .width) + v .inbase
@@ -60,48 +61,74 @@ by-cond : (t : Bool) (Q : Word → Type 0) {a b : Word} → (t ≡ true → Q a)
 by-cond true Q f g = f refl
 by-cond false Q f g = g refl
 
--- a single character has no space within its string
-none-inner : (r : Way) (em D n : ℕ) → n ≡ 1 → inner D (gap r em D n) ≡ 0
-none-inner r em D n e = rw (e, gap-one r em D) (sub-self (2 * D))
-
-by-ways : (form : Form) → hasRuby form ≡ true → (w : Given) (r b : Way) → Small (w .width) (w .rubyWidth) → Promise form w (wordBy r b (w .em) (w .width) (w .rubyWidth))
+by-ways : (form : Form) → hasRuby form ≡ true → (w : Given) (r b : Way) → Small (w .width) (w .rubyWidth) → Promise form w (wordBy r b (w .ratios) (w .em) (w .width) (w .rubyWidth))
 unfolding wordBy shortRuby shortBase
 by-ways form h w r b s =
     by-cond (leb (sum (w .rubyWidth)) (sum (w .width))) (Promise form w)
     (λ t.
     let l : sum (w .rubyWidth) ≤ sum (w .width) = leb-true _ _ t in
-    let g : gap r (w .em) (sum (w .width) - sum (w .rubyWidth)) (length (w .rubyWidth)) ≤ sum (w .width) - sum (w .rubyWidth) = gap-le r (w .em) _ (length (w .rubyWidth)) in
+    let g = all-space r (w .ratios .ruby) (w .em) (sum (w .width) - sum (w .rubyWidth)) (length (w .rubyWidth)) in
     record {
       some = omega arith;
       reads = sym h;
-      shape = λ q. inl (record { enters = zero-le; runs = omega arith; leaves = omega arith });
+      shape = λ q. inl (record { enters = zero-le; runs = omega arith; leaves = omega (arith, g) });
       edge = inl refl;
-      equal = omega arith;
-      limit = omega arith;
-      sums = omega arith;
+      equal = λ v. omega (arith, g);
+      limit = omega (arith, g);
+      sums = omega (arith, g);
       block = omega arith;
       string = λ q k. refl;
       each = λ q. absurd (false≢true q);
       single = λ q. refl;
-      singleRuby = λ q. none-inner r (w .em) _ (length (w .rubyWidth)) q;
+      singleRuby = λ q. within-one r (w .ratios .ruby) (w .em) _ (length (w .rubyWidth)) q;
     })
     (λ t.
     let l : sum (w .width) < sum (w .rubyWidth) = leb-false _ _ t in
-    let g : gap b (w .em) (sum (w .rubyWidth) - sum (w .width)) (length (w .width)) ≤ sum (w .rubyWidth) - sum (w .width) = gap-le b (w .em) _ (length (w .width)) in
+    let g = all-space b (w .ratios .base) (w .em) (sum (w .rubyWidth) - sum (w .width)) (length (w .width)) in
     record {
       some = omega arith;
       reads = sym h;
-      shape = λ q. inr (record { leads = zero-le; trails = omega arith });
+      shape = λ q. inr (record { leads = zero-le; trails = omega (arith, g) });
       edge = inr refl;
-      equal = omega arith;
-      limit = omega arith;
-      sums = omega arith;
+      equal = λ v. omega (arith, g, even-ends b (w .ratios .base) (w .em) (sum (w .rubyWidth) - sum (w .width)) (length (w .width)) v);
+      limit = omega (arith, g);
+      sums = omega (arith, g);
       block = refl;
       string = λ q k. omega arith;
       each = λ q. absurd (false≢true q);
-      single = λ q. none-inner b (w .em) _ (length (w .width)) q;
+      single = λ q. within-one b (w .ratios .base) (w .em) _ (length (w .width)) q;
       singleRuby = λ q. refl;
     })
+
+-- Protrusions of two strings by their ways: a ruby no longer than its base passes it nowhere; a longer one by the end gaps of the base, in front and behind.
+module _ (r b : Way) (h : Ratios) (em : ℕ) (bs rs : List ℕ) where
+  pub passes-nowhere : sum rs ≤ sum bs → (protrusionFront (wordBy r b h em bs rs) ≡ 0) × (protrusionBehind (wordBy r b h em bs rs) ≡ 0)
+  unfolding wordBy shortRuby
+  passes-nowhere l = rw (le-leb _ _ l) (go (gaps r (h .ruby) em (sum bs - sum rs) (length rs)) (sums r (h .ruby) em (sum bs - sum rs) (length rs)))
+    where
+      go : (g : Gaps) → Sums (sum bs - sum rs) g → (0 - g .front ≡ 0) × (g .front + 2 * sum rs + g .within - (0 + 2 * sum bs) ≡ 0)
+      go g s = (omega arith, omega (arith, s .all))
+
+  pub passes : sum bs < sum rs →
+      (protrusionFront (wordBy r b h em bs rs) ≡ gaps b (h .base) em (sum rs - sum bs) (length bs) .front)
+      × (protrusionBehind (wordBy r b h em bs rs) ≡ gaps b (h .base) em (sum rs - sum bs) (length bs) .rear)
+  unfolding wordBy shortBase
+  passes l = rw (lt-leb _ _ l) (go (gaps b (h .base) em (sum rs - sum bs) (length bs)) (sums b (h .base) em (sum rs - sum bs) (length bs)))
+    where
+      go : (g : Gaps) → Sums (sum rs - sum bs) g → (g .front - 0 ≡ g .front) × (2 * sum rs - (g .front + (2 * sum bs + g .within)) ≡ g .rear)
+      go g s = (omega arith, omega (arith, s .all))
+
+-- a J: taken as G where a run is longer than one em, by the base ratio; else its runs stay over their own characters
+module _ (r : Script) (h : Ratios) (em : ℕ) (bs runs rs : List ℕ) where
+  pub longer-passes : anyLonger em (split runs rs) ≡ true → sum bs < sum rs →
+      (protrusionFront (jukugoWord r h em bs runs rs) ≡ gaps (baseWay r Kana) (h .base) em (sum rs - sum bs) (length bs) .front)
+      × (protrusionBehind (jukugoWord r h em bs runs rs) ≡ gaps (baseWay r Kana) (h .base) em (sum rs - sum bs) (length bs) .rear)
+  unfolding jukugoWord groupWord
+  longer-passes e l = rw e (passes (rubyWay r Kana) (baseWay r Kana) h em bs rs l)
+
+  pub each-passes-nowhere : anyLonger em (split runs rs) ≡ false → (protrusionFront (jukugoWord r h em bs runs rs) ≡ 0) × (protrusionBehind (jukugoWord r h em bs runs rs) ≡ 0)
+  unfolding jukugoWord overEach
+  each-passes-nowhere e = rw e (omega arith, omega arith)
 
 by-runs : (w : Given) → Small (w .width) (w .rubyWidth) → w .em ≤ sum (w .width) → anyLonger (w .em) (split (w .run) (w .rubyWidth)) ≡ false →
     Promise J w (overEach (w .em) (sum (w .width)) (map sum (split (w .run) (w .rubyWidth))))
@@ -114,7 +141,7 @@ by-runs w s h e =
       reads = refl;
       shape = λ q. inl (record { enters = zero-le; runs = omega arith; leaves = omega arith });
       edge = inl refl;
-      equal = omega arith;
+      equal = λ v. omega arith;
       limit = omega arith;
       sums = omega arith;
       block = omega arith;
@@ -133,7 +160,7 @@ word-kept P w s j =
       reads = refl;
       shape = λ q. absurd (false≢true q);
       edge = inl refl;
-      equal = omega arith;
+      equal = λ v. omega arith;
       limit = omega (arith, s .narrow);
       sums = omega arith;
       block = omega arith;
@@ -187,19 +214,3 @@ pub kept : (form : Form) (place : ℕ) (w : Given) {v : Word} → Sized form (w 
 kept form place w {v} s e =
     let p = passed form place w e in
     subst (Promise form w) (sym (p .word)) (word-kept form w s (one-em form w (s .some) (p .eight)))
-
--- The writers' needs follow from the promises and a bound on the origin.
-
-pub base-ready : (form : Form) (w : Given) (v : Word) (at : ℕ) (out : List ℕ) → Promise form w v → length (w .width) ≤ 32 → length (w .width) ≡ length out → at + total v < 4294967296 →
-    Ready (v .inbase) (at + v .front) (w .width) out
-base-ready form w v at out p few same near = record { same = same; few = omega arith; small = omega arith; near = omega arith }
-
-pub ruby-ready : (form : Form) (w : Given) (v : Word) (at : ℕ) (out : List ℕ) → Promise form w v → hasRuby form ≡ true → length (w .rubyWidth) ≤ 64 → length (w .rubyWidth) ≡ length out → at + total v < 4294967296 →
-    v .runs ≡ false → Ready (v .inruby) (at + v .from) (w .rubyWidth) out
-ruby-ready form w v at out p h few same near e =
-    let s = p .string e h in record { same = same; few = few; small = omega arith; near = omega arith }
-
-pub runs-ready : (form : Form) (w : Given) (v : Word) (at : ℕ) (out : List ℕ) → Promise form w v → w .em ≤ 4096 → length (w .run) ≤ 32 → sum (w .run) ≡ length (w .rubyWidth) →
-    length (w .rubyWidth) ≤ 64 → length (w .rubyWidth) ≡ length out → at < 2147483648 → v .runs ≡ true → RunsReady (w .em) at (w .run) (w .rubyWidth) out
-runs-ready form w v at out p em runs whole few same near e =
-    record { whole = whole; same = same; few = few; fewRuns = runs; small = em; near = near; none = p .each e }

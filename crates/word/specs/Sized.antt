@@ -1,13 +1,12 @@
 -- What the callers of level one have made sure of: few enough characters, narrow enough. The checks of characters and counts (numbers 3, 5 and 6) leave nothing else.
 use mathlib.Core.Path.{_≡_}
-use mathlib.Core.Bool.{true, false}
+use mathlib.Core.Bool.{true}
 use mathlib.Core.List.{List}
 use Prim.Native.Nat.{ℕ, _≤_, _<_}
 use lib.ListN.{length}
 use Rattle.basics.specs.Lists.{sum}
 use Rattle.word.specs.declared.Form.{Form}
 use Rattle.word.specs.Given.{hasRuby, isJ}
-use Rattle.word.specs.Alone.{split, anyLonger}
 
 -- the strings of a word: at most 32 base and 64 ruby characters, each 1 to 4,096 wide, so these sums
 pub record Small (bs rs : List ℕ) : Type 0 where
@@ -27,16 +26,6 @@ pub record Sized (form : Form) (bs rs runs : List ℕ) : Type 0 where
   pub fewRuby : length rs ≤ 64
   pub narrowRuby : sum rs ≤ 262144
   pub whole : isJ form ≡ true → sum runs ≡ length rs
-
--- a J's runs that are ready to be written: none is longer than one em, and all positions fit
-pub record RunsReady (em at : ℕ) (runs ws out : List ℕ) : Type 0 where
-  pub whole : sum runs ≡ length ws
-  pub same : length ws ≡ length out
-  pub few : length ws ≤ 64
-  pub fewRuns : length runs ≤ 32
-  pub small : em ≤ 4096
-  pub near : at < 2147483648
-  pub none : anyLonger em (split runs ws) ≡ false
 
 pub small : (form : Form) (bs rs runs : List ℕ) → hasRuby form ≡ true → Sized form bs rs runs → Small bs rs
 small form bs rs runs h s =

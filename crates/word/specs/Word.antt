@@ -7,7 +7,9 @@ use lib.ListN.{length, getD}
 use Rattle.basics.specs.Lists.{sum, lastOr}
 use Rattle.spread.specs.declared.Way.{Way}
 use Rattle.spread.specs.declared.Way.the-variants.{Solid}
-use Rattle.spread.specs.Gap.{gap, inner, starts}
+use Rattle.spread.specs.declared.Gaps.{Gaps}
+use Rattle.spread.specs.Gap.{gaps, starts}
+use Rattle.spread.specs.Ratio.{Ratios}
 use Rattle.word.specs.declared.Script.{Script}
 use Rattle.word.specs.declared.Script.the-variants.{Kana}
 use Rattle.word.specs.declared.Form.{Form}
@@ -16,43 +18,50 @@ use Rattle.word.specs.declared.Word.{Word}
 use Rattle.word.specs.Given.{Given}
 use Rattle.word.specs.Alone.{script, rubyWay, baseWay, split, anyLonger}
 
--- the word whose ruby is no longer than its base, its gap in front g; and the word whose base is the shorter
-unfoldable pub shortRuby : ℕ → ℕ → ℕ → Word
-shortRuby B R g = record { front = 0; len = 2 * B; ruby = true; from = g; upto = g + 2 * R + inner (B - R) g; inbase = 0; inruby = inner (B - R) g; runs = false }
+-- the word whose ruby is no longer than its base, by the gaps of the ruby; and the word whose base is the shorter, by those of the base
+unfoldable pub shortRuby : ℕ → ℕ → Gaps → Word
+shortRuby B R g = record { front = 0; len = 2 * B; ruby = true; from = g .front; upto = g .front + 2 * R + g .within; inbase = 0; inruby = g .within; runs = false }
 
-unfoldable pub shortBase : ℕ → ℕ → ℕ → Word
-shortBase B R g = record { front = g; len = 2 * B + inner (R - B) g; ruby = true; from = 0; upto = 2 * R; inbase = inner (R - B) g; inruby = 0; runs = false }
+unfoldable pub shortBase : ℕ → ℕ → Gaps → Word
+shortBase B R g = record { front = g .front; len = 2 * B + g .within; ruby = true; from = 0; upto = 2 * R; inbase = g .within; inruby = 0; runs = false }
 
-unfoldable pub wordBy : Way → Way → ℕ → List ℕ → List ℕ → Word
-unfolding shortRuby shortBase
-wordBy r b em bs rs =
+unfoldable pub wordBy : Way → Way → Ratios → ℕ → List ℕ → List ℕ → Word
+unfolding shortRuby shortBase gaps
+wordBy r b h em bs rs =
     cond (leb (sum rs) (sum bs))
-    (shortRuby (sum bs) (sum rs) (gap r em (sum bs - sum rs) (length rs)))
-    (shortBase (sum bs) (sum rs) (gap b em (sum rs - sum bs) (length bs)))
+    (shortRuby (sum bs) (sum rs) (gaps r (h .ruby) em (sum bs - sum rs) (length rs)))
+    (shortBase (sum bs) (sum rs) (gaps b (h .base) em (sum rs - sum bs) (length bs)))
+
+-- "A word now protrudes by different amounts in front and behind": how far ruby passes the block at either end, 0 if it doesn't
+abbrev pub protrusionFront : Word → ℕ
+protrusionFront v = v .front - v .from
+
+abbrev pub protrusionBehind : Word → ℕ
+protrusionBehind v = v .upto - (v .front + v .len)
 
 -- a word without ruby
 unfoldable pub plain : ℕ → Word
 plain B = record { front = 0; len = 2 * B; ruby = false; from = 0; upto = 0; inbase = 0; inruby = 0; runs = false }
 
-unfoldable pub groupWord : Script → Script → ℕ → List ℕ → List ℕ → Word
+unfoldable pub groupWord : Script → Script → Ratios → ℕ → List ℕ → List ℕ → Word
 unfolding wordBy
-groupWord r b em bs rs = wordBy (rubyWay r b) (baseWay r b) em bs rs
+groupWord r b h em bs rs = wordBy (rubyWay r b) (baseWay r b) h em bs rs
 
 -- each run over its own character of one em: the ruby lies within the block, from the first run's start to the last run's end; lengths are those of the runs
 unfoldable pub overEach : ℕ → ℕ → List ℕ → Word
 overEach em B lengths =
     record { front = 0; len = 2 * B; ruby = true; from = em - getD lengths 0 0; upto = 2 * B - (em - lastOr 0 lengths); inbase = 0; inruby = 0; runs = true }
 
-unfoldable pub jukugoWord : Script → ℕ → List ℕ → List ℕ → List ℕ → Word
+unfoldable pub jukugoWord : Script → Ratios → ℕ → List ℕ → List ℕ → List ℕ → Word
 unfolding groupWord overEach
-jukugoWord r em bs runs rs = cond (anyLonger em (split runs rs)) (groupWord r Kana em bs rs) (overEach em (sum bs) (map sum (split runs rs)))
+jukugoWord r h em bs runs rs = cond (anyLonger em (split runs rs)) (groupWord r Kana h em bs rs) (overEach em (sum bs) (map sum (split runs rs)))
 
 unfoldable pub wordOf : Form → Given → Word
 unfolding plain wordBy groupWord jukugoWord
 wordOf P w = plain (sum (w .width))
-wordOf M w = wordBy Solid Solid (w .em) (w .width) (w .rubyWidth)
-wordOf G w = groupWord (script (w .rubyClass)) (script (w .class)) (w .em) (w .width) (w .rubyWidth)
-wordOf J w = jukugoWord (script (w .rubyClass)) (w .em) (w .width) (w .run) (w .rubyWidth)
+wordOf M w = wordBy Solid Solid (w .ratios) (w .em) (w .width) (w .rubyWidth)
+wordOf G w = groupWord (script (w .rubyClass)) (script (w .class)) (w .ratios) (w .em) (w .width) (w .rubyWidth)
+wordOf J w = jukugoWord (script (w .rubyClass)) (w .ratios) (w .em) (w .width) (w .run) (w .rubyWidth)
 
 -- from the start of the longer string to its end
 abbrev pub total : Word → ℕ

@@ -1,6 +1,6 @@
 // Level one: the word alone (document 01, "Level one"). `measure` answers a word's record by value and writes nothing; where its characters stand at a given origin the definitions
 // `baseStarts` and `rubyStarts` say (specs/Word.antt). A word is set in its own coordinates, in half units from the start of its longer string. Nothing but the word comes
-// in (em, form, its own characters), so no neighbour can alter what it decides. It relies on `class` for kinds, on `spread` for one string, on `refusal`
+// in (em, the house ratios, form, its own characters), so no neighbour can alter what it decides. It relies on `class` for kinds, on `spread` for one string, on `refusal`
 // and on `basics`.
 ghost use mathlib.Core.Path.{_≡_};
 ghost use mathlib.Core.Bool.{true, false, not, _&&_, _||_};
@@ -8,6 +8,7 @@ ghost use Prim.Native.Nat.{_+_, _-_, _^_, _≤_, _<_};
 ghost use lib.ListN.{length, getD};
 ghost use mathlib.Core.List.{[], map};
 ghost use Rattle.basics.specs.Lists.{sum, any, other};
+ghost use Rattle.spread.specs.Ratio.{ratiosOf, Housed};
 ghost use Rattle.word.specs.Alone.{rubyWay, baseWay, split};
 ghost use Rattle.word.specs.Word.{plain, wordBy, groupWord, jukugoWord};
 ghost use Rattle.word.specs.Numbers.{wordFrom, Measured};
@@ -228,66 +229,72 @@ fn plain_of(b: u32) -> Word
     }
 }
 
-// The word of two strings of b and r units and n and m characters, by the way of each where it is the shorter.
+// The word of two strings of b and r units and n and m characters, by the way and the ratio of each where it is the shorter.
 pub fn word_from(
     ruby: spread::Way,
     base: spread::Way,
+    ratios: [[u32; 3]; 2],
     em: u32,
     b: u32,
     n: u32,
     r: u32,
     m: u32,
 ) -> Word
-    requires { ⌜ Measured b n r m ⌝ }
-    ensures { λ w. ⌜ w ≡ wordFrom ruby base em b n r m ⌝ }
+    requires { ⌜ (Measured b n r m) × (Housed (ratiosOf ratios)) ⌝ }
+    ensures { λ w. ⌜ w ≡ wordFrom ruby base (ratiosOf ratios) em b n r m ⌝ }
 {
     if r <= b {
-        let g = spread::gap_of(ruby, em, b - r, m);
-        let within = 2 * (b - r) - 2 * g;
+        let g = spread::gaps_of(spread::Which::Ruby, ruby, ratios, em, b - r, m);
         return Word {
             front: 0,
             len: 2 * b,
             ruby: true,
-            from: g,
-            upto: g + 2 * r + within,
+            from: g.front,
+            upto: g.front + 2 * r + g.within,
             inbase: 0,
-            inruby: within,
+            inruby: g.within,
             runs: false,
         };
     }
-    let g = spread::gap_of(base, em, r - b, n);
-    let within = 2 * (r - b) - 2 * g;
+    let g = spread::gaps_of(spread::Which::Base, base, ratios, em, r - b, n);
     Word {
-        front: g,
-        len: 2 * b + within,
+        front: g.front,
+        len: 2 * b + g.within,
         ruby: true,
         from: 0,
         upto: 2 * r,
-        inbase: within,
+        inbase: g.within,
         inruby: 0,
         runs: false,
     }
 }
 
 // The word of two strings by their lists.
-fn word_by(ruby: spread::Way, base: spread::Way, em: u32, bs: &[u32], rs: &[u32]) -> Word
-    requires { ⌜ Small (now bs) (now rs) ⌝ }
-    ensures { λ r. ⌜ r ≡ wordBy ruby base em (now (bs .entry)) (now (rs .entry)) ⌝ }
+fn word_by(
+    ruby: spread::Way,
+    base: spread::Way,
+    ratios: [[u32; 3]; 2],
+    em: u32,
+    bs: &[u32],
+    rs: &[u32],
+) -> Word
+    requires { ⌜ (Small (now bs) (now rs)) × (Housed (ratiosOf ratios)) ⌝ }
+    ensures { λ r. ⌜ r ≡ wordBy ruby base (ratiosOf ratios) em (now (bs .entry)) (now (rs .entry)) ⌝ }
 {
     let b = basics::sum_of(bs);
     let r = basics::sum_of(rs);
     let n = bs.len() as u32;
     let m = rs.len() as u32;
-    word_from(ruby, base, em, b, n, r, m)
+    word_from(ruby, base, ratios, em, b, n, r, m)
 }
 
-fn group_of(r: Script, b: Script, em: u32, bs: &[u32], rs: &[u32]) -> Word
-    requires { ⌜ Small (now bs) (now rs) ⌝ }
-    ensures { λ w. ⌜ w ≡ groupWord r b em (now (bs .entry)) (now (rs .entry)) ⌝ }
+fn group_of(r: Script, b: Script, ratios: [[u32; 3]; 2], em: u32, bs: &[u32], rs: &[u32]) -> Word
+    requires { ⌜ (Small (now bs) (now rs)) × (Housed (ratiosOf ratios)) ⌝ }
+    ensures { λ w. ⌜ w ≡ groupWord r b (ratiosOf ratios) em (now (bs .entry)) (now (rs .entry)) ⌝ }
 {
     let ruby = ruby_way(r, b);
     let base = base_way(r, b);
-    word_by(ruby, base, em, bs, rs)
+    word_by(ruby, base, ratios, em, bs, rs)
 }
 
 // A J's runs against one em.
@@ -322,13 +329,20 @@ fn first_run(runs: &[u32], ws: &[u32]) -> u32
     basics::sum_of(&ws[0..n])
 }
 
-fn jukugo_of(r: Script, em: u32, bs: &[u32], runs: &[u32], rs: &[u32]) -> Word
-    requires { ⌜ (Small (now bs) (now rs)) × (sum (now runs) ≤ length (now rs)) × (em ≤ sum (now bs)) ⌝ }
-    ensures { λ w. ⌜ w ≡ jukugoWord r em (now (bs .entry)) (now (runs .entry)) (now (rs .entry)) ⌝ }
+fn jukugo_of(
+    r: Script,
+    ratios: [[u32; 3]; 2],
+    em: u32,
+    bs: &[u32],
+    runs: &[u32],
+    rs: &[u32],
+) -> Word
+    requires { ⌜ (Small (now bs) (now rs)) × (sum (now runs) ≤ length (now rs)) × (em ≤ sum (now bs)) × (Housed (ratiosOf ratios)) ⌝ }
+    ensures { λ w. ⌜ w ≡ jukugoWord r (ratiosOf ratios) em (now (bs .entry)) (now (runs .entry)) (now (rs .entry)) ⌝ }
 {
     let b = basics::sum_of(bs);
     match runs_in(em, runs, rs) {
-        Runs::Longer => group_of(r, Script::Kana, em, bs, rs),
+        Runs::Longer => group_of(r, Script::Kana, ratios, em, bs, rs),
         Runs::Fit(last) => {
             let first = first_run(runs, rs);
             Word {
@@ -374,24 +388,26 @@ pub fn plain_answer(b: u32) -> Answer
 // An M: number 7, or its word.
 pub fn mono_answer(
     place: u32,
+    ratios: [[u32; 3]; 2],
     em: u32,
     bs: &[u32],
     before: &[u32],
     after: &[u32],
     rs: &[u32],
 ) -> Answer
-    requires { ⌜ Small (now bs) (now rs) ⌝ }
-    ensures { λ a. ⌜ a ≡ answer Form.M place (record { em = em; class = []; width = now (bs .entry); before = now (before .entry); after = now (after .entry); rubyClass = []; rubyWidth = now (rs .entry); run = [] }) ⌝ }
+    requires { ⌜ (Small (now bs) (now rs)) × (Housed (ratiosOf ratios)) ⌝ }
+    ensures { λ a. ⌜ a ≡ answer Form.M place (record { em = em; ratios = ratiosOf ratios; class = []; width = now (bs .entry); before = now (before .entry); after = now (after .entry); rubyClass = []; rubyWidth = now (rs .entry); run = [] }) ⌝ }
 {
     if blank_inside(before, after) {
         return Answer::Refused(refusal::Refusal::BlankInside(place));
     }
-    Answer::Set(word_by(spread::Way::Solid, spread::Way::Solid, em, bs, rs))
+    Answer::Set(word_by(spread::Way::Solid, spread::Way::Solid, ratios, em, bs, rs))
 }
 
 // A G: numbers 7, 9 and 10, or its word.
 pub fn group_answer(
     place: u32,
+    ratios: [[u32; 3]; 2],
     em: u32,
     bc: &[u32],
     bs: &[u32],
@@ -400,8 +416,8 @@ pub fn group_answer(
     rc: &[u32],
     rs: &[u32],
 ) -> Answer
-    requires { ⌜ Small (now bs) (now rs) ⌝ }
-    ensures { λ a. ⌜ a ≡ answer Form.G place (record { em = em; class = now (bc .entry); width = now (bs .entry); before = now (before .entry); after = now (after .entry); rubyClass = now (rc .entry); rubyWidth = now (rs .entry); run = [] }) ⌝ }
+    requires { ⌜ (Small (now bs) (now rs)) × (Housed (ratiosOf ratios)) ⌝ }
+    ensures { λ a. ⌜ a ≡ answer Form.G place (record { em = em; ratios = ratiosOf ratios; class = now (bc .entry); width = now (bs .entry); before = now (before .entry); after = now (after .entry); rubyClass = now (rc .entry); rubyWidth = now (rs .entry); run = [] }) ⌝ }
 {
     if blank_inside(before, after) {
         return Answer::Refused(refusal::Refusal::BlankInside(place));
@@ -417,12 +433,13 @@ pub fn group_answer(
     if western_over(r, b) {
         return Answer::Refused(refusal::Refusal::WesternOver(place));
     }
-    Answer::Set(group_of(script_of(r), script_of(b), em, bs, rs))
+    Answer::Set(group_of(script_of(r), script_of(b), ratios, em, bs, rs))
 }
 
 // A J: numbers 7, 8 and 9, or its word. Once 8 has passed its base is kana-like throughout, so 9 is about its ruby alone.
 pub fn jukugo_answer(
     place: u32,
+    ratios: [[u32; 3]; 2],
     em: u32,
     bc: &[u32],
     bs: &[u32],
@@ -432,8 +449,8 @@ pub fn jukugo_answer(
     rs: &[u32],
     runs: &[u32],
 ) -> Answer
-    requires { ⌜ (Small (now bs) (now rs)) × (sum (now runs) ≤ length (now rs)) ⌝ }
-    ensures { λ a. ⌜ a ≡ answer Form.J place (record { em = em; class = now (bc .entry); width = now (bs .entry); before = now (before .entry); after = now (after .entry); rubyClass = now (rc .entry); rubyWidth = now (rs .entry); run = now (runs .entry) }) ⌝ }
+    requires { ⌜ (Small (now bs) (now rs)) × (sum (now runs) ≤ length (now rs)) × (Housed (ratiosOf ratios)) ⌝ }
+    ensures { λ a. ⌜ a ≡ answer Form.J place (record { em = em; ratios = ratiosOf ratios; class = now (bc .entry); width = now (bs .entry); before = now (before .entry); after = now (after .entry); rubyClass = now (rc .entry); rubyWidth = now (rs .entry); run = now (runs .entry) }) ⌝ }
 {
     if blank_inside(before, after) {
         return Answer::Refused(refusal::Refusal::BlankInside(place));
@@ -448,13 +465,14 @@ pub fn jukugo_answer(
     if is_mixed(r) {
         return Answer::Refused(refusal::Refusal::Mixed(place));
     }
-    Answer::Set(jukugo_of(script_of(r), em, bs, runs, rs))
+    Answer::Set(jukugo_of(script_of(r), ratios, em, bs, runs, rs))
 }
 
 // An element set within itself, or the first refusal that holds of it. What its form does not have is not read: ruby and blanks of a P, runs but a J's.
 pub fn measure(
     form: Form,
     place: u32,
+    ratios: [[u32; 3]; 2],
     em: u32,
     bc: &[u32],
     bs: &[u32],
@@ -464,13 +482,13 @@ pub fn measure(
     rs: &[u32],
     runs: &[u32],
 ) -> Answer
-    requires { ⌜ Sized form (now bs) (now rs) (now runs) ⌝ }
-    ensures { λ a. ⌜ a ≡ answer form place (record { em = em; class = now (bc .entry); width = now (bs .entry); before = now (before .entry); after = now (after .entry); rubyClass = now (rc .entry); rubyWidth = now (rs .entry); run = now (runs .entry) }) ⌝ }
+    requires { ⌜ (Sized form (now bs) (now rs) (now runs)) × (Housed (ratiosOf ratios)) ⌝ }
+    ensures { λ a. ⌜ a ≡ answer form place (record { em = em; ratios = ratiosOf ratios; class = now (bc .entry); width = now (bs .entry); before = now (before .entry); after = now (after .entry); rubyClass = now (rc .entry); rubyWidth = now (rs .entry); run = now (runs .entry) }) ⌝ }
 {
     match form {
         Form::P => plain_answer(basics::sum_of(bs)),
-        Form::M => mono_answer(place, em, bs, before, after, rs),
-        Form::G => group_answer(place, em, bc, bs, before, after, rc, rs),
-        Form::J => jukugo_answer(place, em, bc, bs, before, after, rc, rs, runs),
+        Form::M => mono_answer(place, ratios, em, bs, before, after, rs),
+        Form::G => group_answer(place, ratios, em, bc, bs, before, after, rc, rs),
+        Form::J => jukugo_answer(place, ratios, em, bc, bs, before, after, rc, rs, runs),
     }
 }

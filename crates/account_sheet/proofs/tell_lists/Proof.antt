@@ -1,5 +1,6 @@
 -- The account's answer decides which text is written. A refusal's is the text of the refusal that the list gives; an accepted job's lists can be printed, and their text is its account.
 use mathlib.Core.Path.{_≡_}
+use Rattle.spread.specs.Ratio.{usualLists}
 use Rattle.door.specs.Job.{Job, jobOf, elementCount}
 use Rattle.door.specs.Whole.{element-within}
 use Rattle.account_sheet.specs.Tell as tell
@@ -9,7 +10,7 @@ use Rattle.account_sheet.proofs.tell_lists.Tie as tie
 
 abbrev job : tie.Start → Job
 job a =
-    jobOf (a .args .em) (a .args .measure) (a .args .class .now) (a .args .width .now) (a .args .before .now) (a .args .after .now) (a .args .flag .now) (a .args .rclass .now) (a .args .rwidth .now) (a .args .kind .now) (a .args .ebase .now) (a .args .eruby .now) (a .args .runs .now)
+    jobOf (a .args .em) (a .args .measure) usualLists (a .args .class .now) (a .args .width .now) (a .args .before .now) (a .args .after .now) (a .args .flag .now) (a .args .rclass .now) (a .args .rwidth .now) (a .args .kind .now) (a .args .ebase .now) (a .args .eruby .now) (a .args .runs .now)
 
 counted : (c : tie.After-element-count) → c .element-count .result ≡ elementCount (job (c .before .before .before .before .before .before .before .before .before .before .before .before .before .before .before .before .before .before .before .before .before .before .before .before .before .before .before .before .before))
 unfolding elementCount

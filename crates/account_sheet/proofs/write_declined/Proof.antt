@@ -2,6 +2,7 @@
 use mathlib.Core.Path.{_≡_, sym, _∙_}
 use Rattle.text.specs.Written.{then}
 use Rattle.refusal.specs.Refusal.{numberOf, placeOf}
+use Rattle.spread.specs.Ratio.{usualLists}
 use Rattle.door.specs.Job.{Job, jobOf, baseCount}
 use Rattle.result.specs.Short.{refusal-short}
 use Rattle.shortest.specs.Needed.{needed}
@@ -23,7 +24,7 @@ written c = c .before .before .before
 abbrev job : tie.Start → Job
 job a =
     let x = a .args in
-    jobOf (x .em) (x .measure) (x .class .now) (x .width .now) (x .before .now) (x .after .now) (x .flag .now) (x .rclass .now)
+    jobOf (x .em) (x .measure) usualLists (x .class .now) (x .width .now) (x .before .now) (x .after .now) (x .flag .now) (x .rclass .now)
     (x .rwidth .now) (x .kind .now) (x .ebase .now) (x .eruby .now) (x .runs .now)
 
 -- a line is declined

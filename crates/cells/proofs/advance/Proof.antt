@@ -7,21 +7,10 @@ use Prim.Native.Nat.{ℕ, _+_, _≤_}
 use native.Mathlib.Omega.{arith}
 use Rattle.line.specs.declared.State.{State}
 use Rattle.line.specs.Setting.{furthest, total}
-use Rattle.cells.specs.Cells.{cellAt, part, wordAt, elementOf, piece, stepOf, stepAt, Advances}
+use Rattle.cells.specs.Cells.{cellAt, elementOf, stepOf, stepAt, Advances}
+use Rattle.cells.specs.Sound.{cut-word, whole-word, fits}
 use Rattle.cells.proofs.advance.Statement.{statement}
 use Rattle.cells.proofs.advance.Tie as tie
-
--- the word of a row that is cut, and of one that is not
-cut-word : (em : ℕ) (t : List ℕ) (i c : ℕ) → cellAt t i .cut ≡ true → wordAt em t i c ≡ part em t i c
-unfolding wordAt
-cut-word em t i c e = rw e
-
-whole-word : (em : ℕ) (t : List ℕ) (i c : ℕ) → cellAt t i .cut ≡ false → wordAt em t i c ≡ cellAt t i .word
-unfolding wordAt
-whole-word em t i c e = rw e
-
-fits : (em : ℕ) (t : List ℕ) (st : State) (i c : ℕ) → Advances em t st i c → furthest st + total (piece em t i c) ≤ 4294967295
-fits em t st i c a = omega (arith, a .short, a .near)
 
 -- a word without ruby is no longer than its block
 plain-fits : (em : ℕ) (t : List ℕ) (st : State) (i c : ℕ) → Advances em t st i c → cellAt t i .cut ≡ false → furthest st + cellAt t i .word .len ≤ 4294967295

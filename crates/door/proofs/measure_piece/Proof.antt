@@ -64,7 +64,7 @@ part-measure-end-4 : tie.Need-part-measure-end-4
 part-measure-end-4 c = search needs
 
 mul-measure-5 : tie.Need-mul-measure-5
-mul-measure-5 c = search needs
+mul-measure-5 c = omega (arith, c .before .before .before .before .before .before .before .before .before .before .before .before .before .before .pre .1)
 
 sub-measure-5 : tie.Need-sub-measure-5
 sub-measure-5 c = search needs
@@ -76,7 +76,7 @@ part-measure-end-5 : tie.Need-part-measure-end-5
 part-measure-end-5 c = search needs
 
 mul-measure-6 : tie.Need-mul-measure-6
-mul-measure-6 c = search needs
+mul-measure-6 c = omega (arith, c .before .before .before .before .before .before .before .before .before .before .before .before .before .before .before .pre .1)
 
 sub-measure-6 : tie.Need-sub-measure-6
 sub-measure-6 c = search needs
@@ -88,22 +88,26 @@ part-measure-end-6 : tie.Need-part-measure-end-6
 part-measure-end-6 c = search needs
 
 mul-measure-7 : tie.Need-mul-measure-7
-mul-measure-7 c = search needs
+mul-measure-7 c = omega (arith, c .before .before .before .before .before .before .before .before .before .before .before .before .before .before .before .before .pre .0)
 
 sub-measure-7 : tie.Need-sub-measure-7
-sub-measure-7 c = search needs
+sub-measure-7 c = omega (arith, c .before .before .before .before .before .before .runs-end .ensures)
 
 part-measure-start-7 : tie.Need-part-measure-start-7
-part-measure-start-7 c = search needs
+part-measure-start-7 c = omega (arith, c .before .before .before .before .before .before .runs-end .ensures)
 
 part-measure-end-7 : tie.Need-part-measure-end-7
-part-measure-end-7 c = omega (arith, c .before .before .before .before .before .before .runs-end .ensures, c .before .before .before .before .before .before .before .before .before .before .before .before .before .before .before .before .pre .1 .run)
+part-measure-end-7 c = omega (arith, c .before .before .before .before .before .before .runs-end .ensures, c .before .before .before .before .before .before .before .before .before .before .before .before .before .before .before .before .pre .2 .run)
 
 measure-requires : tie.Need-measure-requires
-measure-requires c κs = rw (c .before .before .before .before .before .before .before .runs-end .ensures) (lent-sized _ (c .before .before .before .before .before .before .before .before .before .before .before .before .before .before .before .before .before .args .p) (c .before .before .before .before .before .before .before .before .before .before .before .before .before .before .before .before .before .pre .1))
+measure-requires c κs =
+    let s = c .before .before .before .before .before .before .before .before .before .before .before .before .before .before .before .before .before in
+    (rw (c .before .before .before .before .before .before .before .runs-end .ensures) (lent-sized _ (s .args .p) (s .pre .2)), s .pre .3)
 
 returns : tie.Need-returns
-returns c = c .measure .ensures ∙ rw (c .before .before .before .before .before .before .before .before .runs-end .ensures) (lent-answer (c .before .before .before .before .before .before .before .before .before .before .before .before .before .before .before .before .before .before .args .k) _ (c .before .before .before .before .before .before .before .before .before .before .before .before .before .before .before .before .before .before .args .p) (c .before .before .before .before .before .before .before .before .before .before .before .before .before .before .before .before .before .before .pre .1))
+returns c =
+    let s = c .before .before .before .before .before .before .before .before .before .before .before .before .before .before .before .before .before .before in
+    c .measure .ensures ∙ rw (c .before .before .before .before .before .before .before .before .runs-end .ensures) (lent-answer (s .args .k) _ (s .args .p) (s .pre .2))
 
 pub measure-piece-spec : {M : Type 1} → statement M
 measure-piece-spec =

@@ -35,7 +35,7 @@ told : (c : tie.After-extent-of Inv-loop μ-loop) →
     let l = c .before .before .before in
     let a = l .before .before .before .args in
     c .extent-of .result ≡ extentUpto (a .em) (a .t .now) (a .st) (a .i) (a .i + l .loop .k)
-told c = c .extent-of .ensures ∙ ap (λ z. furthest (z .st)) (c .before .advance .ensures)
+told c = c .extent-of .ensures ∙ ap (λ z. furthest (z .st)) (c .before .advance-cut .ensures)
 
 most-within-requires : tie.Need-most-within-requires Inv-loop μ-loop
 most-within-requires c κs =
@@ -50,11 +50,11 @@ loop-holds c =
     rw (c .most-within .ensures)
     (omega arith, most (x .em) (x .limit) (x .t .now) (x .st) (x .i) (x .bases) (a .pre .2) (a .pre .0 .sound .wide (x .i) (a .pre .0 .inside) (a .pre .2)) (x .last))
 
-add-advance : tie.Need-add-advance Inv-loop μ-loop
-add-advance c = omega (arith, c .before .loop .inv .0, some (c .before .before .before .before))
+add-advance-cut : tie.Need-add-advance-cut Inv-loop μ-loop
+add-advance-cut c = omega (arith, c .before .loop .inv .0, some (c .before .before .before .before))
 
-advance-requires : tie.Need-advance-requires Inv-loop μ-loop
-advance-requires c κs = inside c
+advance-cut-requires : tie.Need-advance-cut-requires Inv-loop μ-loop
+advance-cut-requires c κs = (c .before .before .before .before .pre .2, inside c)
 
 extent-of-requires : tie.Need-extent-of-requires Inv-loop μ-loop
 extent-of-requires c κs = search needs
@@ -100,8 +100,8 @@ within-spec =
     μ-loop
     most-within-requires
     loop-holds
-    add-advance
-    advance-requires
+    add-advance-cut
+    advance-cut-requires
     extent-of-requires
     add-t14
     returns

@@ -20,7 +20,7 @@ use Rattle.layout.proofs.lay_word.Tie as tie
 abbrev job : tie.Start → Job
 job a =
     let x = a .args in
-    jobOf (x .em) 0 (x .class .now) (x .width .now) (x .before .now) (x .after .now) (x .flag .now) (x .rclass .now) (x .rwidth .now) (x .kind .now) (x .ebase .now) (x .eruby .now) (x .runs .now)
+    jobOf (x .em) 0 (x .ratios) (x .class .now) (x .width .now) (x .before .now) (x .after .now) (x .flag .now) (x .rclass .now) (x .rwidth .now) (x .kind .now) (x .ebase .now) (x .eruby .now) (x .runs .now)
 
 never : {w : Word} {r : Refusal} → Set w ≡ Refused r → ⊥
 never e = let z : _≡_ {A = ℕ} 0 1 = cc in omega arith
@@ -100,9 +100,12 @@ measure-piece-requires c κs =
     let k = c .before .before in
     let a = start (k .before .before .before) in
     let x = a .args in
-    let p = k .before .counted .given .0 .0 in (
-      one.small (x .bases) (x .rubies) (job a) (x .k) (x .b) (x .r) (x .u) (x .t .now) (a .pre) p (is k) .2,
+    let p = k .before .counted .given .0 .0 in
+    let s = one.small (x .bases) (x .rubies) (job a) (x .k) (x .b) (x .r) (x .u) (x .t .now) (a .pre) p (is k) in (
+      s .2,
+      s .1,
       one.own (x .bases) (x .rubies) (job a) (x .k) (x .b) (x .r) (x .u) (x .t .now) (a .pre) p (is k) (supplied c),
+      a .pre .house,
     )
 
 enum-known-answer : tie.Need-enum-known-answer

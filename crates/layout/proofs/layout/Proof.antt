@@ -4,6 +4,8 @@ use mathlib.Core.Bool.{Bool, true, false, _||_}
 use mathlib.Core.List.{List, _++_}
 use Prim.Native.Nat.{ℕ, _+_, _-_, _≤_, _<_}
 use lib.Dec.{ltb}
+use lib.ListN.{length}
+use Rattle.cells.specs.Put.{length-headed}
 use borrow.Author.Needs.{needs}
 use native.Mathlib.Omega.{arith}
 use Rattle.refusal.specs.declared.Refusal.{Refusal}
@@ -25,25 +27,32 @@ use Rattle.layout.proofs.layout.Statement.{statement}
 use Rattle.layout.proofs.layout.Tie as tie
 
 abbrev Inv-loop : tie.InvT-loop
-Inv-loop t₀ em class width before after flag rclass rwidth kind ebase eruby runs elements bases rubies k₀ b₀ r₀ u₀ t k b r u =
-    Walking (jobOf em 0 class width before after flag rclass rwidth kind ebase eruby runs) t₀ t k b r u
+Inv-loop t₀ em ratios class width before after flag rclass rwidth kind ebase eruby runs elements bases rubies k₀ b₀ r₀ u₀ t k b r u =
+    Walking (jobOf em 0 ratios class width before after flag rclass rwidth kind ebase eruby runs) t₀ t k b r u
 
 abbrev μ-loop : tie.MeasureT-loop
-μ-loop t₀ em class width before after flag rclass rwidth kind ebase eruby runs elements bases rubies k₀ b₀ r₀ u₀ t k b r u =
+μ-loop t₀ em ratios class width before after flag rclass rwidth kind ebase eruby runs elements bases rubies k₀ b₀ r₀ u₀ t k b r u =
     elements - k
 
 -- the job that the lists are
 abbrev job : tie.Start Inv-loop μ-loop → Job
 job a =
     let x = a .args in
-    jobOf (x .em) 0 (x .class .now) (x .width .now) (x .before .now) (x .after .now) (x .flag .now) (x .rclass .now) (x .rwidth .now) (x .kind .now) (x .ebase .now) (x .eruby .now) (x .runs .now)
+    jobOf (x .em) 0 (x .ratios) (x .class .now) (x .width .now) (x .before .now) (x .after .now) (x .flag .now) (x .rclass .now) (x .rwidth .now) (x .kind .now) (x .ebase .now) (x .eruby .now) (x .runs .now)
 
 -- where the walk began, and its counts
 abbrev counts : tie.At-loop Inv-loop μ-loop → tie.After-ruby-count Inv-loop μ-loop
 counts l = l .before
 
 abbrev start : tie.At-loop Inv-loop μ-loop → tie.Start Inv-loop μ-loop
-start l = counts l .before .before .before .before .before .before .before .before .before .before .before .before .before .before .before
+start l = counts l .before .before .before .before .before .before .before .before .before .before .before .before .before .before .before .before .before .before .before
+
+-- the table as the walk finds it, with its head
+abbrev headedTable : tie.At-loop Inv-loop μ-loop → List ℕ
+headedTable l = counts l .before .before .before .before .before .put-ratios .last .0
+
+long : (l : tie.At-loop Inv-loop μ-loop) → length (headedTable l) ≡ length (start l .args .t .now)
+long l = ap length (counts l .before .before .before .before .before .put-ratios .ensures) ∙ length-headed (start l .args .t .now) (job (start l) .ratios)
 
 bases-are : (l : tie.At-loop Inv-loop μ-loop) → counts l .before .base-count .result ≡ baseCount (job (start l))
 unfolding baseCount
@@ -63,7 +72,7 @@ before-end c = omega (arith, c .loop-test .taken, elements-are (c .before))
 at : (c : tie.In-loop Inv-loop μ-loop) → let l = c .before in let j = job (start l) in Stands (baseCount j) (rubyCount j) j (l .loop .k) (l .loop .b) (l .loop .r) (l .loop .u)
 at c =
     let l = c .before in
-    walk.stands (job (start l)) (start l .args .t .now) (l .loop .t) (l .loop .k) (l .loop .b) (l .loop .r) (l .loop .u) (l .loop .inv) (before-end c)
+    walk.stands (job (start l)) (headedTable l) (l .loop .t) (l .loop .k) (l .loop .b) (l .loop .r) (l .loop .u) (l .loop .inv) (before-end c)
 
 refused-passed : {q : Refusal} → Refused q ≡ Passed → ⊥
 refused-passed e = let z : _≡_ {A = ℕ} 0 1 = cc in omega arith
@@ -125,6 +134,9 @@ on c =
     let j = job (start l) in
     loop.along-next (baseCount j) (rubyCount j) j (elementCount j) (l .loop .k) (l .loop .b) (l .loop .r) (l .loop .u) (before-end i) (l .loop .inv .along) (at i) (went c)
 
+put-ratios-requires : tie.Need-put-ratios-requires Inv-loop μ-loop
+put-ratios-requires c κs = let a = c .before .before .before .before .before .before .before .before .before .before .before .before .before in omega (arith, a .pre .room)
+
 element-count-requires : tie.Need-element-count-requires Inv-loop μ-loop
 element-count-requires c κs = search needs
 
@@ -136,8 +148,9 @@ ruby-count-requires c κs = search needs
 
 loop-holds : tie.Need-loop-holds Inv-loop μ-loop
 loop-holds c =
-    let a = c .before .before .before .before .before .before .before .before .before .before .before .before .before .before .before in
-    walk.walking-first (job a) (a .args .t .now) (a .pre)
+    let h = c .before .before .before .before .before in
+    let a = h .before .before .before .before .before .before .before .before .before .before .before .before .before .before in
+    subst (λ t. Walking (job a) t t 0 0 0 0) (sym (h .put-ratios .ensures)) (walk.walking-first (job a) (a .args .t .now) (a .pre))
 
 mul-if1 : tie.Need-mul-if1 Inv-loop μ-loop
 mul-if1 c = omega (arith, at c .index)
@@ -145,11 +158,11 @@ mul-if1 c = omega (arith, at c .index)
 shared-slice-read-if1 : tie.Need-shared-slice-read-if1 Inv-loop μ-loop
 shared-slice-read-if1 c = at (c .before) .kind
 
-cast-t28 : tie.Need-cast-t28 Inv-loop μ-loop
-cast-t28 c = omega (arith, at (c .before .before .before) .index)
+cast-t32 : tie.Need-cast-t32 Inv-loop μ-loop
+cast-t32 c = omega (arith, at (c .before .before .before) .index)
 
 same-length : tie.Need-same-length Inv-loop μ-loop
-same-length c = c .before .before .before .before .loop .inv .long
+same-length c = let l = c .before .before .before .before in l .loop .inv .long ∙ long l
 
 returns : tie.Need-returns Inv-loop μ-loop
 returns c =
@@ -165,7 +178,7 @@ put-plain-requires c κs =
     let e = c .before in
     let i = e .before .before .before in
     let l = i .before in
-    walk.plain-ready (job (start l)) (start l .args .t .now) (l .loop .t) (l .loop .k) (l .loop .b) (l .loop .r) (l .loop .u) (l .loop .inv) (before-end i) (e .before .if1 .taken) (left e)
+    walk.plain-ready (job (start l)) (headedTable l) (l .loop .t) (l .loop .k) (l .loop .b) (l .loop .r) (l .loop .u) (l .loop .inv) (before-end i) (e .before .if1 .taken) (left e)
 
 add-b : tie.Need-add-b Inv-loop μ-loop
 add-b c =
@@ -191,7 +204,7 @@ loop-again c =
     let e = put .before .before in
     let i = e .before .before .before in
     let l = i .before in
-    walk.walking-plain (job (start l)) (start l .args .t .now) (l .loop .t) (l .loop .k) (l .loop .b) (l .loop .r) (l .loop .u) (l .loop .inv) (before-end i) (e .before .if1 .taken) (left e)
+    walk.walking-plain (job (start l)) (headedTable l) (l .loop .t) (l .loop .k) (l .loop .b) (l .loop .r) (l .loop .u) (l .loop .inv) (before-end i) (e .before .if1 .taken) (left e)
     (put .put-plain .last .0) (put .put-plain .ensures)
 
 lay-word-requires : tie.Need-lay-word-requires Inv-loop μ-loop
@@ -200,7 +213,7 @@ lay-word-requires c κs =
     let i = e .before .before in
     let l = i .before in
     counted l
-    (walk.standing (job (start l)) (start l .args .t .now) (l .loop .t) (l .loop .k) (l .loop .b) (l .loop .r) (l .loop .u) (l .loop .inv) (before-end i) (e .if1 .left))
+    (walk.standing (job (start l)) (headedTable l) (l .loop .t) (l .loop .k) (l .loop .b) (l .loop .r) (l .loop .u) (l .loop .inv) (before-end i) (e .if1 .left))
 
 enum-known-why : tie.Need-enum-known-why Inv-loop μ-loop
 enum-known-why c = search needs
@@ -208,7 +221,8 @@ enum-known-why c = search needs
 same-length-2 : tie.Need-same-length-2 Inv-loop μ-loop
 same-length-2 c =
     let w = c .before .before .before .before .before in
-    stepped w .long ∙ w .before .before .before .before .before .loop .inv .long
+    let l = w .before .before .before .before .before in
+    stepped w .long ∙ l .loop .inv .long ∙ long l
 
 returns-2 : tie.Need-returns-2 Inv-loop μ-loop
 returns-2 c =
@@ -249,8 +263,8 @@ loop-again-2 c =
     let run = loop.run-same (baseCount j) (rubyCount j) j (elementCount j) (l .loop .k) (l .loop .b) (l .loop .r) (l .loop .u) (before-end i) (l .loop .inv .along) (at i) (went p) in
     let x = p .before .p .given .0 .0 in
     next (c .runs-end .ensures ∙ ap (λ n. n + takesRuns (x .form) (x .bases)) run)
-    (subst (λ z. Walking j (start l .args .t .now) (w .lay-word .last .0) (l .loop .k + 1) (l .loop .b + z .bases) (l .loop .r + z .rubies) (l .loop .u + takesRuns (z .form) (z .bases))) (sym same)
-    (walk.walking-next j (start l .args .t .now) (l .loop .t) (l .loop .k) (l .loop .b) (l .loop .r) (l .loop .u) (l .loop .inv) (before-end i) (w .lay-word .last .0)
+    (subst (λ z. Walking j (headedTable l) (w .lay-word .last .0) (l .loop .k + 1) (l .loop .b + z .bases) (l .loop .r + z .rubies) (l .loop .u + takesRuns (z .form) (z .bases))) (sym same)
+    (walk.walking-next j (headedTable l) (l .loop .t) (l .loop .k) (l .loop .b) (l .loop .r) (l .loop .u) (l .loop .inv) (before-end i) (w .lay-word .last .0)
     (stepped w .laid x (p .before .p .given .1))
     (subst (λ z. Along (baseCount j) (rubyCount j) j (elementCount j) (l .loop .k + 1) (l .loop .b + z .bases) (l .loop .r + z .rubies) (l .loop .u + takesRuns (z .form) (z .bases))) same (on p))))
   where
@@ -272,13 +286,13 @@ ended c =
 left-over-requires : tie.Need-left-over-requires Inv-loop μ-loop
 left-over-requires c κs = search needs
 
-cast-t37 : tie.Need-cast-t37 Inv-loop μ-loop
-cast-t37 c =
+cast-t41 : tie.Need-cast-t41 Inv-loop μ-loop
+cast-t41 c =
     let l = c .before .before .before in
     omega (arith, elements-are l, l .loop .inv .ready .fewElements)
 
 same-length-3 : tie.Need-same-length-3 Inv-loop μ-loop
-same-length-3 c = c .before .before .before .loop .inv .long
+same-length-3 c = let l = c .before .before .before in l .loop .inv .long ∙ long l
 
 returns-3 : tie.Need-returns-3 Inv-loop μ-loop
 returns-3 c =
@@ -290,7 +304,7 @@ returns-3 c =
     )
 
 same-length-4 : tie.Need-same-length-4 Inv-loop μ-loop
-same-length-4 c = c .before .before .before .loop .inv .long
+same-length-4 c = let l = c .before .before .before in l .loop .inv .long ∙ long l
 
 returns-4 : tie.Need-returns-4 Inv-loop μ-loop
 returns-4 c =
@@ -299,7 +313,7 @@ returns-4 c =
     let l = e .before in
     let j = job (start l) in (
       subst (λ z. verdict (Supply (elementCount j) when z) ≡ verdict (elementsFaults j 0 (elements j) ++ leftFaults j)) (c .if3 .left) (ended lo),
-      λ _. walk.walking-end j (start l .args .t .now) (l .loop .t) (l .loop .k) (l .loop .b) (l .loop .r) (l .loop .u) (l .loop .inv) (omega (arith, e .loop-test .left, elements-are l)),
+      λ _. walk.walking-end j (headedTable l) (l .loop .t) (l .loop .k) (l .loop .b) (l .loop .r) (l .loop .u) (l .loop .inv) (omega (arith, e .loop-test .left, elements-are l)),
     )
 
 pub layout-spec : {M : Type 1} → statement M
@@ -308,13 +322,14 @@ layout-spec =
     (tie.spec
     Inv-loop
     μ-loop
+    put-ratios-requires
     element-count-requires
     base-count-requires
     ruby-count-requires
     loop-holds
     mul-if1
     shared-slice-read-if1
-    cast-t28
+    cast-t32
     same-length
     returns
     put-plain-requires
@@ -334,7 +349,7 @@ layout-spec =
     loop-less-2
     loop-again-2
     left-over-requires
-    cast-t37
+    cast-t41
     same-length-3
     returns-3
     same-length-4

@@ -1,4 +1,5 @@
 -- The entry point's answer decides which text is written. A refusal's is the text of the refusal that the list gives; an accepted job can be printed, and what is printed are its own positions.
+use Rattle.spread.specs.Ratio.{usualLists}
 use Rattle.door.specs.Job.{Job, jobOf}
 use borrow.Author.Needs.{needs}
 use native.Mathlib.Omega.{arith}
@@ -11,7 +12,7 @@ use Rattle.setter.proofs.set_lists.Tie as tie
 abbrev job : tie.Start → Job
 job a =
     let x = a .args in
-    jobOf (x .em) (x .measure) (x .class .now) (x .width .now) (x .before .now) (x .after .now) (x .flag .now) (x .rclass .now) (x .rwidth .now) (x .kind .now) (x .ebase .now) (x .eruby .now) (x .runs .now)
+    jobOf (x .em) (x .measure) usualLists (x .class .now) (x .width .now) (x .before .now) (x .after .now) (x .flag .now) (x .rclass .now) (x .rwidth .now) (x .kind .now) (x .ebase .now) (x .eruby .now) (x .runs .now)
 
 abbrev start : tie.After-set-table → tie.Start
 start c = c .before .before .before .before .before .before .before .before .before .before .before .before .before .before .before .before .before .before .before .before .before .before

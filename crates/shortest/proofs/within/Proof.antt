@@ -25,14 +25,14 @@ loop-holds c =
     let x = a .args in
     (omega arith, omega (arith, some a), sym (inner-none (x .em) (x .t .now) (x .st) (x .i) (x .least) 0 refl))
 
-add-advance : tie.Need-add-advance Inv-loop μ-loop
-add-advance c = omega (arith, c .loop-test .taken, some (c .before .before .before))
+add-advance-cut : tie.Need-add-advance-cut Inv-loop μ-loop
+add-advance-cut c = omega (arith, c .loop-test .taken, some (c .before .before .before))
 
-advance-requires : tie.Need-advance-requires Inv-loop μ-loop
-advance-requires c κs =
+advance-cut-requires : tie.Need-advance-cut-requires Inv-loop μ-loop
+advance-cut-requires c κs =
     let l = c .before in
     let a = l .before .before in
-    goes (a .pre .0) (a .args .i + l .loop .k) (omega (arith, l .loop .inv .0)) (omega (arith, c .loop-test .taken, a .pre .1))
+    (a .pre .2, goes (a .pre .0) (a .args .i + l .loop .k) (omega (arith, l .loop .inv .0)) (omega (arith, c .loop-test .taken, a .pre .1)))
 
 lesser-requires : tie.Need-lesser-requires Inv-loop μ-loop
 lesser-requires c κs = search needs
@@ -52,7 +52,7 @@ loop-again c =
     let k = l .loop .k in (
       omega arith,
       omega (arith, b .loop-test .taken),
-      rw (c .lesser .ensures, c .before .advance .ensures, l .loop .inv .2)
+      rw (c .lesser .ensures, c .before .advance-cut .ensures, l .loop .inv .2)
           (sym (inner-next (x .em) (x .t .now) (x .st) (x .i) (x .least) (a .pre .2) k (k - 1) (omega (arith, l .loop .inv .0)))
           ∙ ap (innerLeast (x .em) (x .t .now) (x .st) (x .i) (x .least)) (omega arith)),
     )
@@ -70,8 +70,8 @@ within-spec =
     Inv-loop
     μ-loop
     loop-holds
-    add-advance
-    advance-requires
+    add-advance-cut
+    advance-cut-requires
     lesser-requires
     add-k
     loop-less

@@ -59,7 +59,10 @@ script-of-requires : tie.Need-script-of-requires
 script-of-requires c κs = search needs
 
 jukugo-of-requires : tie.Need-jukugo-of-requires
-jukugo-of-requires c κs = (c .before .before .before .before .before .before .before .before .before .before .before .before .before .before .before .before .before .before .pre .0, c .before .before .before .before .before .before .before .before .before .before .before .before .before .before .before .before .before .before .pre .1, all-least (c .before .before .before .before .before .before .before .before .before .before .before .before .before .before .before .before .before .before .args .em) (c .before .before .before .before .before .before .before .before .before .before .before .before .before .before .before .before .before .before .args .bs .now) (sum-some (c .before .before .before .before .before .before .before .before .before .before .before .before .before .before .before .before .before .before .args .bs .now) (c .before .before .before .before .before .before .before .before .before .before .before .before .before .before .before .before .before .before .pre .0 .some)) (sym (c .before .before .before .before .before .any-but .ensures) ∙ c .before .before .before .before .if3 .left))
+jukugo-of-requires c κs =
+    let s = c .before .before .before .before .before .before .before .before .before .before .before .before .before .before .before .before .before .before in
+    let ems = sym (c .before .before .before .before .before .any-but .ensures) ∙ c .before .before .before .before .if3 .left in
+    (s .pre .0, s .pre .1, all-least (s .args .em) (s .args .bs .now) (sum-some (s .args .bs .now) (s .pre .0 .some)) ems, s .pre .2)
 
 returns-5 : tie.Need-returns-5
 unfolding answer wordOf mixOf

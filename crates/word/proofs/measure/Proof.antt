@@ -20,19 +20,21 @@ enum-told-2 : tie.Need-enum-told-2
 enum-told-2 c = search needs
 
 mono-answer-requires : tie.Need-mono-answer-requires
-mono-answer-requires c κs = small _ _ _ _ (rw (c .enum-told2 .given .1)) (c .before .before .before .before .before .before .before .before .before .pre)
+mono-answer-requires c κs = let p = c .before .before .before .before .before .before .before .before .before .pre in (small _ _ _ _ (rw (c .enum-told2 .given .1)) (p .0), p .1)
 
 enum-told-3 : tie.Need-enum-told-3
 enum-told-3 c = search needs
 
 group-answer-requires : tie.Need-group-answer-requires
-group-answer-requires c κs = small _ _ _ _ (rw (c .enum-told3 .given .1)) (c .before .before .before .before .before .before .before .before .before .pre)
+group-answer-requires c κs = let p = c .before .before .before .before .before .before .before .before .before .pre in (small _ _ _ _ (rw (c .enum-told3 .given .1)) (p .0), p .1)
 
 enum-told-4 : tie.Need-enum-told-4
 enum-told-4 c = search needs
 
 jukugo-answer-requires : tie.Need-jukugo-answer-requires
-jukugo-answer-requires c κs = (small _ _ _ _ (rw (c .enum-told4 .given .1)) (c .before .before .before .before .before .before .before .before .before .pre), omega (arith, c .before .before .before .before .before .before .before .before .before .pre .whole (rw (c .enum-told4 .given .1))))
+jukugo-answer-requires c κs =
+    let p = c .before .before .before .before .before .before .before .before .before .pre in
+    (small _ _ _ _ (rw (c .enum-told4 .given .1)) (p .0), omega (arith, p .0 .whole (rw (c .enum-told4 .given .1))), p .1)
 
 returns : tie.Need-returns
 unfolding answer wordOf

@@ -2,6 +2,7 @@
 use mathlib.Core.Path.{sym, _∙_}
 use Rattle.basics.specs.Laws.{sum-some}
 use Rattle.word.specs.Numbers.{word-from}
+use native.Mathlib.Omega.{arith}
 use borrow.Author.Needs.{needs}
 use Rattle.word.proofs.word_by.Statement.{statement}
 use Rattle.word.proofs.word_by.Tie as tie
@@ -21,15 +22,20 @@ cast-m c = search needs
 word-from-requires : tie.Need-word-from-requires
 word-from-requires c κs =
     let s = c .before .before .before .before in
-    record {
-      some = sum-some (s .args .bs .now) (s .pre .some);
-      narrow = rw (c .before .sum-of .ensures) (s .pre .narrow);
-      reads = s .pre .reads;
-      narrowRuby = rw (c .sum-of2 .ensures) (s .pre .narrowRuby);
-    }
+    let p = s .pre .0 in (
+      record {
+        some = sum-some (s .args .bs .now) (p .some);
+        few = omega (arith, p .few);
+        narrow = rw (c .before .sum-of .ensures) (p .narrow);
+        reads = p .reads;
+        fewRuby = omega (arith, p .fewRuby);
+        narrowRuby = rw (c .sum-of2 .ensures) (p .narrowRuby);
+      },
+      s .pre .1,
+    )
 
 returns : tie.Need-returns
-returns c = c .word-from .ensures ∙ rw (c .before .before .sum-of .ensures, c .before .sum-of2 .ensures) (sym (word-from _ _ _ _ _))
+returns c = c .word-from .ensures ∙ rw (c .before .before .sum-of .ensures, c .before .sum-of2 .ensures) (sym (word-from _ _ _ _ _ _))
 
 pub word-by-spec : {M : Type 1} → statement M
 word-by-spec = tie.close (tie.spec sum-of-requires sum-of-requires-2 cast-n cast-m word-from-requires returns)

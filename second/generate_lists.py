@@ -1,0 +1,246 @@
+"""Jobs in lists from a seed: what no sheet can show.
+
+The jobs are those of generated sheets, by ratios of every sort.  Some of them
+are altered: lists of unequal lengths, spare runs, counts that are not read,
+unknown kinds, counts over their maximum, result lists that are too short.  As
+in generate.py only randrange and choice are used.
+"""
+
+import os
+import random
+import sys
+
+sys.path.insert(0, os.path.dirname(os.path.abspath(__file__)))
+
+import generate     # noqa: E402  (found through the path set above)
+import second       # noqa: E402
+from account import ROW  # noqa: E402
+from generate import TOO_BIG, clip, pick  # noqa: E402
+from lists import ACCOUNT, GIVEN, RESULTS, SET, Call  # noqa: E402
+
+FRESH = 32768   # numbers from which the result lists are filled
+
+# The lists of base characters, of ruby characters and of elements.
+GROUPS = ((0, 1, 2, 3, 4), (5, 6), (7, 8, 9))
+MOST = (1024, 2048, 1024)
+
+
+# ---------------------------------------------------------------------------
+# Ratios
+# ---------------------------------------------------------------------------
+
+ALL = [(a, m, c) for a in range(9) for m in range(9) for c in range(9)]
+BAD = [ratio for ratio in ALL if 8 in ratio or not any(ratio)]
+SOUND = [ratio for ratio in ALL if ratio not in BAD]
+
+
+class Ratios:
+    """The ratios of ruby, or of base.
+
+    Some are common, and every one with numbers from 0 to 8 has its turn.
+    """
+
+    def __init__(self, rng):
+        self.rng = rng
+        self.left = {'sound': [], 'bad': []}
+
+    def in_turn(self, name, ratios):
+        left = self.left[name]
+        if not left:
+            left += ratios
+        return left.pop(self.rng.randrange(len(left)))
+
+    def sound(self):
+        """Three numbers from 0 to 7, not all of them 0."""
+        rng = self.rng
+        way = pick(rng, (8, '1:2:1'), (4, '0:0:1'), (2, '1:0:0'),
+                   (2, '1:3:1'), (2, '0:m:0'), (6, 'a:0:c'), (4, '0:m:c'),
+                   (4, 'a:m:0'), (28, 'in turn'))
+        if way == 'in turn':
+            return self.in_turn('sound', SOUND)
+        numbers = {'a': 1 + rng.randrange(7), 'm': 1 + rng.randrange(7),
+                   'c': 1 + rng.randrange(7)}
+        return tuple(numbers[name] if name in numbers else int(name)
+                     for name in way.split(':'))
+
+    def bad(self):
+        """A number over 7, or three that are 0."""
+        way = pick(self.rng, (5, 'in turn'), (1, 'zeros'), (1, 'great'))
+        if way == 'in turn':
+            return self.in_turn('bad', BAD)
+        if way == 'zeros':
+            return (0, 0, 0)
+        ratio = list(self.rng.choice(SOUND))
+        ratio[self.rng.randrange(3)] = self.rng.choice((9, 256, TOO_BIG))
+        return tuple(ratio)
+
+
+def some_ratios(rng, sides, sound):
+    """The ratios of both sides, or with one of them bad, or both."""
+    bad = () if sound else rng.choice(((0,), (1,), (0, 1)))
+    return tuple(side.bad() if place in bad else side.sound()
+                 for place, side in enumerate(sides))
+
+
+# ---------------------------------------------------------------------------
+# Jobs
+# ---------------------------------------------------------------------------
+
+def add_wide_group(rng, draft):
+    """A group with much space for its ruby: mostly more than the limit."""
+    em = draft.em
+    base = [[rng.choice((19, 19, 19, 27)), em]] * (2 + rng.randrange(6))
+    ruby = [[15, clip(em // 2 + rng.randrange(3), 1, em)]
+            for _ in range(1 + rng.randrange(4))]
+    draft.add(base, ruby, ['G', len(base), len(ruby)])
+
+
+def words(rng):
+    """A few words, mostly groups and jukugo, in one line or cut."""
+    draft = generate.Draft(generate.some_em(rng))
+    for _ in range(1 + rng.randrange(4)):
+        pick(rng, (1, generate.add_plain), (1, generate.add_mono),
+             (5, generate.add_group), (3, generate.add_jukugo),
+             (2, generate.add_long_group), (2, add_wide_group))(rng, draft)
+    generate.put_flags(rng, draft)
+    generate.put_measure(rng, draft)
+    return draft.text()
+
+
+def some_sheet(rng):
+    """The mixture of generate.py without what is no job."""
+    return pick(rng, (400, words), (300, generate.sound),
+                (40, generate.opening), (20, generate.later),
+                (60, generate.tight), (220, generate.one_fault),
+                (60, generate.two_faults), (60, generate.meeting_faults),
+                (10, generate.spare), (4, generate.great),
+                (2, generate.great_plain), (3, generate.great_words),
+                (3, generate.great_wide))(rng)
+
+
+def read_job(rng):
+    """(em, measure, lists) of the next sheet that is a job."""
+    while True:
+        try:
+            em, measure, _, *given = second.read_sheet(some_sheet(rng))
+        except second.Refused:
+            continue
+        return em, measure, given
+
+
+# ---------------------------------------------------------------------------
+# What is altered
+# ---------------------------------------------------------------------------
+
+def change_lists(rng, given):
+    """One or two lists cut, extended, or with an odd number in them."""
+    for _ in range(1 + rng.randrange(2)):
+        values = rng.choice(given)
+        way = rng.randrange(3)
+        if way == 0 and values:
+            del values[rng.choice((0, len(values) // 2, len(values) - 1,
+                                   rng.randrange(len(values)))):]
+        elif way == 1:
+            values += [rng.choice((0, 1, 5, 77, TOO_BIG))] * rng.choice(
+                (1, 1, 2, 3, 1024, 2048))
+        elif values:
+            values[rng.randrange(len(values))] = rng.choice(
+                (0, 1, 2, 33, 65, 74, 80, TOO_BIG))
+
+
+def change_not_read(rng, given):
+    """Spare runs, and odd numbers in counts that are not read."""
+    kinds, bases, rubies, runs = given[7:]
+    for place, kind in enumerate(kinds):
+        if kind in (second.P, second.M) and rng.randrange(2) == 0:
+            bases[place] = rng.choice((0, 1, 77, TOO_BIG))
+        if kind in (second.P, second.J) and rng.randrange(2) == 0:
+            rubies[place] = rng.choice((0, 1, 77, TOO_BIG))
+    runs += [rng.choice((0, 1, TOO_BIG))] * rng.randrange(4)
+
+
+def fault_2(rng, given):
+    """A count over its maximum, or just at it, or one list that is not."""
+    for group in rng.choice(((0,), (1,), (2,), (0, 2), (1, 2), (0, 1, 2))):
+        length = MOST[group] + pick(rng, (6, 1), (2, 0), (1, 500))
+        for number in GROUPS[group]:
+            values = given[number]
+            values += [rng.choice((0, 1, 15))] * (length - len(values))
+        if rng.randrange(6) == 0:
+            del given[rng.choice(GROUPS[group])][MOST[group]:]
+
+
+def fault_1(rng, em, measure):
+    return (rng.choice((em, 0, em ^ 1, 4098, TOO_BIG)),
+            rng.choice((measure, 0, 4000001)))
+
+
+def count_of(given, group):
+    """How many base characters, ruby characters or elements there are."""
+    return min(len(given[number]) for number in GROUPS[group])
+
+
+def rooms(rng, needs, most, short):
+    """Lengths of three result lists; short: too little for one or more."""
+    lengths = [clip(rng.choice((need, need, need + 1, need + 5, top)),
+                    need, max(need, top))
+               for need, top in zip(needs, most)]
+    if short:
+        for _ in range(rng.choice((1, 1, 1, 3))):
+            which = rng.randrange(RESULTS)
+            lengths[which] = max(0, rng.choice((
+                needs[which] - 1, needs[which] - 1, needs[which] // 2, 0)))
+    return lengths
+
+
+# ---------------------------------------------------------------------------
+# The calls
+# ---------------------------------------------------------------------------
+
+def some_job(rng, sides):
+    """(em, measure, ratios, lists, whether result lists are too short)
+
+    sides has the Ratios of ruby and of base.
+    """
+    em, measure, given = read_job(rng)
+    way = pick(rng, (64, 'as it is'), (8, 'not read'), (10, 'lists'),
+               (6, 'ratio'), (2, 'count'), (10, 'door'))
+    # At the door some of 1, 15, 2 and 12 meet: their order decides.
+    door = way == 'door'
+    if way == 'not read':
+        change_not_read(rng, given)
+    if way == 'lists':
+        change_lists(rng, given)
+    if door and rng.randrange(2) == 0:
+        em, measure = fault_1(rng, em, measure)
+    bad = way == 'ratio' or door and rng.randrange(4) != 0
+    ratios = some_ratios(rng, sides, not bad)
+    if way == 'count' or door and rng.randrange(3) == 0:
+        fault_2(rng, given)
+    short = rng.randrange(3 if door else 25) == 0
+    return em, measure, ratios, given, short
+
+
+def calls(seed, count):
+    """The first count jobs of a seed: (call of set_job, of account_job)."""
+    rng = random.Random(seed)
+    sides = Ratios(rng), Ratios(rng)
+    fresh = [rng.randrange(TOO_BIG + 1) for _ in range(FRESH)]
+
+    def numbers(length):
+        start = rng.randrange(FRESH - length + 1)
+        return fresh[start:start + length]
+
+    for _ in range(count):
+        em, measure, ratios, given, short = some_job(rng, sides)
+        base, ruby = count_of(given, 0), count_of(given, 1)
+        both = []
+        for which, needs, most in (
+                (SET, (base, ruby, base), (1024, 2048, 1024)),
+                (ACCOUNT, (ROW * base, base, base), (ROW * 1024, 1024, 1024))):
+            results = [numbers(length)
+                       for length in rooms(rng, needs, most, short)]
+            around = numbers(2 + GIVEN + RESULTS + 1)
+            both.append(Call(which, em, measure, ratios, given, results,
+                             around))
+        yield tuple(both)
