@@ -27,18 +27,18 @@ use Rattle.layout.proofs.layout.Statement.{statement}
 use Rattle.layout.proofs.layout.Tie as tie
 
 abbrev Inv-loop : tie.InvT-loop
-Inv-loop t₀ em ratios class width before after flag rclass rwidth kind ebase eruby runs elements bases rubies k₀ b₀ r₀ u₀ t k b r u =
-    Walking (jobOf em 0 ratios class width before after flag rclass rwidth kind ebase eruby runs) t₀ t k b r u
+Inv-loop t₀ em ratios profile class width before after flag rclass rwidth kind ebase eruby runs elements bases rubies k₀ b₀ r₀ u₀ t k b r u =
+    Walking (jobOf em 0 ratios profile class width before after flag rclass rwidth kind ebase eruby runs) t₀ t k b r u
 
 abbrev μ-loop : tie.MeasureT-loop
-μ-loop t₀ em ratios class width before after flag rclass rwidth kind ebase eruby runs elements bases rubies k₀ b₀ r₀ u₀ t k b r u =
+μ-loop t₀ em ratios profile class width before after flag rclass rwidth kind ebase eruby runs elements bases rubies k₀ b₀ r₀ u₀ t k b r u =
     elements - k
 
 -- the job that the lists are
 abbrev job : tie.Start Inv-loop μ-loop → Job
 job a =
     let x = a .args in
-    jobOf (x .em) 0 (x .ratios) (x .class .now) (x .width .now) (x .before .now) (x .after .now) (x .flag .now) (x .rclass .now) (x .rwidth .now) (x .kind .now) (x .ebase .now) (x .eruby .now) (x .runs .now)
+    jobOf (x .em) 0 (x .ratios) (x .profile) (x .class .now) (x .width .now) (x .before .now) (x .after .now) (x .flag .now) (x .rclass .now) (x .rwidth .now) (x .kind .now) (x .ebase .now) (x .eruby .now) (x .runs .now)
 
 -- where the walk began, and its counts
 abbrev counts : tie.At-loop Inv-loop μ-loop → tie.After-ruby-count Inv-loop μ-loop
