@@ -1,9 +1,9 @@
 """Jobs in lists from a seed: what no sheet can show.
 
-The jobs are those of generated sheets, by ratios of every sort.  Some of them
-are altered: lists of unequal lengths, spare runs, counts that are not read,
-unknown kinds, counts over their maximum, result lists that are too short.  As
-in generate.py only randrange and choice are used.
+The jobs are those of generated sheets, by ratios of every sort and by both
+profiles.  Some of them are altered: lists of unequal lengths, spare runs,
+counts that are not read, unknown kinds, counts over their maximum, result lists
+that are too short.  As in generate.py only randrange and choice are used.
 """
 
 import os
@@ -82,6 +82,13 @@ def some_ratios(rng, sides, sound):
                  for place, side in enumerate(sides))
 
 
+def some_profile(rng, sound):
+    """Mostly 1, which lets ruby onto kana; or one that 20 refuses."""
+    if sound:
+        return pick(rng, (2, 0), (3, 1))
+    return rng.choice((2, 2, 3, 256, 257, TOO_BIG))
+
+
 # ---------------------------------------------------------------------------
 # Jobs
 # ---------------------------------------------------------------------------
@@ -122,7 +129,7 @@ def read_job(rng):
     """(em, measure, lists) of the next sheet that is a job."""
     while True:
         try:
-            em, measure, _, *given = second.read_sheet(some_sheet(rng))
+            em, measure, _, _, *given = second.read_sheet(some_sheet(rng))
         except second.Refused:
             continue
         return em, measure, given
@@ -198,14 +205,14 @@ def rooms(rng, needs, most, short):
 # ---------------------------------------------------------------------------
 
 def some_job(rng, sides):
-    """(em, measure, ratios, lists, whether result lists are too short)
+    """(em, measure, ratios, profile, lists, whether results have no room)
 
     sides has the Ratios of ruby and of base.
     """
     em, measure, given = read_job(rng)
-    way = pick(rng, (64, 'as it is'), (8, 'not read'), (10, 'lists'),
-               (6, 'ratio'), (2, 'count'), (10, 'door'))
-    # At the door some of 1, 15, 2 and 12 meet: their order decides.
+    way = pick(rng, (55, 'as it is'), (8, 'not read'), (10, 'lists'),
+               (7, 'ratio'), (4, 'profile'), (2, 'count'), (14, 'door'))
+    # At the door some of 1, 15, 20, 2 and 12 meet: their order decides.
     door = way == 'door'
     if way == 'not read':
         change_not_read(rng, given)
@@ -213,12 +220,14 @@ def some_job(rng, sides):
         change_lists(rng, given)
     if door and rng.randrange(2) == 0:
         em, measure = fault_1(rng, em, measure)
-    bad = way == 'ratio' or door and rng.randrange(4) != 0
+    bad = way == 'ratio' or door and rng.randrange(2) == 0
     ratios = some_ratios(rng, sides, not bad)
+    bad = way == 'profile' or door and rng.randrange(2) == 0
+    profile = some_profile(rng, not bad)
     if way == 'count' or door and rng.randrange(3) == 0:
         fault_2(rng, given)
     short = rng.randrange(3 if door else 25) == 0
-    return em, measure, ratios, given, short
+    return em, measure, ratios, profile, given, short
 
 
 def calls(seed, count):
@@ -232,7 +241,7 @@ def calls(seed, count):
         return fresh[start:start + length]
 
     for _ in range(count):
-        em, measure, ratios, given, short = some_job(rng, sides)
+        em, measure, ratios, profile, given, short = some_job(rng, sides)
         base, ruby = count_of(given, 0), count_of(given, 1)
         both = []
         for which, needs, most in (
@@ -241,6 +250,6 @@ def calls(seed, count):
             results = [numbers(length)
                        for length in rooms(rng, needs, most, short)]
             around = numbers(2 + GIVEN + RESULTS + 1)
-            both.append(Call(which, em, measure, ratios, given, results,
-                             around))
+            both.append(Call(which, em, measure, ratios, profile, given,
+                             results, around))
         yield tuple(both)

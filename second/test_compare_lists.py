@@ -32,7 +32,7 @@ AROUND = list(range(91, 91 + 17))
 
 
 def call_of(which, results):
-    return Call(which, 10, 4000, RATIOS, GROUP, results, AROUND)
+    return Call(which, 10, 4000, RATIOS, 1, GROUP, results, AROUND)
 
 
 def words_of(call, results):
@@ -49,12 +49,12 @@ def words_of(call, results):
 class Bytes(unittest.TestCase):
 
     def test_a_call(self):
-        # Function 0, em, measure; two base characters in five lists, seven
-        # ruby characters in two, one element in three, no runs; room for 2,
-        # 8 and 3 entries.
+        # Function 0, em, measure, profile; two base characters in five lists,
+        # seven ruby characters in two, one element in three, no runs; room
+        # for 2, 8 and 3 entries.
         results = [[1, 2], [3] * 8, [4, 5, 6]]
         call = call_of(SET, results)
-        head = [0, 10, 4000, 2, 2, 2, 2, 2, 7, 7, 1, 1, 1, 0, 2, 8, 3]
+        head = [0, 10, 4000, 1, 2, 2, 2, 2, 2, 7, 7, 1, 1, 1, 0, 2, 8, 3]
         words = head + words_of(call, results)
         self.assertEqual(call.to_bytes(),
                          struct.pack('<%dI' % len(words), *words))
@@ -94,7 +94,7 @@ class Bytes(unittest.TestCase):
 
     def test_cut_short(self):
         content = call_of(SET, [[1], [2], [3]]).to_bytes()
-        for end in (1, 67, 68, 69, len(content) - 1):
+        for end in (1, 71, 72, 73, len(content) - 1):
             with self.assertRaises(ValueError):
                 lists.read_call(io.BytesIO(content[:end]))
 
@@ -134,9 +134,10 @@ class Generated(unittest.TestCase):
 
     def test_every_place_of_the_door(self):
         places = {answer[1:] for answer, _ in self.expected
-                  if answer[0] == 'refused' and answer[1] in (1, 15, 2, 12)}
-        self.assertEqual(places, {(1, 0), (1, 1), (15, 0), (15, 1), (2, 0),
-                                  (2, 1), (2, 2), (12, 0)})
+                  if answer[0] == 'refused'
+                  and answer[1] in (1, 15, 20, 2, 12)}
+        self.assertEqual(places, {(1, 0), (1, 1), (15, 0), (15, 1), (20, 0),
+                                  (2, 0), (2, 1), (2, 2), (12, 0)})
 
     def test_every_ratio_in_turn(self):
         # 729 with numbers from 0 to 8; 511 are sound: 8 * 8 * 8 less 0:0:0.
@@ -267,12 +268,16 @@ class Comparison(unittest.TestCase):
                              in compare_lists.REFUSALS})
         seen.answers[0] = 1300
         seen.ratios = set(generate_lists.ALL), set(generate_lists.ALL)
+        seen.profiles.update({0: 975, 1: 325})
         self.assertEqual(list(seen.missing()), [])
-        del seen.answers[12]
+        del seen.answers[12], seen.answers[20]
         seen.answers[0] = 300
+        seen.profiles.update({0: -901, 1: -99})
         seen.ratios[1].remove((0, 8, 7))
         self.assertEqual(list(seen.missing()), [
-            'no job refused by 12', '300 accepted of 1500 jobs',
+            'no job refused by 12', 'no job refused by 20',
+            '300 accepted of 1500 jobs',
+            '74 by profile 0 of 300 accepted jobs',
             'no job with 0:8:7 for base'])
 
     def run_it(self, command, count):
@@ -285,7 +290,8 @@ class Comparison(unittest.TestCase):
     def test_as_a_program(self):
         status, rows = self.run_it(OWN, 25)
         self.assertEqual((status, len(rows)), (0, 2))
-        self.assertRegex(rows[0], r'^seen: [1-9][0-9]* accepted; refused '
+        self.assertRegex(rows[0], r'^seen: [1-9][0-9]* accepted, [1-9][0-9]* '
+                         r'of them by profile 1; refused '
                          r'[0-9]+ by [0-9]+, .*; [0-9]+ ratios of ruby, '
                          r'[0-9]+ of base$')
         self.assertEqual(rows[1], 'compared 25 jobs, 0 differences')
