@@ -3,6 +3,7 @@
     python3 second/test_compare_lists.py
 """
 
+import collections
 import io
 import os
 import random
@@ -14,9 +15,11 @@ import unittest
 HERE = os.path.dirname(os.path.abspath(__file__))
 sys.path.insert(0, HERE)
 
-import compare_lists    # noqa: E402  (found through the path set above)
+import account          # noqa: E402  (found through the path set above)
+import compare_lists    # noqa: E402
 import generate_lists   # noqa: E402
 import lists            # noqa: E402
+import second           # noqa: E402
 from compare_lists import Seen, compare_all, wrong_things  # noqa: E402
 from lists import ACCOUNT, SET, Call  # noqa: E402
 from test_second import g, as_lists, quiet  # noqa: E402
@@ -110,6 +113,52 @@ class Bytes(unittest.TestCase):
         self.assertEqual(lists.unpacked(done.stdout), words)
 
 
+def kana_edges(call):
+    """Edges of R-8 that an accepted job of profile 1 shows."""
+    arguments = call.em, call.measure, call.ratios, 1, *call.given
+    job = account.sound_job(arguments)
+    for number, line in enumerate(account.drawn_lines_of(arguments)):
+        classes = [job.base_class[job.elements[drawn.element].base_first]
+                   for drawn in line]
+        for place, (one, two) in enumerate(zip(line, line[1:])):
+            over = two.ruby and one.block[1] - two.ruby[0]
+            under = one.ruby and one.ruby[1] - two.block[0]
+            first, next_one = classes[place:place + 2]
+            # A kana before or after a ruby that lies on it as deep as it may.
+            if not one.ruby and over and 0 < over == one.depth_after:
+                yield 'whole depth after class %d' % first
+                if first in (15, 16):
+                    yield 'depth %s half an em' % (
+                        'under' if over < job.em else 'of')
+                    if place == 0:
+                        yield ('first in the job' if number == 0
+                               else 'first in a later line')
+                    elif one.depth_before and line[place - 1].depth_after:
+                        yield 'behind a blank or a kana'
+            if not two.ruby and under and 0 < under == two.depth_before:
+                yield 'whole depth before class %d' % next_one
+            # What takes none, beside a reading that would lie on it.
+            if over == 0 and one.depth_after == 0 and two.ruby[0] < (
+                    two.block[0]):
+                yield 'none on class %d%s' % (
+                    first, ' with ruby' if one.ruby else '')
+        for one, two, three in zip(line, line[1:], line[2:]):
+            if (one.ruby and three.ruby and two.depth_after > 0
+                    and one.ruby[1] == three.ruby[0]
+                    and two.block[0] < one.ruby[1] <= two.block[1]):
+                yield 'two readings on one, that touch'
+
+
+WANTED = ['whole depth %s class %d' % (side, cls)
+          for side in ('before', 'after') for cls in (5, 14, 15, 16)] + [
+    'whole depth before class 1', 'whole depth after class 2',
+    'whole depth after class 7', 'depth under half an em',
+    'depth of half an em', 'first in the job', 'first in a later line',
+    'behind a blank or a kana', 'none on class 10', 'none on class 11',
+    'none on class 14', 'none on class 15 with ruby',
+    'none on class 16 with ruby', 'two readings on one, that touch']
+
+
 class Generated(unittest.TestCase):
 
     @classmethod
@@ -160,6 +209,31 @@ class Generated(unittest.TestCase):
                  in zip(self.calls, self.expected) if answer[0] == 'set'
                  and list(map(tuple, call.ratios)) != [(1, 2, 1), (1, 2, 1)]]
         self.assertGreater(len(other), 300)
+
+    def test_profiles(self):
+        # The profile decides the answer of many jobs.
+        decided = 0
+        for (call, _), expected in zip(self.calls, self.expected):
+            if call.profile in (0, 1):
+                other = Call(call.which, call.em, call.measure, call.ratios,
+                             1 - call.profile, call.given, call.results,
+                             call.around)
+                decided += other.answered() != expected
+        self.assertGreater(decided, 100)
+
+    def test_every_edge_of_profile_1(self):
+        met = collections.Counter()
+        for (call, _), (answer, _) in zip(self.calls, self.expected):
+            if answer[0] == 'set' and call.profile == 1:
+                met.update(set(kana_edges(call)))
+        self.assertEqual([edge for edge in WANTED if met[edge] == 0], [])
+
+    def test_every_number_fits_its_bytes(self):
+        for both in generate_lists.calls(7, 300):
+            for call in both:
+                self.assertLessEqual(max(call.em, call.measure, call.profile,
+                                         *call.memory(call.results)),
+                                     second.LARGEST_NUMBER)
 
     def test_short_and_long_lists(self):
         lengths = [len(call.given[0]) for call, _ in self.calls]
