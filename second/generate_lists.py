@@ -132,7 +132,8 @@ def add_kana(rng, draft):
 def add_word_over_kana(rng, draft):
     """M, G or J with kana for its base, its reading short or long."""
     em = draft.em
-    total = rng.choice((max(1, em // 2), em, em + generate.surplus(rng, em)))
+    short = max(1, em // 2)
+    total = rng.choice((short, short, em, em + generate.surplus(rng, em)))
     ruby = [[15, width] for width in generate.split(
         rng, total, generate.ruby_count_for(rng, em, total))]
     draft.add([[rng.choice((15, 16)), em]], ruby, rng.choice((
@@ -146,7 +147,7 @@ def add_blank(rng, draft):
 
 def add_between(rng, draft):
     """What stands between two long readings."""
-    way = pick(rng, (10, 'kana'), (2, 'two kana'), (2, 'word'),
+    way = pick(rng, (10, 'kana'), (2, 'two kana'), (5, 'word'),
                (2, 'kana and blank'), (2, 'blank and kana'), (1, 'blank'),
                (1, 'nothing'))
     if way == 'blank and kana':
