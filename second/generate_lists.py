@@ -2,8 +2,8 @@
 
 The jobs are those of generated sheets, by ratios of every sort and by both
 profiles.  Some of them are altered: lists of unequal lengths, spare runs,
-counts that are not read, unknown kinds, counts over their maximum, result lists
-that are too short.  As in generate.py only randrange and choice are used.
+counts that are not read, unknown kinds, counts over their maximum, result
+lists that are too short.  As in generate.py only randrange and choice are used.
 """
 
 import os

@@ -4,8 +4,8 @@
 
 Every expected value comes from document 01 (with R-1, R-4 and R-8 of document
 02), or is derived from its rules in the comment beside it.  hu means half
-units.  Where nothing else is said, em is 10, base characters are 10 wide and ruby
-characters 5 wide, as in the settings K1 to K12.
+units.  Where nothing else is said, em is 10, base characters are 10 wide and
+ruby characters 5 wide, as in the settings K1 to K12.
 """
 
 import os
