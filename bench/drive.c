@@ -2,7 +2,7 @@
  * Makes one of the measured jobs and sets it a number of times through bv_set_job, whichever engine is linked.
  *
  *     drive MIX ELEMENTS REPEATS   sets the job; prints its counts, its lines and a sum over the results
- *     drive MIX ELEMENTS sheet     prints the job as a job sheet, if its ratios are those of a sheet, 1:2:1
+ *     drive MIX ELEMENTS sheet     prints the job as a job sheet, if its ratios and its profile are a sheet's, 1:2:1 and 0
  *
  * With ACCOUNT defined it asks for the job's account each time instead, by bv_account_job; the sum is then over its lists.
  *
@@ -21,32 +21,35 @@ typedef uint32_t u32;
 
 /*
  * A mix: of 8 elements `words` are of `kind` and the rest are P. Words have 1 base character, or, where `wide` is 3, 1 to 3; where it is 32, all have 32
- * with 2 ruby characters each. The ratios are those of spread ruby and of spread base.
+ * with 2 ruby characters each. The ratios are those of spread ruby and of spread base. With profile 1 a P is a kana where it would else be an ideograph.
  */
 struct mix {
     const char *name;
     u32 kind, words, wide, measure;
     const u32 *ruby_ratio, *base_ratio;
+    u32 profile;
 };
 
 static const u32 usual[3] = {1, 2, 1}, shoulder[3] = {0, 0, 1}, inner[3] = {1, 3, 1};
 
 /* Each measure gives lines of 20 to 25 elements, but for the long words, which it cuts. */
 static const struct mix mixes[] = {
-    {"plain", BV_P, 0, 1, 230, usual, usual},
-    {"mono", BV_M, 6, 1, 270, usual, usual},
-    {"group", BV_G, 6, 3, 440, usual, usual},
-    {"house", BV_G, 6, 3, 440, shoulder, inner},
-    {"jukugo", BV_J, 6, 3, 440, usual, usual},
-    {"group-of-one", BV_G, 6, 1, 270, usual, usual},
-    {"jukugo-of-one", BV_J, 6, 1, 270, usual, usual},
-    {"long-30", BV_J, 8, 32, 30, usual, usual},
-    {"long-200", BV_J, 8, 32, 200, usual, usual},
-    {"long-4000", BV_J, 8, 32, 4000, usual, usual}
+    {"plain", BV_P, 0, 1, 230, usual, usual, 0},
+    {"mono", BV_M, 6, 1, 270, usual, usual, 0},
+    {"older", BV_M, 6, 1, 270, usual, usual, 1},
+    {"group", BV_G, 6, 3, 440, usual, usual, 0},
+    {"house", BV_G, 6, 3, 440, shoulder, inner, 0},
+    {"jukugo", BV_J, 6, 3, 440, usual, usual, 0},
+    {"group-of-one", BV_G, 6, 1, 270, usual, usual, 0},
+    {"jukugo-of-one", BV_J, 6, 1, 270, usual, usual, 0},
+    {"long-30", BV_J, 8, 32, 30, usual, usual, 0},
+    {"long-200", BV_J, 8, 32, 200, usual, usual, 0},
+    {"long-4000", BV_J, 8, 32, 4000, usual, usual, 0}
 };
 
 static u32 measure;
 static const u32 *ruby_ratio, *base_ratio;
+static u32 profile;
 static u32 bases, rubies, elements, runs;
 static u32 class_[BV_MOST_BASE], width[BV_MOST_BASE], before[BV_MOST_BASE], after[BV_MOST_BASE], flag[BV_MOST_BASE];
 static u32 rclass[BV_MOST_RUBY], rwidth[BV_MOST_RUBY];
@@ -93,7 +96,7 @@ static void add_plain(void)
     ebase[elements] = eruby[elements] = 0;
     elements++;
     if (chosen(4) != 0) {
-        add_base(chosen(2) ? 15 : 19, EM, 0, 0);
+        add_base(chosen(2) ? 15 : profile == 1 ? 16 : 19, EM, 0, 0);
         return;
     }
     switch (chosen(6)) {
@@ -144,6 +147,7 @@ static int make_job(const struct mix *mix, u32 count)
     measure = mix->measure;
     ruby_ratio = mix->ruby_ratio;
     base_ratio = mix->base_ratio;
+    profile = mix->profile;
     while (elements < count) {
         if (elements == BV_MOST_ELEMENTS || bases + mix->wide > BV_MOST_BASE || rubies + most > BV_MOST_RUBY)
             return 1;
@@ -189,10 +193,10 @@ static u32 sum_over(u32 sum, const u32 *list, u32 n)
     return sum;
 }
 
-/* A job: its ratios and its eleven lists, each of these with its length. */
+/* A job: its ratios, its profile and its eleven lists, each of these with its length. */
 #define JOB \
-    EM, measure, ruby_ratio, base_ratio, class_, bases, width, bases, before, bases, after, bases, flag, bases, rclass, rubies, \
-        rwidth, rubies, kind, elements, ebase, elements, eruby, elements, run, runs
+    EM, measure, ruby_ratio, base_ratio, profile, class_, bases, width, bases, before, bases, after, bases, flag, bases, \
+        rclass, rubies, rwidth, rubies, kind, elements, ebase, elements, eruby, elements, run, runs
 
 #ifdef ACCOUNT
 static bv_answer asked(void)
@@ -230,8 +234,8 @@ int main(int count, char **words)
         return 2;
     }
     if (strcmp(words[3], "sheet") == 0) {
-        if (ruby_ratio != usual || base_ratio != usual) {
-            printf("drive: a sheet has no ratios, and %s has its own\n", words[1]);
+        if (ruby_ratio != usual || base_ratio != usual || profile != 0) {
+            printf("drive: a sheet has no ratios and no profile, and %s has its own\n", words[1]);
             return 2;
         }
         print_sheet();

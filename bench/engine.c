@@ -4,7 +4,8 @@
  * pass over the elements for each, which stops once a whole element passes the measure and never at a failed part of a J;
  * the line ends are kept in a table of this function's own until the job is known to be accepted; then one pass writes.
  *
- * Sentences in quotation marks are document 01's, those about ratios document 02's (R-4). All positions are half units.
+ * Sentences in quotation marks are document 01's, those about ratios and profiles document 02's (R-4, R-8). All positions are half
+ * units.
  */
 #include "bolyverit.h"
 
@@ -39,6 +40,7 @@ typedef int32_t i32;
 #define BEFORE (CLASS(1) | CLASS(5))                 /* "Class 1 may have a blank before; .. 5 both" */
 #define AFTER (CLASS(2) | CLASS(5) | CLASS(6) | CLASS(7))
 #define WHOLE CLASS(14)                              /* "In class 14 .. the whole width is blank." */
+#define TRUE_KANA CLASSES(15, 16)                    /* "ruby on a P element of class 15 or 16" */
 #define QUARTER CLASS(5)                             /* "for class 5 a quarter em" */
 
 /* A ratio a:m:c, as it is worked with: D times a or c, doubled, is shared out over S = a + m(n - 1) + c, which is m n + rest. */
@@ -53,6 +55,7 @@ struct job {
     u32 em, limit; /* limit: the measure in half units, at most 8,000,000 */
     struct ratio over, under; /* of spread ruby, of spread base */
     u32 most; /* of a gap at an end of spread ruby, where the half-em limit holds */
+    u32 on_kana; /* how deep ruby may lie on a kana, but for its width: 0 with profile 0 */
     u32 bases, rubies, elements;
     size_t runs_length;
     const u32 *class_, *width, *before, *after, *flag;
@@ -409,13 +412,16 @@ static u32 part(struct word *w, const struct job *j, u32 b, u32 n, u32 all, u32 
 
 /*
  * How deep ruby may lie on the P character b, of whose classes `side` may have a blank of this many units there. A space that is
- * the job's first character takes none (document 02, R-1).
+ * the job's first character takes none (R-1). On a kana it is by the profile "at most one ruby em (half the em) and at most
+ * its width" (R-8), or none.
  */
 static u32 depth_of(const struct job *j, u32 b, u32 side, u32 blank)
 {
     u32 c = j->class_[b], most = is_in(QUARTER, c) ? j->em / 2 : j->em;
     if (is_in(WHOLE, c))
         return b == 0 ? 0 : smaller(2 * j->width[b], most);
+    if (is_in(TRUE_KANA, c))
+        return smaller(2 * j->width[b], j->on_kana);
     return is_in(side, c) ? smaller(2 * blank, most) : 0;
 }
 
@@ -738,7 +744,7 @@ static struct ratio ratio_of(const u32 *ratio)
 }
 
 bv_answer bv_set_job(
-    uint32_t em, uint32_t measure, const uint32_t *ruby_ratio, const uint32_t *base_ratio,
+    uint32_t em, uint32_t measure, const uint32_t *ruby_ratio, const uint32_t *base_ratio, uint32_t profile,
     const uint32_t *class_, size_t class_length, const uint32_t *width, size_t width_length,
     const uint32_t *before, size_t before_length, const uint32_t *after, size_t after_length,
     const uint32_t *flag, size_t flag_length,
@@ -763,6 +769,8 @@ bv_answer bv_set_job(
         return answer(15, 0);
     if (is_no_ratio(base_ratio))
         return answer(15, 1);
+    if (profile > 1)
+        return answer(20, 0);
     if (bases > BV_MOST_BASE)
         return answer(2, 0);
     if (rubies > BV_MOST_RUBY)
@@ -776,6 +784,7 @@ bv_answer bv_set_job(
     j.over = ratio_of(ruby_ratio);
     j.under = ratio_of(base_ratio);
     j.most = j.over.m != 0 ? em : 0xffffffff;
+    j.on_kana = profile == 1 ? em : 0;
     j.bases = (u32)bases;
     j.rubies = (u32)rubies;
     j.elements = (u32)elements;

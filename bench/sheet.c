@@ -284,7 +284,7 @@ static void put_result(struct text *t, const struct lists *s, u32 count, const u
 
 size_t bv_set_sheet(const uint8_t *sheet, size_t length, uint8_t *out)
 {
-    static const u32 usual[3] = {1, 2, 1}; /* a sheet has no ratios */
+    static const u32 usual[3] = {1, 2, 1}; /* a sheet has no ratios and no profile, which is 0 */
     static struct lists s;
     static u32 base[BV_MOST_BASE], ruby[BV_MOST_RUBY], lines[BV_MOST_BASE];
     struct reader r;
@@ -298,8 +298,8 @@ size_t bv_set_sheet(const uint8_t *sheet, size_t length, uint8_t *out)
     t.length = 0;
     a = length > LARGEST_SHEET ? refused(13, 0) : read_sheet(&r, &s);
     if (a.number == 0)
-        a = bv_set_job(s.em, s.measure, usual, usual, s.class_, s.bases, s.width, s.bases, s.before, s.bases, s.after,
-                       s.bases, s.flag, s.bases, s.rclass, s.rubies, s.rwidth, s.rubies, s.kind, s.elements, s.ebase,
+        a = bv_set_job(s.em, s.measure, usual, usual, 0, s.class_, s.bases, s.width, s.bases, s.before, s.bases,
+                       s.after, s.bases, s.flag, s.bases, s.rclass, s.rubies, s.rwidth, s.rubies, s.kind, s.elements, s.ebase,
                        s.elements, s.eruby, s.elements, s.run, s.runs, base, BV_MOST_BASE, ruby, BV_MOST_RUBY, lines,
                        BV_MOST_BASE);
     if (a.number)

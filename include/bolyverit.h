@@ -6,7 +6,7 @@
  *
  * All numbers are those of the scope document ("document 01"): widths are whole units, positions are half units from the
  * start of the line, places count from 0 except where the document says "line from 1". The ratios and number 15 are those of
- * the request R-4.
+ * the request R-4, the profile and number 20 those of R-8.
  *
  * What a caller must guarantee, since no proof can see it:
  *   - each pointer is not null and is aligned for its type, also where its length is 0, and may be read (or, for the lists
@@ -18,7 +18,7 @@
  *     state between calls, no heap and no file;
  *   - 512 kilobytes of stack are free: the functions keep their tables there, at most 96,816 bytes of them in bv_set_job, 86,040
  *     in bv_account_job, 282,656 in bv_set_sheet and 376,888 in bv_account_sheet; the rest is for the calls themselves.
- * Nothing else is asked: any numbers in the lists and the ratios and any lengths are answered.
+ * Nothing else is asked: any numbers in the lists and the ratios, any profile and any lengths are answered.
  *
  * What is proved, for every call that keeps the above. Of bv_set_job: the answer and the three result lists are those of the
  * definition `outcome` (crates/job/specs/Outcome.antt), refusals included. Of bv_set_sheet: the bytes written are `answerText` of
@@ -64,6 +64,7 @@ extern "C" {
 #define BV_SHORT 12         /* a result list too short; 0 */
 #define BV_FORM 13          /* a job sheet breaks its form; the line from 1, 0 if over 65,535 bytes */
 #define BV_RATIO 15         /* a ratio number over 7, or all three 0; 0 ruby ratio, 1 base ratio */
+#define BV_PROFILE 20       /* a profile over 1; 0 */
 
 /* number 0: the job is set, and place is the number of its lines. Otherwise the refusal's number and its place. */
 typedef struct bv_answer {
@@ -76,6 +77,7 @@ typedef struct bv_answer {
  *
  *   em, measure                        the size of a base character and the measure, in units
  *   ruby_ratio, base_ratio             how spread ruby and spread base share out their space: three numbers a, m, c each
+ *   profile                            on which neighbours ruby may lie: 0 or 1
  *   class_, width, before, after, flag the fields of the base characters
  *   rclass, rwidth                     the fields of the ruby characters
  *   kind, ebase, eruby                 the fields of the elements: BV_P, BV_M, BV_G or BV_J, base count, ruby count
@@ -99,6 +101,12 @@ typedef struct bv_answer {
  * what the one in front leaves; so it does where one character is spread, which is centred if a and c are both 0. The limit
  * of half an em at either end, for ruby of two or more characters, kana-like over kana-like, holds only if m is not 0.
  *
+ * Profile 0 is what a sheet means: ruby may lie on the blanks of the plain elements just before and just after it, as document
+ * 01 says, and on no space that is the job's first character (R-1). Profile 1, for older children, permits all that, and ruby
+ * may also lie on a kana, class 15 or 16, that is a plain element just before or just after it: to half an em, and at most
+ * the kana's width. Small kana and the prolonged sound mark, classes 11 and 10, take none, nor does a kana with a reading of
+ * its own. Any other profile is refused with number 20, after 15 and before 2.
+ *
  * A refusal alters no list. On success, entries past those used stay as they were.
  */
 bv_answer bv_set_job(
@@ -106,6 +114,7 @@ bv_answer bv_set_job(
     uint32_t measure,
     const uint32_t *ruby_ratio,
     const uint32_t *base_ratio,
+    uint32_t profile,
     const uint32_t *class_, size_t class_length,
     const uint32_t *width, size_t width_length,
     const uint32_t *before, size_t before_length,
@@ -140,7 +149,7 @@ bv_answer bv_set_job(
 
 /*
  * The account of a job: why each gap of its lines is as wide as it is. The job is given, checked and refused as in bv_set_job,
- * with the same two ratios.
+ * with the same two ratios and the same profile.
  *
  *   rows    result: BV_ROW numbers for each element of each line, in order; the parts of a cut J are told each in its own line
  *   told    result: for each line the count of rows up to its end
@@ -154,6 +163,7 @@ bv_answer bv_account_job(
     uint32_t measure,
     const uint32_t *ruby_ratio,
     const uint32_t *base_ratio,
+    uint32_t profile,
     const uint32_t *class_, size_t class_length,
     const uint32_t *width, size_t width_length,
     const uint32_t *before, size_t before_length,
@@ -177,7 +187,8 @@ bv_answer bv_account_job(
 /*
  * Sets a job sheet of `length` bytes, as the setting program does, and writes what the program writes, `refused N P` or the
  * result, to the front of `out`. `out` has room for BV_MOST_TEXT bytes, always; those past the answer stay as they were.
- * A sheet has no ratios: its job is set with 1:2:1 for both. Returns the length of the answer in bytes.
+ * A sheet has no ratios and no profile: its job is set with 1:2:1 for both and with profile 0. Returns the length of the answer
+ * in bytes.
  */
 size_t bv_set_sheet(const uint8_t *sheet, size_t length, uint8_t *out);
 

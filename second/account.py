@@ -42,7 +42,7 @@ class Drawn:
     """An element, or a part of a J, as it stands in a line.
 
     Spans are (start, end) in half units.  The ruby is None for a P, and the
-    depths are those to which ruby may lie on its blanks, 0 but for a P.
+    depths are those to which ruby may lie on it, 0 but for a P.
     """
 
     def __init__(self, element, block, ruby, depth_before, depth_after):
@@ -78,7 +78,8 @@ def breaks_1(before, drawn, neighbours):
 def breaks_2(before, drawn, neighbours):
     # "2. Ruby keeps off every other element's block, except that it may lie
     # on the blank after the P element just before it ... or the blank before
-    # the P element just after it."
+    # the P element just after it", and in profile 1 "on a P element of class
+    # 15 or 16 just before or just after" (R-8).
     if not neighbours:
         return ((drawn.ruby is not None
                  and overlap(drawn.ruby, before.block))
@@ -154,7 +155,7 @@ def drawn_lines(sheet):
 
 
 def drawn_lines_of(arguments):
-    """The same for a job that is given by its fourteen arguments."""
+    """The same for a job that is given by its fifteen arguments."""
     base_out = [0] * second.MOST_BASE
     ruby_out = [0] * second.MOST_RUBY
     line_out = [0] * second.MOST_BASE
@@ -165,7 +166,7 @@ def drawn_lines_of(arguments):
     owner = second.owners(job)
     ends = line_out[:result[1]]
     lines = [[] for _ in ends]
-    for bases, rubies in second.printed_parts(*arguments[10:], ends):
+    for bases, rubies in second.printed_parts(*arguments[11:], ends):
         line = sum(end <= bases[0] for end in ends)
         lines[line].append(drawn_element(job, owner[bases[0]], bases, rubies,
                                          base_out, ruby_out))
@@ -310,22 +311,23 @@ TOLD = {(4, 'block', 'start'): 1, (1, 'block', 'block'): 2,
         (3, 'ruby', 'ruby'): 5, (4, 'ruby', 'start'): 6}
 
 
-def account_job(em, measure, ratios, base_class, base_width, blank_before,
-                blank_after, flag, ruby_class, ruby_width, kind, elem_base,
-                elem_ruby, runs, rows, told, extents):
+def account_job(em, measure, ratios, profile, base_class, base_width,
+                blank_before, blank_after, flag, ruby_class, ruby_width, kind,
+                elem_base, elem_ruby, runs, rows, told, extents):
     """('set', number of lines) or ('refused', number, place).
 
     The three result lists are written on success only.
     """
-    arguments = (em, measure, ratios, base_class, base_width, blank_before,
-                 blank_after, flag, ruby_class, ruby_width, kind, elem_base,
-                 elem_ruby, runs)
+    arguments = (em, measure, ratios, profile, base_class, base_width,
+                 blank_before, blank_after, flag, ruby_class, ruby_width, kind,
+                 elem_base, elem_ruby, runs)
     job = second.Job(*arguments)
     try:
         # "The job is given, checked and refused as in bv_set_job", but for
         # the room, which these three result lists need.
         second.check_sizes(job)
         second.check_ratios(job)
+        second.check_profile(job)
         second.check_counts(job)
         check_room(job, rows, told, extents)
         lines = drawn_lines_of(arguments)

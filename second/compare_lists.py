@@ -13,7 +13,7 @@ around all of them, are as they were.
 The last line is `compared N jobs, D differences`, and the line before says
 what was seen.  The exit status is 0 only if D is 0 and, with 4,000 jobs and
 more, every refusal of a job in lists, every ratio with numbers from 0 to 8 on
-either side and enough accepted jobs were seen.
+either side and enough accepted jobs were seen, by profile 0 and by profile 1.
 """
 
 import argparse
@@ -34,7 +34,8 @@ WRONG = 8       # things that are printed of one such job
 ENOUGH = 4000   # jobs that have to show every refusal and every ratio
 
 # Every number of the refusal list that a job in lists can get.
-REFUSALS = (1, 2, 3, 4, 5, 6, 7, 8, 9, 10, 11, 12, 15)
+REFUSALS = (1, 2, 3, 4, 5, 6, 7, 8, 9, 10, 11, 12, 15, 20)
+PROFILES = (0, 1)
 NAMES = ('bv_set_job', 'bv_account_job')
 GIVEN = ('class', 'width', 'before', 'after', 'flag', 'rclass', 'rwidth',
          'kind', 'ebase', 'eruby', 'runs')
@@ -120,9 +121,9 @@ def show_difference(number, call, wrong):
         print('    %s' % words)
     if len(wrong) > WRONG:
         print('    and %d more' % (len(wrong) - WRONG))
-    print('    em %d, measure %d, ratios %s and %s' % (
+    print('    em %d, measure %d, ratios %s and %s, profile %d' % (
         call.em, call.measure, *(':'.join(map(str, ratio))
-                                 for ratio in call.ratios)))
+                                 for ratio in call.ratios), call.profile))
     for name, values in zip(GIVEN, call.given):
         print('    %s %r' % (name, values))
     print('    lengths of %s: %s' % (
@@ -140,9 +141,12 @@ class Seen:
     def __init__(self):
         self.answers = collections.Counter()    # by number, 0 if accepted
         self.ratios = (set(), set())            # of ruby and of base
+        self.profiles = collections.Counter()   # of accepted jobs
 
     def add(self, call, answer):
         self.answers[0 if answer[0] == 'set' else answer[1]] += 1
+        if answer[0] == 'set':
+            self.profiles[call.profile] += 1
         for side, ratio in zip(self.ratios, call.ratios):
             side.add(tuple(ratio))
 
@@ -152,8 +156,9 @@ class Seen:
     def words(self):
         refused = ', '.join('%d by %d' % (count, number) for number, count
                             in sorted(self.answers.items()) if number != 0)
-        return ('seen: %d accepted; refused %s; %d ratios of ruby, %d of base'
-                % (self.answers[0], refused or 'none',
+        return ('seen: %d accepted, %d of them by profile 1; refused %s; '
+                '%d ratios of ruby, %d of base'
+                % (self.answers[0], self.profiles[1], refused or 'none',
                    *map(len, self.ratios)))
 
     def missing(self):
@@ -163,6 +168,10 @@ class Seen:
                 yield 'no job refused by %d' % number
         if self.answers[0] < self.jobs() // 4:
             yield '%d accepted of %d jobs' % (self.answers[0], self.jobs())
+        for profile in PROFILES:
+            if self.profiles[profile] < self.answers[0] // 4:
+                yield ('%d by profile %d of %d accepted jobs'
+                       % (self.profiles[profile], profile, self.answers[0]))
         for side, name in zip(self.ratios, ('ruby', 'base')):
             for ratio in generate_lists.ALL:
                 if ratio not in side:

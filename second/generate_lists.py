@@ -1,9 +1,9 @@
 """Jobs in lists from a seed: what no sheet can show.
 
-The jobs are those of generated sheets, by ratios of every sort.  Some of them
-are altered: lists of unequal lengths, spare runs, counts that are not read,
-unknown kinds, counts over their maximum, result lists that are too short.  As
-in generate.py only randrange and choice are used.
+The jobs are those of generated sheets, by ratios of every sort and by both
+profiles.  Some of them are altered: lists of unequal lengths, spare runs,
+counts that are not read, unknown kinds, counts over their maximum, result
+lists that are too short.  As in generate.py only randrange and choice are used.
 """
 
 import os
@@ -82,6 +82,13 @@ def some_ratios(rng, sides, sound):
                  for place, side in enumerate(sides))
 
 
+def some_profile(rng, sound):
+    """Mostly 1, which lets ruby onto kana; or one that 20 refuses."""
+    if sound:
+        return pick(rng, (2, 0), (3, 1))
+    return rng.choice((2, 2, 2, 3, 256, 257, TOO_BIG, TOO_BIG))
+
+
 # ---------------------------------------------------------------------------
 # Jobs
 # ---------------------------------------------------------------------------
@@ -107,9 +114,87 @@ def words(rng):
     return draft.text()
 
 
+def kana_row(rng, em):
+    """A kana, mostly; its width about the depth on it, or anything else.
+
+    Small kana, class 11, and the prolonged sound mark, class 10, take no ruby.
+    """
+    cls = rng.choice((15, 15, 15, 16, 16, 16, 11, 10))
+    width = rng.choice((em, em, em // 2, em // 2 - 1, em // 2 + 1, em // 4, 1,
+                        2, 1 + rng.randrange(em)))
+    return [cls, clip(width, 1, generate.WIDEST)]
+
+
+def add_kana(rng, draft):
+    draft.add([kana_row(rng, draft.em)], [], ['P'])
+
+
+def add_word_over_kana(rng, draft):
+    """M, G or J with kana for its base, its reading short or long."""
+    em = draft.em
+    short = max(1, em // 2)
+    total = rng.choice((short, short, em, em + generate.surplus(rng, em)))
+    ruby = [[15, width] for width in generate.split(
+        rng, total, generate.ruby_count_for(rng, em, total))]
+    draft.add([[rng.choice((15, 16)), em]], ruby, rng.choice((
+        ['M', len(ruby)], ['M', len(ruby)], ['G', 1, len(ruby)],
+        ['J', 1, len(ruby)])))
+
+
+def add_blank(rng, draft):
+    draft.add([generate.blank_row(rng, draft.em)], [], ['P'])
+
+
+def add_between(rng, draft):
+    """What stands between two long readings."""
+    way = pick(rng, (10, 'kana'), (2, 'two kana'), (5, 'word'),
+               (2, 'kana and blank'), (2, 'blank and kana'), (1, 'blank'),
+               (1, 'nothing'))
+    if way == 'blank and kana':
+        add_blank(rng, draft)
+    if way in ('kana', 'two kana', 'kana and blank', 'blank and kana'):
+        add_kana(rng, draft)
+    if way == 'two kana':
+        add_kana(rng, draft)
+    if way == 'word':
+        add_word_over_kana(rng, draft)
+    if way in ('blank', 'kana and blank'):
+        add_blank(rng, draft)
+
+
+def kana(rng):
+    """Long readings with kana between them, at the ends and first in a line.
+
+    The measure is near what all of it takes in one line or in a few.
+    """
+    draft = generate.Draft(generate.some_em(rng))
+    first = pick(rng, (4, add_kana), (2, generate.add_space), (4, None))
+    if first is not None:
+        first(rng, draft)
+    for _ in range(1 + rng.randrange(4)):
+        generate.add_long_word(rng, draft)
+        add_between(rng, draft)
+    if rng.randrange(2) == 0:
+        generate.add_long_word(rng, draft)
+    generate.put_flags(rng, draft)
+    if rng.randrange(3) == 0:
+        generate.put_measure(rng, draft)
+        return draft.text()
+    widths = generate.stretches(draft)
+    whole = sum(widths) // rng.choice((1, 1, 2, 3))
+    draft.measure = clip(
+        whole + rng.choice((0, 0, -1, -(draft.em // 2), -(draft.em // 2) - 1,
+                            -rng.randrange(draft.em),
+                            rng.randrange(draft.em))),
+        max(widths) - rng.choice((0, 0, 1, draft.em // 2)),
+        generate.WIDEST_MEASURE)
+    draft.measure = max(1, draft.measure)
+    return draft.text()
+
+
 def some_sheet(rng):
     """The mixture of generate.py without what is no job."""
-    return pick(rng, (400, words), (300, generate.sound),
+    return pick(rng, (300, words), (250, kana), (250, generate.sound),
                 (40, generate.opening), (20, generate.later),
                 (60, generate.tight), (220, generate.one_fault),
                 (60, generate.two_faults), (60, generate.meeting_faults),
@@ -122,7 +207,7 @@ def read_job(rng):
     """(em, measure, lists) of the next sheet that is a job."""
     while True:
         try:
-            em, measure, _, *given = second.read_sheet(some_sheet(rng))
+            em, measure, _, _, *given = second.read_sheet(some_sheet(rng))
         except second.Refused:
             continue
         return em, measure, given
@@ -198,14 +283,14 @@ def rooms(rng, needs, most, short):
 # ---------------------------------------------------------------------------
 
 def some_job(rng, sides):
-    """(em, measure, ratios, lists, whether result lists are too short)
+    """(em, measure, ratios, profile, lists, whether results have no room)
 
     sides has the Ratios of ruby and of base.
     """
     em, measure, given = read_job(rng)
-    way = pick(rng, (64, 'as it is'), (8, 'not read'), (10, 'lists'),
-               (6, 'ratio'), (2, 'count'), (10, 'door'))
-    # At the door some of 1, 15, 2 and 12 meet: their order decides.
+    way = pick(rng, (55, 'as it is'), (8, 'not read'), (10, 'lists'),
+               (7, 'ratio'), (4, 'profile'), (2, 'count'), (14, 'door'))
+    # At the door some of 1, 15, 20, 2 and 12 meet: their order decides.
     door = way == 'door'
     if way == 'not read':
         change_not_read(rng, given)
@@ -213,12 +298,14 @@ def some_job(rng, sides):
         change_lists(rng, given)
     if door and rng.randrange(2) == 0:
         em, measure = fault_1(rng, em, measure)
-    bad = way == 'ratio' or door and rng.randrange(4) != 0
+    bad = way == 'ratio' or door and rng.randrange(2) == 0
     ratios = some_ratios(rng, sides, not bad)
+    bad = way == 'profile' or door and rng.randrange(2) == 0
+    profile = some_profile(rng, not bad)
     if way == 'count' or door and rng.randrange(3) == 0:
         fault_2(rng, given)
     short = rng.randrange(3 if door else 25) == 0
-    return em, measure, ratios, given, short
+    return em, measure, ratios, profile, given, short
 
 
 def calls(seed, count):
@@ -232,7 +319,7 @@ def calls(seed, count):
         return fresh[start:start + length]
 
     for _ in range(count):
-        em, measure, ratios, given, short = some_job(rng, sides)
+        em, measure, ratios, profile, given, short = some_job(rng, sides)
         base, ruby = count_of(given, 0), count_of(given, 1)
         both = []
         for which, needs, most in (
@@ -241,6 +328,6 @@ def calls(seed, count):
             results = [numbers(length)
                        for length in rooms(rng, needs, most, short)]
             around = numbers(2 + GIVEN + RESULTS + 1)
-            both.append(Call(which, em, measure, ratios, given, results,
-                             around))
+            both.append(Call(which, em, measure, ratios, profile, given,
+                             results, around))
         yield tuple(both)

@@ -7,18 +7,19 @@
 #include "bolyverit.h"
 
 #define LISTS 14 /* eleven that are read, three that are written */
-#define HEAD (3 + LISTS)
+#define FIRST 4  /* the function, em, measure and profile */
+#define HEAD (FIRST + LISTS)
 #define MOST 262144 /* words of one call */
 
 static uint32_t memory[MOST];
 
 /* A list and its length. */
-#define LIST(i) list[i], head[3 + (i)]
+#define LIST(i) list[i], head[FIRST + (i)]
 
-/* The ratios and the lists of the job. */
+/* Em and measure, the ratios, the profile and the lists of the job. */
 #define JOB                                                                                                              \
-    head[1], head[2], ratio[0], ratio[1], LIST(0), LIST(1), LIST(2), LIST(3), LIST(4), LIST(5), LIST(6), LIST(7), LIST(8), \
-        LIST(9), LIST(10)
+    head[1], head[2], ratio[0], ratio[1], head[3], LIST(0), LIST(1), LIST(2), LIST(3), LIST(4), LIST(5), LIST(6), LIST(7), \
+        LIST(8), LIST(9), LIST(10)
 
 static bv_answer called(const uint32_t *head, uint32_t *const *ratio, uint32_t *const *list)
 {
@@ -37,10 +38,10 @@ static size_t place_lists(const uint32_t *head, uint32_t **ratio, uint32_t **lis
     for (i = 0; i < 2; i++, used += 3)
         ratio[i] = memory + ++used;
     for (i = 0; i < LISTS; i++) {
-        if (head[3 + i] > MOST || used + head[3 + i] > MOST - 2)
+        if (head[FIRST + i] > MOST || used + head[FIRST + i] > MOST - 2)
             return 0;
         list[i] = memory + ++used;
-        used += head[3 + i];
+        used += head[FIRST + i];
     }
     return used + 1;
 }

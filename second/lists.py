@@ -2,9 +2,9 @@
 
     python3 lists.py < calls    answers them by the second program
 
-What sheets cannot show goes to an engine this way: ratios, lists of unequal
-lengths, spare runs, short result lists (README.md, "Jobs in lists").  lists.c
-answers the same calls by bv_set_job and bv_account_job.
+What sheets cannot show goes to an engine this way: ratios, profiles, lists of
+unequal lengths, spare runs, short result lists (README.md, "Jobs in lists").
+lists.c answers the same calls by bv_set_job and bv_account_job.
 """
 
 import os
@@ -19,7 +19,8 @@ import second       # noqa: E402
 SET, ACCOUNT = 0, 1     # which of the two functions is called
 GIVEN = 11              # lists that a call reads, class to runs
 RESULTS = 3             # lists that it writes
-HEAD = 3 + GIVEN + RESULTS
+FIRST = 4               # the function, em, measure and profile
+HEAD = FIRST + GIVEN + RESULTS
 
 
 class Call:
@@ -29,11 +30,13 @@ class Call:
     each of them and one for the place behind the last.
     """
 
-    def __init__(self, which, em, measure, ratios, given, results, around):
+    def __init__(self, which, em, measure, ratios, profile, given, results,
+                 around):
         self.which = which
         self.em = em
         self.measure = measure
         self.ratios = ratios
+        self.profile = profile
         self.given = given
         self.results = results
         self.around = around
@@ -55,12 +58,13 @@ class Call:
         function = (second.set_job if self.which == SET
                     else account.account_job)
         results = [list(values) for values in self.results]
-        answer = function(self.em, self.measure, self.ratios, *self.given,
-                          *results)
+        answer = function(self.em, self.measure, self.ratios, self.profile,
+                          *self.given, *results)
         return answer, self.memory(results)
 
     def to_bytes(self):
-        return (packed([self.which, self.em, self.measure, *self.lengths()])
+        return (packed([self.which, self.em, self.measure, self.profile,
+                        *self.lengths()])
                 + packed(self.memory(self.results)))
 
 
@@ -103,7 +107,7 @@ def read_call(stream):
         return None
     if len(head) < 4 * HEAD:
         raise ValueError('a call is cut short')
-    which, em, measure, *lengths = unpacked(head)
+    which, em, measure, profile, *lengths = unpacked(head)
     size = 4 * memory_size(lengths)
     content = stream.read(size)
     if len(content) < size:
@@ -114,7 +118,7 @@ def read_call(stream):
         around.append(words[place])
         lists.append(words[place + 1:place + 1 + length])
         place += 1 + length
-    return Call(which, em, measure, lists[:2], lists[2:2 + GIVEN],
+    return Call(which, em, measure, lists[:2], profile, lists[2:2 + GIVEN],
                 lists[2 + GIVEN:], around + words[place:])
 
 

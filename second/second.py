@@ -4,7 +4,7 @@ It reads a job sheet on standard input and writes what the setting program
 writes.  It states the rules of document 01 one by one and looks for nothing
 clever; it exists to be compared, byte for byte, with the proved engine.  A
 change of document 02 is in the place of the rule that it changes, under its
-number (R-1, R-4).
+number (R-1, R-4, R-8).
 
     python3 second.py < sheet              one sheet, one answer
     python3 second.py --framed < sheets    many sheets (see README.md)
@@ -88,12 +88,13 @@ class Element:
 class Job:
     """The lists of a job and, once they are known, its elements."""
 
-    def __init__(self, em, measure, ratios, base_class, base_width,
+    def __init__(self, em, measure, ratios, profile, base_class, base_width,
                  blank_before, blank_after, flag, ruby_class, ruby_width,
                  kind, elem_base, elem_ruby, runs):
         self.em = em
         self.measure = measure
         self.ratios = ratios        # (a, m, c) of the ruby and of the base
+        self.profile = profile      # 0, or 1: ruby on kana too
         self.base_class = base_class
         self.base_width = base_width
         self.blank_before = blank_before
@@ -116,7 +117,7 @@ class Job:
 
 
 # ---------------------------------------------------------------------------
-# Refusals 1, 15, 2, 12
+# Refusals 1, 15, 20, 2, 12
 # ---------------------------------------------------------------------------
 
 def check_sizes(job):
@@ -136,6 +137,12 @@ def check_ratios(job):
             raise Refused(15, place)
         if all(number == 0 for number in ratio):
             raise Refused(15, place)
+
+
+def check_profile(job):
+    # R-8: "Refusals: 20, a profile over 1, checked after 15, place 0."
+    if job.profile > 1:
+        raise Refused(20, 0)
 
 
 def check_counts(job):
@@ -460,7 +467,7 @@ class Word:
     """An element, or a part of a J, set within itself; only whole words move.
 
     Everything is counted from the word's origin, the start of its longer
-    string.  A P has no ruby and tells how deep ruby may lie on its blanks.
+    string.  A P has no ruby and tells how deep ruby may lie on it.
     """
 
     def __init__(self, base_first, base_positions, block_end,
@@ -478,7 +485,7 @@ class Word:
         self.ruby_end = ruby_end
         # The furthest end of its block or ruby.
         self.end = max(block_end, ruby_end) if self.has_ruby else block_end
-        # Only a P lets ruby onto its blanks; see plain_word.
+        # Only a P lets ruby onto itself; see plain_word.
         self.depth_before = 0
         self.depth_after = 0
 
@@ -556,10 +563,30 @@ def blank_of_space(job, index):
     return 0 if index == 0 else job.base_width[index]
 
 
+def is_kana(cls):
+    # R-8: "a P element of class 15 or 16".  Small kana, class 11, and the
+    # prolonged sound mark, class 10, are not named.
+    return cls in (15, 16)
+
+
+def depth_on_kana(job, index):
+    # R-8: "Profile 1 permits ruby on a P element of class 15 or 16 just
+    # before or just after, to a depth of at most one ruby em (half the em)
+    # and at most its width. Profile 0 is document 01 with R-1."  Half an em
+    # is em half units.  Only a P is asked: a kana that is the base of a word
+    # takes none.
+    if job.profile != 1:
+        return 0
+    return min(2 * job.base_width[index], job.em)
+
+
 def depth_after(job, index):
     # Rule 2: "the blank after the P element ... (classes 2, 5, 6, 7, 14)";
-    # "The depth is at most the blank as given".
+    # "The depth is at most the blank as given".  By R-8 ruby "may also lie on
+    # a neighbouring kana": what has a blank is as before.
     cls = job.base_class[index]
+    if is_kana(cls):
+        return depth_on_kana(job, index)
     if cls == 14:
         blank = blank_of_space(job, index)
     elif cls in (2, 5, 6, 7):
@@ -570,8 +597,12 @@ def depth_after(job, index):
 
 
 def depth_before(job, index):
-    # Rule 2: "the blank before the P element ... (classes 1, 5, 14)".
+    # Rule 2: "the blank before the P element ... (classes 1, 5, 14)".  R-8 as
+    # above: a kana may take ruby from before and from after, each to its own
+    # depth; rule 3 keeps the two rubies off one another.
     cls = job.base_class[index]
+    if is_kana(cls):
+        return depth_on_kana(job, index)
     if cls == 14:
         blank = blank_of_space(job, index)
     elif cls in (1, 5):
@@ -592,8 +623,9 @@ def broken_1(earlier, earlier_at, later, later_at):
 
 def broken_2_forward(earlier, earlier_at, later, later_at, neighbours):
     # "2. Ruby keeps off every other element's block, except that it may lie
-    # on ... the blank before the P element just after it."  Depth is how far
-    # the ruby reaches past the near edge of the P.
+    # on ... the blank before the P element just after it", or on the kana just
+    # after it (R-8).  Depth is how far the ruby reaches past the near edge of
+    # the P.
     depth = later.depth_before if neighbours else 0
     return ((earlier_at + earlier.ruby_end)
             - (later_at + later.block_start + depth))
@@ -601,7 +633,8 @@ def broken_2_forward(earlier, earlier_at, later, later_at, neighbours):
 
 def broken_2_backward(earlier, earlier_at, later, later_at, neighbours):
     # "2. Ruby keeps off every other element's block, except that it may lie
-    # on the blank after the P element just before it."
+    # on the blank after the P element just before it", or on the kana just
+    # before it (R-8).
     depth = earlier.depth_after if neighbours else 0
     return ((earlier_at + earlier.block_end - depth)
             - (later_at + later.ruby_start))
@@ -774,23 +807,24 @@ def fill_lines(job):
 # The list-level call
 # ---------------------------------------------------------------------------
 
-def set_job(em, measure, ratios, base_class, base_width, blank_before,
-            blank_after, flag, ruby_class, ruby_width, kind, elem_base,
-            elem_ruby, runs, base_out, ruby_out, line_out):
+def set_job(em, measure, ratios, profile, base_class, base_width,
+            blank_before, blank_after, flag, ruby_class, ruby_width, kind,
+            elem_base, elem_ruby, runs, base_out, ruby_out, line_out):
     """('set', number of lines) or ('refused', number, place).
 
     The three result lists are written on success only.
     """
-    job = Job(em, measure, ratios, base_class, base_width, blank_before,
-              blank_after, flag, ruby_class, ruby_width, kind, elem_base,
-              elem_ruby, runs)
+    job = Job(em, measure, ratios, profile, base_class, base_width,
+              blank_before, blank_after, flag, ruby_class, ruby_width, kind,
+              elem_base, elem_ruby, runs)
     try:
         # Order: "1, 2 and 12, each by lowest place; then base characters and
         # then ruby characters in turn, 3 before 4; then elements in turn, in
         # the table's order from 5; then leftover characters; then lines in
-        # turn."  R-4's 15 is "checked after 1".
+        # turn."  R-4's 15 is "checked after 1", R-8's 20 "after 15".
         check_sizes(job)
         check_ratios(job)
+        check_profile(job)
         check_counts(job)
         check_room(job, base_out, ruby_out, line_out)
         check_characters(job)
@@ -882,9 +916,10 @@ class Reader:
 
 
 def read_sheet(sheet):
-    """The fourteen arguments of a job (em to runs), or Refused.
+    """The fifteen arguments of a job (em to runs), or Refused.
 
-    A sheet of this form has no ratios: they are document 01's.
+    A sheet of this form has no ratios: they are document 01's.  Nor has it a
+    profile: "Profile 0 is document 01 with R-1" (R-8).
     """
     # "over-length comes before both"; place "0 if over 65,535 bytes".
     if len(sheet) > LARGEST_SHEET:
@@ -895,7 +930,7 @@ def read_sheet(sheet):
     ruby = read_ruby(reader)
     kind, elem_base, elem_ruby, runs = read_elem(reader)
     reader.nothing_after()
-    return ([em, measure, ONE_TWO_ONE] + base + ruby
+    return ([em, measure, ONE_TWO_ONE, 0] + base + ruby
             + [kind, elem_base, elem_ruby, runs])
 
 
@@ -989,8 +1024,8 @@ def refused_text(number, place):
 def result_text(arguments, base_out, ruby_out, ends):
     # "`lines` has the number of lines, `line` the extent; `b` and `r` have
     # index and position, element by element, base before ruby."
-    base_width, ruby_width = arguments[4], arguments[9]
-    parts = printed_parts(*arguments[10:], ends)
+    base_width, ruby_width = arguments[5], arguments[10]
+    parts = printed_parts(*arguments[11:], ends)
     text = [b'lines %d\n' % len(ends)]
     for end in ends:
         in_line = []

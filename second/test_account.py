@@ -141,14 +141,14 @@ class InLists(unittest.TestCase):
     """account_job: rows of element, start, gap, reason, other and depth."""
 
     def told(self, elements, em=10, measure=4000, ratios=ONE_TWO_ONE,
-             room=None):
+             profile=0, room=None):
         """(answer, rows, told, extents), 77 where nothing was written."""
         lists = as_lists(elements)
         count = len(lists['flag'])
         rows, told, extents = ([77] * length for length in (
             room or (6 * count + 1, count + 1, count + 1)))
-        answer = account_job(em, measure, ratios, rows=rows, told=told,
-                             extents=extents, **lists)
+        answer = account_job(em, measure, ratios, profile, rows=rows,
+                             told=told, extents=extents, **lists)
         return answer, rows, told, extents
 
     def test_k11(self):
@@ -188,6 +188,48 @@ class InLists(unittest.TestCase):
                          ([0, 0, 0, 1, 0, 0, 1, 50, 30, 4, 0, 0]
                           + [77] * 7, [2, 77, 77, 77], [90, 77, 77, 77]))
 
+    def test_on_kana(self):
+        # m(6): block 20..40, ruby 0..60.  Profile 1: the kana at 50 with 10
+        # hu of ruby (3), 10 hu behind the block; the next ruby from 60, on
+        # 10 hu of the kana (4, ahead of rule 3), its block at 80, to 120.
+        words = [m(6), p(15), m(6)]
+        self.assertEqual(
+            self.told(words, profile=1),
+            (('set', 1), [0, 20, 20, 6, 0, 0, 1, 50, 10, 3, 0, 10,
+                          2, 80, 10, 4, 1, 10, 77],
+             [3, 77, 77, 77], [120, 77, 77, 77]))
+        # Profile 0: depth 0; the kana at 60, the next ruby from 80 to 140.
+        self.assertEqual(
+            self.told(words)[1:],
+            ([0, 20, 20, 6, 0, 0, 1, 60, 20, 3, 0, 0,
+              2, 100, 20, 4, 1, 0, 77],
+             [3, 77, 77, 77], [140, 77, 77, 77]))
+
+    def test_on_a_narrow_kana(self):
+        # 4 wide, depth 8: 52..60; 12 hu behind the block.  The next ruby from
+        # 60: the kana would let it from 52, rule 3 does not (5).
+        self.assertEqual(
+            self.told([m(6), p(16, 4), m(6)], profile=1)[1][6:18],
+            [1, 52, 12, 3, 0, 8, 2, 80, 20, 5, 0, 0])
+        # First in the line, 0..8: the ruby at the start, on all 8 hu of it
+        # (4, ahead of 6), its block at 20.
+        self.assertEqual(
+            self.told([p(16, 4), m(6)], profile=1)[1][:12],
+            [0, 0, 0, 1, 0, 0, 1, 20, 12, 4, 0, 8])
+
+    def test_kana_that_takes_none(self):
+        # Small kana and the prolonged sound mark: depth 0, at 60.
+        for cls in (10, 11):
+            self.assertEqual(self.told([m(6), p(cls)], profile=1)[1][6:12],
+                             [1, 60, 20, 3, 0, 0])
+        # Kana as the base of an M, at 60, its short ruby inside.
+        self.assertEqual(
+            self.told([m(6), m(1, cls=15)], profile=1)[1][6:12],
+            [1, 60, 20, 3, 0, 0])
+        # The opening indent 0..20: the ruby from 20, its block at 40.
+        self.assertEqual(self.told([p(14), m(6)], profile=1)[1][6:12],
+                         [1, 40, 20, 4, 0, 0])
+
     def test_room(self):
         # Two base characters: twelve, two and two entries.
         words = [m(3), p()]
@@ -198,12 +240,14 @@ class InLists(unittest.TestCase):
         self.assertEqual(self.told([], room=(0, 0, 0))[0], ('set', 0))
 
     def test_refusals(self):
-        # As of set_job; 12 behind 1, 15 and 2 and ahead of all others.
+        # As of set_job; 12 behind 1, 15, 20 and 2 and ahead of all others.
         bad, none = ((1, 2, 1), (8, 0, 0)), (0, 0, 0)
         over = [p(0)] * 1025
         for expected, words, changes in (
-                ((1, 1), over, dict(measure=0, ratios=bad, room=none)),
-                ((15, 1), over, dict(ratios=bad, room=none)),
+                ((1, 1), over, dict(measure=0, ratios=bad, profile=2,
+                                    room=none)),
+                ((15, 1), over, dict(ratios=bad, profile=2, room=none)),
+                ((20, 0), over, dict(profile=2, room=none)),
                 ((2, 0), over, dict(room=none)),
                 ((12, 0), [p(0)], dict(room=none)),
                 ((3, 0), [p(0)], dict()),
@@ -238,13 +282,14 @@ class OnGeneratedSheets(unittest.TestCase):
                 self.check(lines)
         self.assertGreater(self.seen, 500)
 
-    def test_by_other_ratios(self):
+    def test_by_other_ratios_and_profile_1(self):
         self.seen = 0
         various = ((0, 0, 1), (1, 3, 1), (7, 0, 3), (0, 1, 6))
         for number, text in enumerate(generate.sheets(32, 200)):
             try:
                 arguments = second.read_sheet(text)
                 arguments[2] = various[number % 4], various[number // 4 % 4]
+                arguments[3] = 1
                 lines = drawn_lines_of(arguments)
             except second.Refused:
                 continue

@@ -3,6 +3,7 @@
     python3 second/test_compare_lists.py
 """
 
+import collections
 import io
 import os
 import random
@@ -14,9 +15,11 @@ import unittest
 HERE = os.path.dirname(os.path.abspath(__file__))
 sys.path.insert(0, HERE)
 
-import compare_lists    # noqa: E402  (found through the path set above)
+import account          # noqa: E402  (found through the path set above)
+import compare_lists    # noqa: E402
 import generate_lists   # noqa: E402
 import lists            # noqa: E402
+import second           # noqa: E402
 from compare_lists import Seen, compare_all, wrong_things  # noqa: E402
 from lists import ACCOUNT, SET, Call  # noqa: E402
 from test_second import g, as_lists, quiet  # noqa: E402
@@ -32,7 +35,7 @@ AROUND = list(range(91, 91 + 17))
 
 
 def call_of(which, results):
-    return Call(which, 10, 4000, RATIOS, GROUP, results, AROUND)
+    return Call(which, 10, 4000, RATIOS, 1, GROUP, results, AROUND)
 
 
 def words_of(call, results):
@@ -49,12 +52,12 @@ def words_of(call, results):
 class Bytes(unittest.TestCase):
 
     def test_a_call(self):
-        # Function 0, em, measure; two base characters in five lists, seven
-        # ruby characters in two, one element in three, no runs; room for 2,
-        # 8 and 3 entries.
+        # Function 0, em, measure, profile; two base characters in five lists,
+        # seven ruby characters in two, one element in three, no runs; room
+        # for 2, 8 and 3 entries.
         results = [[1, 2], [3] * 8, [4, 5, 6]]
         call = call_of(SET, results)
-        head = [0, 10, 4000, 2, 2, 2, 2, 2, 7, 7, 1, 1, 1, 0, 2, 8, 3]
+        head = [0, 10, 4000, 1, 2, 2, 2, 2, 2, 7, 7, 1, 1, 1, 0, 2, 8, 3]
         words = head + words_of(call, results)
         self.assertEqual(call.to_bytes(),
                          struct.pack('<%dI' % len(words), *words))
@@ -94,7 +97,7 @@ class Bytes(unittest.TestCase):
 
     def test_cut_short(self):
         content = call_of(SET, [[1], [2], [3]]).to_bytes()
-        for end in (1, 67, 68, 69, len(content) - 1):
+        for end in (1, 71, 72, 73, len(content) - 1):
             with self.assertRaises(ValueError):
                 lists.read_call(io.BytesIO(content[:end]))
 
@@ -108,6 +111,52 @@ class Bytes(unittest.TestCase):
         words += [0, 1] + words_of(calls[1], [
             [10, 30], [0, 10, 20, 30, 40, 50, 60], [2, 5]])
         self.assertEqual(lists.unpacked(done.stdout), words)
+
+
+def kana_edges(call):
+    """Edges of R-8 that an accepted job of profile 1 shows."""
+    arguments = call.em, call.measure, call.ratios, 1, *call.given
+    job = account.sound_job(arguments)
+    for number, line in enumerate(account.drawn_lines_of(arguments)):
+        classes = [job.base_class[job.elements[drawn.element].base_first]
+                   for drawn in line]
+        for place, (one, two) in enumerate(zip(line, line[1:])):
+            over = two.ruby and one.block[1] - two.ruby[0]
+            under = one.ruby and one.ruby[1] - two.block[0]
+            first, next_one = classes[place:place + 2]
+            # A kana before or after a ruby that lies on it as deep as it may.
+            if not one.ruby and over and 0 < over == one.depth_after:
+                yield 'whole depth after class %d' % first
+                if first in (15, 16):
+                    yield 'depth %s half an em' % (
+                        'under' if over < job.em else 'of')
+                    if place == 0:
+                        yield ('first in the job' if number == 0
+                               else 'first in a later line')
+                    elif one.depth_before and line[place - 1].depth_after:
+                        yield 'behind a blank or a kana'
+            if not two.ruby and under and 0 < under == two.depth_before:
+                yield 'whole depth before class %d' % next_one
+            # What takes none, beside a reading that would lie on it.
+            if over == 0 and one.depth_after == 0 and two.ruby[0] < (
+                    two.block[0]):
+                yield 'none on class %d%s' % (
+                    first, ' with ruby' if one.ruby else '')
+        for one, two, three in zip(line, line[1:], line[2:]):
+            if (one.ruby and three.ruby and two.depth_after > 0
+                    and one.ruby[1] == three.ruby[0]
+                    and two.block[0] < one.ruby[1] <= two.block[1]):
+                yield 'two readings on one, that touch'
+
+
+WANTED = ['whole depth %s class %d' % (side, cls)
+          for side in ('before', 'after') for cls in (5, 14, 15, 16)] + [
+    'whole depth before class 1', 'whole depth after class 2',
+    'whole depth after class 7', 'depth under half an em',
+    'depth of half an em', 'first in the job', 'first in a later line',
+    'behind a blank or a kana', 'none on class 10', 'none on class 11',
+    'none on class 14', 'none on class 15 with ruby',
+    'none on class 16 with ruby', 'two readings on one, that touch']
 
 
 class Generated(unittest.TestCase):
@@ -134,9 +183,10 @@ class Generated(unittest.TestCase):
 
     def test_every_place_of_the_door(self):
         places = {answer[1:] for answer, _ in self.expected
-                  if answer[0] == 'refused' and answer[1] in (1, 15, 2, 12)}
-        self.assertEqual(places, {(1, 0), (1, 1), (15, 0), (15, 1), (2, 0),
-                                  (2, 1), (2, 2), (12, 0)})
+                  if answer[0] == 'refused'
+                  and answer[1] in (1, 15, 20, 2, 12)}
+        self.assertEqual(places, {(1, 0), (1, 1), (15, 0), (15, 1), (20, 0),
+                                  (2, 0), (2, 1), (2, 2), (12, 0)})
 
     def test_every_ratio_in_turn(self):
         # 729 with numbers from 0 to 8; 511 are sound: 8 * 8 * 8 less 0:0:0.
@@ -159,6 +209,31 @@ class Generated(unittest.TestCase):
                  in zip(self.calls, self.expected) if answer[0] == 'set'
                  and list(map(tuple, call.ratios)) != [(1, 2, 1), (1, 2, 1)]]
         self.assertGreater(len(other), 300)
+
+    def test_profiles(self):
+        # The profile decides the answer of many jobs.
+        decided = 0
+        for (call, _), expected in zip(self.calls, self.expected):
+            if call.profile in (0, 1):
+                other = Call(call.which, call.em, call.measure, call.ratios,
+                             1 - call.profile, call.given, call.results,
+                             call.around)
+                decided += other.answered() != expected
+        self.assertGreater(decided, 100)
+
+    def test_every_edge_of_profile_1(self):
+        met = collections.Counter()
+        for (call, _), (answer, _) in zip(self.calls, self.expected):
+            if answer[0] == 'set' and call.profile == 1:
+                met.update(set(kana_edges(call)))
+        self.assertEqual([edge for edge in WANTED if met[edge] == 0], [])
+
+    def test_every_number_fits_its_bytes(self):
+        for both in generate_lists.calls(7, 300):
+            for call in both:
+                self.assertLessEqual(max(call.em, call.measure, call.profile,
+                                         *call.memory(call.results)),
+                                     second.LARGEST_NUMBER)
 
     def test_short_and_long_lists(self):
         lengths = [len(call.given[0]) for call, _ in self.calls]
@@ -267,12 +342,16 @@ class Comparison(unittest.TestCase):
                              in compare_lists.REFUSALS})
         seen.answers[0] = 1300
         seen.ratios = set(generate_lists.ALL), set(generate_lists.ALL)
+        seen.profiles.update({0: 975, 1: 325})
         self.assertEqual(list(seen.missing()), [])
-        del seen.answers[12]
+        del seen.answers[12], seen.answers[20]
         seen.answers[0] = 300
+        seen.profiles.update({0: -901, 1: -99})
         seen.ratios[1].remove((0, 8, 7))
         self.assertEqual(list(seen.missing()), [
-            'no job refused by 12', '300 accepted of 1500 jobs',
+            'no job refused by 12', 'no job refused by 20',
+            '300 accepted of 1500 jobs',
+            '74 by profile 0 of 300 accepted jobs',
             'no job with 0:8:7 for base'])
 
     def run_it(self, command, count):
@@ -285,7 +364,8 @@ class Comparison(unittest.TestCase):
     def test_as_a_program(self):
         status, rows = self.run_it(OWN, 25)
         self.assertEqual((status, len(rows)), (0, 2))
-        self.assertRegex(rows[0], r'^seen: [1-9][0-9]* accepted; refused '
+        self.assertRegex(rows[0], r'^seen: [1-9][0-9]* accepted, [1-9][0-9]* '
+                         r'of them by profile 1; refused '
                          r'[0-9]+ by [0-9]+, .*; [0-9]+ ratios of ruby, '
                          r'[0-9]+ of base$')
         self.assertEqual(rows[1], 'compared 25 jobs, 0 differences')

@@ -2,10 +2,10 @@
 
     python3 second/test_second.py
 
-Every expected value comes from document 01 (with R-1 and R-4 of document 02),
-or is derived from its rules in the comment beside it.  hu means half units.
-Where nothing else is said, em is 10, base characters are 10 wide and ruby
-characters 5 wide, as in the settings K1 to K12.
+Every expected value comes from document 01 (with R-1, R-4 and R-8 of document
+02), or is derived from its rules in the comment beside it.  hu means half
+units.  Where nothing else is said, em is 10, base characters are 10 wide and
+ruby characters 5 wide, as in the settings K1 to K12.
 """
 
 import os
@@ -142,15 +142,15 @@ class Lists:
     """A list-level call on a job of elements, with some lists replaced."""
 
     def __init__(self, elements, em=10, measure=4000, ratios=ONE_TWO_ONE,
-                 room=None, **replaced):
+                 profile=0, room=None, **replaced):
         arguments = as_lists(elements)
         arguments.update(replaced)
         base, ruby, line = room if room else (1024, 2048, 1024)
         self.base_out = [77] * base
         self.ruby_out = [77] * ruby
         self.line_out = [77] * line
-        self.result = set_job(em, measure, ratios, base_out=self.base_out,
-                              ruby_out=self.ruby_out,
+        self.result = set_job(em, measure, ratios, profile,
+                              base_out=self.base_out, ruby_out=self.ruby_out,
                               line_out=self.line_out, **arguments)
         outs = self.base_out + self.ruby_out + self.line_out
         self.untouched = all(entry == 77 for entry in outs)
@@ -924,6 +924,227 @@ class OpeningIndent(Case):
 
 
 # ---------------------------------------------------------------------------
+# R-8: profile 1
+# ---------------------------------------------------------------------------
+
+def by_profile(profile, elements, em=10):
+    """(base positions, ruby positions) of a job that is one line."""
+    call = Lists(elements, em, profile=profile)
+    assert call.result == ('set', 1), call.result
+    lists = as_lists(elements)
+    return (call.base_out[:len(lists['flag'])],
+            call.ruby_out[:len(lists['ruby_width'])])
+
+
+def bases(*elements, profile=1, em=10):
+    """The base positions of a job that is one line, by profile 1."""
+    return by_profile(profile, elements, em)[0]
+
+
+def kana(width=10, flag=1):
+    return p(15, width, flag=flag)
+
+
+class OnKana(Case):
+    """R-8: "Profile 1 permits ruby on a P element of class 15 or 16 just
+    before or just after, to a depth of at most one ruby em (half the em) and
+    at most its width."
+
+    m(3), m(4) and m(6) as above; half the em is 10 hu.
+    """
+
+    def test_just_after(self):
+        for cls in (15, 16):
+            # m(3): ruby to 30, block to 25: 20 by the ruby, 25 by the block.
+            self.assertEqual(bases(m(3), p(cls)), [5, 25])
+            # m(4): ruby to 40, block to 30: 30 by either.
+            self.assertEqual(bases(m(4), p(cls)), [10, 30])
+            # m(6): ruby to 60, block to 40: 10 hu of ruby on it, from 50.
+            self.assertEqual(bases(m(6), p(cls)), [20, 50])
+
+    def test_just_before(self):
+        for cls in (15, 16):
+            # Kana 0..20.  m(3): ruby from 15 by the block, base at 20.
+            self.assertEqual(by_profile(1, [p(cls), m(3)]),
+                             ([0, 20], [15, 25, 35]))
+            # m(4): ruby from 10, base at 20; m(6): from 10, base at 30.
+            self.assertEqual(bases(p(cls), m(4)), [0, 20])
+            self.assertEqual(by_profile(1, [p(cls), m(6)]),
+                             ([0, 30], [10, 20, 30, 40, 50, 60]))
+
+    def test_profile_0_is_as_before(self):
+        # Ruby to 30 and 60; kana 0..20, ruby from 20.
+        for cls in (15, 16):
+            self.assertEqual(bases(m(3), p(cls), profile=0), [5, 30])
+            self.assertEqual(bases(m(6), p(cls), profile=0), [20, 60])
+            self.assertEqual(bases(p(cls), m(4), profile=0), [0, 30])
+            self.assertEqual(bases(p(cls), m(6), profile=0), [0, 40])
+
+    def test_narrower_than_the_depth(self):
+        # m(6): ruby to 60.  Width 6: depth min(12, 10): at 50; 5: 10, at 50;
+        # 4: 8, at 52; 1: 2, at 58.  It never comes out behind the kana.
+        for width, place in ((20, 50), (6, 50), (5, 50), (4, 52), (1, 58)):
+            self.assertEqual(bases(m(6), kana(width)), [20, place])
+        # Width 20, 0..40: ruby from 30, base at 50; 6, 0..12: ruby from 2, at
+        # 22; 5, 0..10: ruby from 0, at 20; 4, 0..8, and 1, 0..2: the same.
+        for width, place in ((20, 50), (6, 22), (5, 20), (4, 20), (1, 20)):
+            self.assertEqual(bases(kana(width), m(6)), [0, place])
+        # Behind a P 0..20.  Width 4, 20..28: ruby from 20, at 40.  Not over
+        # it onto the P, however near that would be.
+        self.assertEqual(bases(p(), kana(4), m(6)), [0, 20, 40])
+        self.assertEqual(bases(m(6), kana(1), p()), [20, 58, 60])
+
+    def test_one_ruby_em_of_another_em(self):
+        # em 2: half of it is 2 hu.  Ruby 2 + 2 over 2: block 2..6, ruby 0..8.
+        # Kana 2 wide: 6 by either; before: 0..4, ruby from 2, base at 4.
+        word = m([2, 2], width=2)
+        self.assertEqual(bases(word, kana(2), em=2), [2, 6])
+        self.assertEqual(bases(kana(2), word, em=2), [0, 4])
+        # em 8: 8 hu.  m(6), 10 wide: at 52; before: ruby from 12, base at 32.
+        self.assertEqual(bases(m(6), kana(), em=8), [20, 52])
+        self.assertEqual(bases(kana(), m(6), em=8), [0, 32])
+
+    def test_between_two_long_readings(self):
+        # m(6): ruby to 60, kana 50..70 with 10 hu of it; the next ruby from
+        # 60, by the kana (70 - 10) and by rule 3: base at 80.  Both lie on
+        # the whole kana and touch.
+        self.assertEqual(by_profile(1, [m(6), kana(), m(6)]), (
+            [20, 50, 80], [0, 10, 20, 30, 40, 50, 60, 70, 80, 90, 100, 110]))
+        # Width 15: kana 50..80, ruby from 70: they do not meet, base at 90.
+        self.assertEqual(bases(m(6), kana(15), m(6)), [20, 50, 90])
+        # Profile 0: kana 60..80, ruby from 80, base at 100.
+        self.assertEqual(bases(m(6), kana(), m(6), profile=0), [20, 60, 100])
+
+    def test_rule_3_across_a_kana(self):
+        # Width 7: kana 50..64.  By the kana the ruby from 54; by rule 3 from
+        # 60: base at 80.
+        self.assertEqual(bases(m(6), kana(7), m(6)), [20, 50, 80])
+        # Width 4: depth 8: kana 52..60; 52 by the kana, 60 by rule 3.
+        self.assertEqual(bases(m(6), kana(4), m(6)), [20, 52, 80])
+        # Width 1: kana 58..60; 58 by the kana, 60 by rule 3.
+        self.assertEqual(bases(m(6), kana(1), m(6)), [20, 58, 80])
+        # m(3): block to 25, ruby to 30.  Width 1: kana 28..30, depth 2; width
+        # 4: kana 25..33 (22 by the ruby); the next ruby from 30, base at 35.
+        self.assertEqual(bases(m(3), kana(1), m(3)), [5, 28, 35])
+        self.assertEqual(bases(m(3), kana(4), m(3)), [5, 25, 35])
+
+    def test_two_kana(self):
+        # Each reading has a kana of its own: 50..70 and 70..90; the ruby from
+        # 80, base at 100.
+        self.assertEqual(bases(m(6), kana(), kana(), m(6)),
+                         [20, 50, 70, 100])
+        # 1 wide: 58..60 and 60..62; the ruby from 60, by the second (62 - 2)
+        # and by rule 3, base at 80.
+        self.assertEqual(bases(m(6), kana(1), kana(1), m(6)),
+                         [20, 58, 60, 80])
+
+    def test_only_just_before_and_just_after(self):
+        # A P between: kana 0..20, P 20..40: ruby from 40, base at 60.
+        self.assertEqual(bases(kana(), p(), m(6)), [0, 20, 60])
+        # Ruby to 60, P there, kana behind it.
+        self.assertEqual(bases(m(6), p(), kana()), [20, 60, 80])
+
+    def test_other_classes_take_none(self):
+        # m(6) to 60; 0..20 and ruby from 20.  Small kana is class 11, the
+        # prolonged sound mark 10; the classes with blanks have none here.
+        for cls in list(range(1, 14)) + [17, 18, 19, 24, 25, 26, 27]:
+            self.assertEqual(bases(m(6), p(cls)), [20, 60])
+            self.assertEqual(bases(p(cls), m(6)), [0, 40])
+
+    def test_as_the_base_of_a_word(self):
+        # m(6) to 60, the next block there.  Block 0..20, the next ruby from
+        # 20: base at 40.
+        for cls in (15, 16):
+            for line in ('M 1', 'G 1 1', 'J 1 1'):
+                word = [(cls, 10, 0, 0, 1)], [(15, 5)], line
+                self.assertEqual(bases(m(6), word), [20, 60])
+                self.assertEqual(bases(word, m(6)), [0, 40])
+            # G over two of them: block 0..40, ruby from 40, base at 60.
+            self.assertEqual(bases(g(2, 2, cls=cls), m(6)), [0, 20, 60])
+            # Long readings of both: rule 3, 60..120.
+            self.assertEqual(bases(m(6), m(6, cls=cls)), [20, 80])
+
+    def test_group_with_spread_base(self):
+        # K4: block 7..63, ruby 0..70.  Kana at 63 (60 by the ruby), 63..83;
+        # the next origin 76 by the blocks (83 - 7), 73 by the kana.
+        self.assertEqual(bases(g(2, 7), kana(), g(2, 7)),
+                         [7, 43, 63, 83, 119])
+
+    def test_blanks_are_as_before(self):
+        # All of profile 0 stays.  Bracket with blank before 5, 4, none: at
+        # 50, 52, 60; comma with blank after 5, 4: ruby from 10, 12, base at
+        # 30, 32.
+        for blank, place in ((5, 50), (4, 52), (0, 60)):
+            self.assertEqual(bases(m(6), p(1, 10, blank, 0)), [20, place])
+        for blank, place in ((5, 30), (4, 32), (0, 40)):
+            for cls in (2, 6, 7):
+                self.assertEqual(bases(p(cls, 10, 0, blank), m(6)),
+                                 [0, place])
+        # Class 5 a quarter em, 5 hu: at 55; ruby from 15, base at 35.
+        self.assertEqual(bases(m(6), p(5, 10, 5, 5)), [20, 55])
+        self.assertEqual(bases(p(5, 10, 5, 5), m(6)), [0, 35])
+        # A space that is not the first element: 50; 20..40, ruby from 30.
+        self.assertEqual(bases(m(6), p(14)), [20, 50])
+        self.assertEqual(bases(p(), p(14), m(6)), [0, 20, 50])
+
+    def test_kana_beside_a_bracket(self):
+        # Kana 50..70, the closing bracket 70..90 with a blank of 5: the next
+        # ruby from 80, base at 100.
+        self.assertEqual(bases(m(6), kana(), p(2, 10, 0, 5), m(6)),
+                         [20, 50, 70, 100])
+        # Opening bracket, blank of 5: 50..70; kana 70..90, ruby from 80.
+        self.assertEqual(bases(m(6), p(1, 10, 5, 0), kana(), m(6)),
+                         [20, 50, 70, 100])
+        # The kana is 1 wide, 58..60: the bracket's blank is not next to the
+        # ruby, which ends at 60.
+        self.assertEqual(bases(m(6), kana(1), p(1, 10, 5, 0)), [20, 58, 60])
+
+    def test_the_opening_indent_takes_none(self):
+        # R-1 is as before: indent 0..20, ruby from 20, base at 40.
+        self.assertEqual(bases(p(14), m(6)), [0, 40])
+        # Indent 0..20, kana 20..40: ruby from 30, base at 50.
+        self.assertEqual(bases(p(14), kana(), m(6)), [0, 20, 50])
+        # 1 wide, 20..22: ruby from 20, base at 40.
+        self.assertEqual(bases(p(14), kana(1), m(6)), [0, 20, 40])
+
+    def test_first_in_a_later_line(self):
+        # Measure 35, 70 hu.  Line one: 40, and 110 with the kana and the word
+        # (kana 40..60, ruby 50..110).  Line two: kana 0..20, ruby 10..70,
+        # base at 30.
+        words = [p(), p(), kana(flag=0), m(6)]
+        call = self.accepted(words, measure=35, profile=1)
+        self.assertEqual(call.result, ('set', 2))
+        self.assertEqual(call.line_out[:2], [2, 4])
+        self.assertEqual(call.base_out[:4], [0, 20, 0, 30])
+        # A reading at the end of a line lies on no kana of the next one.
+        # Measure 35: ruby 0..60, and the kana 50..70 fits; 34: it does not.
+        words = [m(6), kana()]
+        self.assertEqual(self.accepted(words, measure=35, profile=1).result,
+                         ('set', 1))
+        call = self.accepted(words, measure=34, profile=1)
+        self.assertEqual(call.result, ('set', 2))
+        self.assertEqual(call.base_out[:2], [20, 0])
+
+    def test_it_decides_what_fits(self):
+        # Kana 50..70, ruby 60..120; by profile 0 60..80 and 80..140.
+        words = [m(6, flag=0), kana(flag=0), m(6)]
+        self.accepted(words, measure=60, profile=1)
+        self.refused(11, 0, words, measure=59, profile=1)
+        self.accepted(words, measure=70)
+        self.refused(11, 0, words, measure=69)
+
+    def test_parts_of_a_jukugo(self):
+        # j([3, 3]) cut by measure 25: each part as M, ruby 0..30, block
+        # 5..25.  The kana behind the second part at 25: 45 hu.
+        call = self.accepted([j([3, 3]), kana()], measure=25, profile=1)
+        self.assertEqual(call.result, ('set', 2))
+        self.assertEqual(call.base_out[:3], [5, 5, 25])
+
+    def test_a_sheet_means_profile_0(self):
+        self.assertEqual(one_line([m(6), kana(), m(6)])[0], [20, 60, 100])
+
+
+# ---------------------------------------------------------------------------
 # Filling
 # ---------------------------------------------------------------------------
 
@@ -1095,6 +1316,14 @@ class Refusals(Case):
             for other in ((8, 1, 1), (1, 1, 8), (0, 0, 0)):
                 self.refused(15, 0, ONE, ratios=(bad, other))
 
+    def test_20_profile(self):
+        for profile in (0, 1):
+            self.accepted(ONE, profile=profile)
+        for profile in (2, 3, 256, 257, BIG):
+            self.refused(20, 0, ONE, profile=profile)
+            # Also where no kana is.
+            self.refused(20, 0, [], profile=profile)
+
     def test_2_counts(self):
         full = [m(2) for _ in range(1024)]
         # Ten words of 20 hu fill 2 * 100 exactly: 103 lines, the last of 4.
@@ -1129,9 +1358,10 @@ class Refusals(Case):
 
     def test_12_empty_lists(self):
         # Nothing to set: empty lists are enough.
-        result = set_job(10, 10, ONE_TWO_ONE, [], [], [], [], [], [], [], [],
-                         [], [], [], [], [], [])
-        self.assertEqual(result, ('set', 0))
+        for profile in (0, 1):
+            result = set_job(10, 10, ONE_TWO_ONE, profile, [], [], [], [], [],
+                             [], [], [], [], [], [], [], [], [])
+            self.assertEqual(result, ('set', 0))
 
     def test_3_class(self):
         good = (1, 2, 5, 14, 18, 19, 24, 25, 26, 27)
@@ -1323,6 +1553,27 @@ class Order(Case):
             self.refused(15, place, [p(0)], ratios=ratios, room=(0, 0, 0))
             self.refused(15, place, [p(0)], ratios=ratios)
             self.refused(15, place, [p()], ratios=ratios, measure=9)
+
+    def test_1_15_20_2_12(self):
+        over, none = [p(0) for _ in range(1025)], (0, 0, 0)
+        for profile in (2, BIG):
+            for ratios, place in ((((0, 0, 0), (1, 2, 1)), 0),
+                                  (((1, 2, 1), (1, 8, 1)), 1)):
+                for words in (over, [p(0)], [p()]):
+                    self.refused(1, 0, words, em=0, ratios=ratios,
+                                 profile=profile, room=none)
+                    self.refused(1, 1, words, measure=0, profile=profile)
+                    self.refused(15, place, words, ratios=ratios,
+                                 profile=profile, room=none)
+            self.refused(20, 0, over, profile=profile, room=none)
+            self.refused(20, 0, over, profile=profile)
+            self.refused(20, 0, [p(0)], profile=profile, room=none)
+            self.refused(20, 0, [p(0)], profile=profile)
+            self.refused(20, 0, [p()], profile=profile, measure=9)
+        for profile in (0, 1):
+            self.refused(2, 0, over, profile=profile, room=none)
+            self.refused(12, 0, [p(0)], profile=profile, room=none)
+            self.refused(3, 0, [p(0)], profile=profile)
 
     def test_characters_before_elements(self):
         # The unknown kind is element 0; the ruby with width 0 comes first.
@@ -1799,15 +2050,20 @@ def furthest_settable(job, owner, breaks, first):
 
 
 def accepted_jobs(seed, count):
-    """Jobs of generated sheets, by various ratios, that pass 1 to 10."""
+    """Jobs of generated sheets that pass 1 to 10.
+
+    They are set by various ratios, and by profile 1 as often as by 0.
+    """
     various = ((1, 2, 1), (0, 0, 1), (1, 3, 1), (7, 0, 3), (0, 1, 6))
     for number, text in enumerate(generate.sheets(seed, count)):
         try:
             arguments = second.read_sheet(text)
             arguments[2] = (various[number % 5], various[number // 5 % 5])
+            arguments[3] = number % 2
             job = second.Job(*arguments)
             second.check_sizes(job)
             second.check_ratios(job)
+            second.check_profile(job)
             second.check_counts(job)
             second.check_characters(job)
             second.take_elements(job)

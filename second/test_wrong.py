@@ -5,9 +5,10 @@
 Every entry of WRONG replaces some functions of the second program by wrong
 ones: the drawings that document 01 doesn't want to see again, readings of 01
 that are not ours, and slips at an edge.  Some of the first 1,500 sheets of
-seed 1 have to show each of them.  WRONG_BY_RATIOS has what sheets cannot show,
-readings of R-4 that are not ours and slips in it; some of the first 1,000 jobs
-in lists of seed 1 have to show each of those.
+seed 1 have to show each of them.  WRONG_BY_RATIOS and WRONG_BY_PROFILE have
+what sheets cannot show, readings of R-4 and of R-8 that are not ours and slips
+in them; some of the first 1,000 jobs in lists of seed 1 have to show each of
+those.
 """
 
 import copy
@@ -22,12 +23,13 @@ sys.path.insert(0, HERE)
 import generate     # noqa: E402  (found through the path set above)
 import generate_lists   # noqa: E402
 import second       # noqa: E402
-from second import G, J, P, Refused  # noqa: E402
+from second import G, J, M, P, Refused  # noqa: E402
 
 right = {name: value for name, value in vars(second).items()
          if callable(value)}
 WRONG = {}
 WRONG_BY_RATIOS = {}
+WRONG_BY_PROFILE = {}
 
 
 def wrong(name, among=WRONG):
@@ -41,6 +43,10 @@ def wrong(name, among=WRONG):
 
 def wrong_by_ratios(name):
     return wrong(name, WRONG_BY_RATIOS)
+
+
+def wrong_by_profile(name):
+    return wrong(name, WRONG_BY_PROFILE)
 
 
 # ---------------------------------------------------------------------------
@@ -1112,6 +1118,351 @@ def _():
 
 
 # ---------------------------------------------------------------------------
+# R-8: the profile
+# ---------------------------------------------------------------------------
+
+def on_kana(depth):
+    """`depth(job, width)` in the place of the depth on a kana."""
+    def depth_on_kana(job, index):
+        if job.profile != 1:
+            return 0
+        return depth(job, job.base_width[index])
+    return {'depth_on_kana': depth_on_kana}
+
+
+def kana_are(*classes):
+    return {'is_kana': lambda cls: cls in classes}
+
+
+@wrong_by_profile('a profile that is not read')
+def _():
+    return on_kana(lambda job, width: 0)
+
+
+@wrong_by_profile('ruby on kana in profile 0 too')
+def _():
+    return {'depth_on_kana':
+            lambda job, index: min(2 * job.base_width[index], job.em)}
+
+
+@wrong_by_profile('the profiles exchanged')
+def _():
+    def depth_on_kana(job, index):
+        if job.profile == 1:
+            return 0
+        return min(2 * job.base_width[index], job.em)
+    return {'depth_on_kana': depth_on_kana}
+
+
+@wrong_by_profile('ruby on small kana')
+def _():
+    return kana_are(11, 15, 16)
+
+
+@wrong_by_profile('ruby on the prolonged sound mark')
+def _():
+    return kana_are(10, 15, 16)
+
+
+@wrong_by_profile('ruby on class 15 alone')
+def _():
+    return kana_are(15)
+
+
+@wrong_by_profile('ruby on class 16 alone')
+def _():
+    return kana_are(16)
+
+
+@wrong_by_profile('ruby on class 19')
+def _():
+    return kana_are(15, 16, 19)
+
+
+@wrong_by_profile('ruby past the width of a kana')
+def _():
+    return on_kana(lambda job, width: job.em)
+
+
+@wrong_by_profile('ruby on the whole kana')
+def _():
+    return on_kana(lambda job, width: 2 * width)
+
+
+@wrong_by_profile('a whole em of ruby on a kana')
+def _():
+    return on_kana(lambda job, width: min(2 * width, 2 * job.em))
+
+
+@wrong_by_profile('a quarter em of ruby on a kana')
+def _():
+    return on_kana(lambda job, width: min(2 * width, job.em // 2))
+
+
+@wrong_by_profile('ruby on half the width of a kana')
+def _():
+    return on_kana(lambda job, width: min(width, job.em))
+
+
+@wrong_by_profile('no ruby on a kana narrower than half an em')
+def _():
+    return on_kana(lambda job, width: job.em if 2 * width >= job.em else 0)
+
+
+def no_ruby_on(side, is_held):
+    """No depth on one side of a kana of which `is_held(job, index)`."""
+    def depth(job, index):
+        if second.is_kana(job.base_class[index]) and is_held(job, index):
+            return 0
+        return right[side](job, index)
+    return {side: depth}
+
+
+@wrong_by_profile('ruby on a kana just after it alone')
+def _():
+    return no_ruby_on('depth_after', lambda job, index: True)
+
+
+@wrong_by_profile('ruby on a kana just before it alone')
+def _():
+    return no_ruby_on('depth_before', lambda job, index: True)
+
+
+@wrong_by_profile('no ruby on a kana as the first character of the job')
+def _():
+    return no_ruby_on('depth_after', lambda job, index: index == 0)
+
+
+def changed_words(change):
+    """`change(job, words, place)` of copies of a line's words, kana alone."""
+    def words_of_line(job, owner, first, end):
+        words = [copy.copy(word) for word in
+                 right['words_of_line'](job, owner, first, end)]
+        for place, word in enumerate(words):
+            if not word.has_ruby and (
+                    second.is_kana(job.base_class[word.base_first])):
+                change(job, words, place)
+        return words
+    return {'words_of_line': words_of_line}
+
+
+@wrong_by_profile('no ruby on a kana as the first character of a later line')
+def _():
+    def change(job, words, place):
+        if place == 0 and words[0].base_first > 0:
+            words[0].depth_after = 0
+    return changed_words(change)
+
+
+def is_between(words, place):
+    """Whether it stands between two words that have ruby."""
+    return (0 < place < len(words) - 1 and words[place - 1].has_ruby
+            and words[place + 1].has_ruby)
+
+
+@wrong_by_profile('one reading alone on a kana between two, the earlier')
+def _():
+    def change(job, words, place):
+        if is_between(words, place):
+            words[place].depth_after = 0
+    return changed_words(change)
+
+
+@wrong_by_profile('one reading alone on a kana between two, the later')
+def _():
+    def change(job, words, place):
+        if is_between(words, place):
+            words[place].depth_before = 0
+    return changed_words(change)
+
+
+@wrong_by_profile('half of a kana for each reading')
+def _():
+    def change(job, words, place):
+        word = words[place]
+        if is_between(words, place):
+            half = word.block_end // 2
+            word.depth_before = min(word.depth_before, half)
+            word.depth_after = min(word.depth_after, half)
+    return changed_words(change)
+
+
+@wrong_by_profile('rule 3 not asked across a kana')
+def _():
+    def change(job, words, place):
+        if is_between(words, place) and words[place].depth_after > 0:
+            words[place - 1].across = words[place + 1].base_first
+
+    def broken_3(earlier, earlier_at, later, later_at):
+        if getattr(earlier, 'across', None) == later.base_first:
+            return 0
+        return right['broken_3'](earlier, earlier_at, later, later_at)
+    return {**changed_words(change), 'broken_3': broken_3}
+
+
+def over_kana(kind):
+    """A kana as the base of a word of this kind takes ruby, at either end."""
+    def ruby_word(job, element, first, end):
+        word = right['ruby_word'](job, element, first, end)
+        if element.kind == kind:
+            if second.is_kana(job.base_class[first]):
+                word.depth_before = second.depth_on_kana(job, first)
+            if second.is_kana(job.base_class[end - 1]):
+                word.depth_after = second.depth_on_kana(job, end - 1)
+        return word
+    return {'ruby_word': ruby_word}
+
+
+@wrong_by_profile('ruby on a kana that is the base of M')
+def _():
+    return over_kana(M)
+
+
+@wrong_by_profile('ruby on a kana that is the base of G')
+def _():
+    return over_kana(G)
+
+
+@wrong_by_profile('ruby on a kana that is the base of J')
+def _():
+    return over_kana(J)
+
+
+def no_blanks(side):
+    def depth(job, index):
+        if job.profile == 1 and not second.is_kana(job.base_class[index]):
+            return 0
+        return right[side](job, index)
+    return {side: depth}
+
+
+@wrong_by_profile('no ruby on blanks after in profile 1')
+def _():
+    return no_blanks('depth_after')
+
+
+@wrong_by_profile('no ruby on blanks before in profile 1')
+def _():
+    return no_blanks('depth_before')
+
+
+@wrong_by_profile('half an em on class 5 in profile 1')
+def _():
+    def greatest_depth(job, cls):
+        return job.em if job.profile == 1 else right['greatest_depth'](job,
+                                                                       cls)
+    return {'greatest_depth': greatest_depth}
+
+
+@wrong_by_profile('ruby on the opening indent in profile 1')
+def _():
+    def blank_of_space(job, index):
+        if job.profile == 1:
+            return job.base_width[index]
+        return right['blank_of_space'](job, index)
+    return {'blank_of_space': blank_of_space}
+
+
+def check_20_within(name):
+    """20 in front of what another check looks at, and not where it stands."""
+    def check(job):
+        right['check_profile'](job)
+        right[name](job)
+    return {name: check, 'check_profile': lambda job: None}
+
+
+@wrong_by_profile('20 ahead of 1')
+def _():
+    return check_20_within('check_sizes')
+
+
+@wrong_by_profile('20 ahead of 15')
+def _():
+    return check_20_within('check_ratios')
+
+
+@wrong_by_profile('20 between the ruby ratio and the base ratio')
+def _():
+    def check_ratios(job):
+        try:
+            right['check_ratios'](job)
+        except Refused as refusal:
+            if refusal.place == 1:
+                right['check_profile'](job)
+            raise
+    return {'check_ratios': check_ratios}
+
+
+@wrong_by_profile('20 after 2')
+def _():
+    def check_counts(job):
+        right['check_counts'](job)
+        right['check_profile'](job)
+    return {'check_counts': check_counts, 'check_profile': lambda job: None}
+
+
+@wrong_by_profile('20 after 12')
+def _():
+    def check_room(job, *results):
+        right['check_room'](job, *results)
+        right['check_profile'](job)
+    return {'check_room': check_room, 'check_profile': lambda job: None}
+
+
+@wrong_by_profile('20 after the characters and elements')
+def _():
+    def fill_lines(job):
+        right['check_profile'](job)
+        return right['fill_lines'](job)
+    return {'fill_lines': fill_lines, 'check_profile': lambda job: None}
+
+
+def judged_profile(is_bad, place=0):
+    def check_profile(job):
+        if is_bad(job.profile):
+            raise Refused(20, place)
+    return {'check_profile': check_profile}
+
+
+@wrong_by_profile('2 accepted')
+def _():
+    return judged_profile(lambda profile: profile > 2)
+
+
+@wrong_by_profile('every profile accepted')
+def _():
+    return judged_profile(lambda profile: False)
+
+
+@wrong_by_profile('1 refused')
+def _():
+    return judged_profile(lambda profile: profile > 0)
+
+
+@wrong_by_profile('a profile by its last byte')
+def _():
+    return judged_profile(lambda profile: profile % 256 > 1)
+
+
+@wrong_by_profile('a profile as a number with a sign')
+def _():
+    return judged_profile(lambda profile: 1 < profile < 2 ** 31)
+
+
+@wrong_by_profile('20 with place 1')
+def _():
+    return judged_profile(lambda profile: profile > 1, 1)
+
+
+@wrong_by_profile('20 with the profile as its place')
+def _():
+    def check_profile(job):
+        if job.profile > 1:
+            raise Refused(20, job.profile)
+    return {'check_profile': check_profile}
+
+
+# ---------------------------------------------------------------------------
 
 class Found(unittest.TestCase):
 
@@ -1139,6 +1490,11 @@ class Found(unittest.TestCase):
 
     def test_every_wrong_engine_of_ratios_is_found(self):
         for name, replacements in WRONG_BY_RATIOS.items():
+            with self.subTest(name):
+                self.assertIsNotNone(self.shown_in_lists(replacements), name)
+
+    def test_every_wrong_engine_of_profiles_is_found(self):
+        for name, replacements in WRONG_BY_PROFILE.items():
             with self.subTest(name):
                 self.assertIsNotNone(self.shown_in_lists(replacements), name)
 

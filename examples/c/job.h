@@ -10,6 +10,7 @@
 #define BASES 4
 #define RUBIES 6
 #define ELEMENTS 3
+#define PROFILE 0 /* that of every sheet: no ruby on the kana */
 
 /* How spread ruby and spread base share out their space: the usual ratio, that of every sheet. Nothing is spread here. */
 static const uint32_t usual[3] = {1, 2, 1};
@@ -25,7 +26,7 @@ static const uint32_t ebase[ELEMENTS] = {0, 0, 2}; /* not read but for the J */
 static const uint32_t eruby[ELEMENTS] = {3, 0, 0}; /* not read but for the M */
 static const uint32_t runs[2] = {1, 2};
 
-/* What a call reads: em and measure, the two ratios, and the lists, each with its length. */
-#define JOB                                                                                                                   \
-    EM, MEASURE, usual, usual, class_, BASES, width, BASES, before, BASES, after, BASES, flag, BASES, rclass, RUBIES, rwidth, \
-        RUBIES, kind, ELEMENTS, ebase, ELEMENTS, eruby, ELEMENTS, runs, 2
+/* What a call reads: em and measure, the two ratios, the profile, and the lists, each with its length. */
+#define JOB                                                                                                                    \
+    EM, MEASURE, usual, usual, PROFILE, class_, BASES, width, BASES, before, BASES, after, BASES, flag, BASES, rclass, RUBIES, \
+        rwidth, RUBIES, kind, ELEMENTS, ebase, ELEMENTS, eruby, ELEMENTS, runs, 2

@@ -30,6 +30,7 @@
 #define BASES 8
 #define RUBIES 10
 #define ELEMENTS 4
+#define PROFILE 0
 #define CALLS 5
 
 static const uint32_t class_[BASES] = {19, 19, 19, 7, 19, 19, 19, 1};
@@ -90,9 +91,9 @@ int main(void)
     int t;
     for (t = 0; t < CALLS; t++) {
         const uint32_t *over = ratios[t][0], *under = ratios[t][1];
-        bv_answer a = bv_set_job(EM, MEASURE, over, under, class_, BASES, width, BASES, before, BASES, after, BASES, flag,
-                                 BASES, rclass, RUBIES, rwidth, RUBIES, kind, ELEMENTS, ebase, ELEMENTS, eruby, ELEMENTS,
-                                 runs, 0, base, BASES, ruby, RUBIES, lines, BASES);
+        bv_answer a = bv_set_job(EM, MEASURE, over, under, PROFILE, class_, BASES, width, BASES, before, BASES, after, BASES,
+                                 flag, BASES, rclass, RUBIES, rwidth, RUBIES, kind, ELEMENTS, ebase, ELEMENTS, eruby,
+                                 ELEMENTS, runs, 0, base, BASES, ruby, RUBIES, lines, BASES);
         printf("ruby %lu:%lu:%lu base %lu:%lu:%lu\n", (unsigned long)over[0], (unsigned long)over[1], (unsigned long)over[2],
                (unsigned long)under[0], (unsigned long)under[1], (unsigned long)under[2]);
         if (a.number == BV_SET)

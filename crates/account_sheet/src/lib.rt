@@ -29,8 +29,8 @@ fn write_declined(
     runs: &[u32],
     out: &mut [u8],
 ) -> usize
-    requires { let job = jobOf em measure usualLists (now class) (now width) (now before) (now after) (now flag) (now rclass) (now rwidth) (now kind) (now ebase) (now eruby) (now runs) in ⌜ Declined job why (now out) ⌝ }
-    ensures { λ r. let job = jobOf em measure usualLists (now (class .entry)) (now (width .entry)) (now (before .entry)) (now (after .entry)) (now (flag .entry)) (now (rclass .entry)) (now (rwidth .entry)) (now (kind .entry)) (now (ebase .entry)) (now (eruby .entry)) (now (runs .entry)) in ⌜ Wrote (now (out .entry)) 0 (declinedText job why) r (now (out .exit)) ⌝ }
+    requires { let job = jobOf em measure usualLists 0 (now class) (now width) (now before) (now after) (now flag) (now rclass) (now rwidth) (now kind) (now ebase) (now eruby) (now runs) in ⌜ Declined job why (now out) ⌝ }
+    ensures { λ r. let job = jobOf em measure usualLists 0 (now (class .entry)) (now (width .entry)) (now (before .entry)) (now (after .entry)) (now (flag .entry)) (now (rclass .entry)) (now (rwidth .entry)) (now (kind .entry)) (now (ebase .entry)) (now (eruby .entry)) (now (runs .entry)) in ⌜ Wrote (now (out .entry)) 0 (declinedText job why) r (now (out .exit)) ⌝ }
 {
     let at = result::write_refusal(why, out);
     if refusal::number(why) != 11 {
@@ -41,6 +41,7 @@ fn write_declined(
         &mut t,
         em,
         spread::USUAL,
+        0,
         class,
         width,
         before,
@@ -61,7 +62,7 @@ fn write_declined(
     account_text::put_needs(out, at, needed, measure)
 }
 
-// The account of a job in lists, in text. A sheet has no ratios: it means 1:2:1.
+// The account of a job in lists, in text. A sheet has no ratios and no profile: it means 1:2:1 and 0.
 fn tell_lists(
     em: u32,
     measure: u32,
@@ -82,12 +83,13 @@ fn tell_lists(
     out: &mut [u8],
 ) -> usize
     requires { ⌜ longest ≤ length (now out) ⌝ }
-    ensures { λ r. ⌜ Told (jobOf em measure usualLists (now (class .entry)) (now (width .entry)) (now (before .entry)) (now (after .entry)) (now (flag .entry)) (now (rclass .entry)) (now (rwidth .entry)) (now (kind .entry)) (now (ebase .entry)) (now (eruby .entry)) (now (runs .entry))) (now (rows .entry)) (now (told .entry)) (now (extents .entry)) (now (out .entry)) r (now (rows .exit)) (now (told .exit)) (now (extents .exit)) (now (out .exit)) ⌝ }
+    ensures { λ r. ⌜ Told (jobOf em measure usualLists 0 (now (class .entry)) (now (width .entry)) (now (before .entry)) (now (after .entry)) (now (flag .entry)) (now (rclass .entry)) (now (rwidth .entry)) (now (kind .entry)) (now (ebase .entry)) (now (eruby .entry)) (now (runs .entry))) (now (rows .entry)) (now (told .entry)) (now (extents .entry)) (now (out .entry)) r (now (rows .exit)) (now (told .exit)) (now (extents .exit)) (now (out .exit)) ⌝ }
 {
     match job_account::account_job(
         em,
         measure,
         spread::USUAL,
+        0,
         class,
         width,
         before,
@@ -149,7 +151,7 @@ fn tell_elements(
     out: &mut [u8],
 ) -> usize
     requires { ⌜ ElementsReady e u (now elem) (now runs) (now out) × (longest ≤ length (now out)) ⌝ }
-    ensures { λ r. ⌜ Told (jobOf em measure usualLists (now (class .entry)) (now (width .entry)) (now (before .entry)) (now (after .entry)) (now (flag .entry)) (now (rclass .entry)) (now (rwidth .entry)) (part 0 e (now (elem .entry))) (part 1024 (1024 + e) (now (elem .entry))) (part 2048 (2048 + e) (now (elem .entry))) (part 0 u (now (runs .entry)))) (now (rows .entry)) (now (told .entry)) (now (extents .entry)) (now (out .entry)) r (now (rows .exit)) (now (told .exit)) (now (extents .exit)) (now (out .exit)) ⌝ }
+    ensures { λ r. ⌜ Told (jobOf em measure usualLists 0 (now (class .entry)) (now (width .entry)) (now (before .entry)) (now (after .entry)) (now (flag .entry)) (now (rclass .entry)) (now (rwidth .entry)) (part 0 e (now (elem .entry))) (part 1024 (1024 + e) (now (elem .entry))) (part 2048 (2048 + e) (now (elem .entry))) (part 0 u (now (runs .entry)))) (now (rows .entry)) (now (told .entry)) (now (extents .entry)) (now (out .entry)) r (now (rows .exit)) (now (told .exit)) (now (extents .exit)) (now (out .exit)) ⌝ }
 {
     let e1 = 1024 + e;
     let e2 = 2048 + e;

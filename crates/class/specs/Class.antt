@@ -1,4 +1,4 @@
--- The classes (document 01, "The job" and "Level two"): accepted, kind, blank sides, depth.
+-- The classes (document 01, "The job" and "Level two", with R-1 and R-8): accepted, kind, blank sides, depth.
 use mathlib.Core.Bool.{Bool, cond, not, _&&_, _||_}
 use Prim.Native.Nat.{ℕ, _*_, _/_, min}
 use lib.Dec.{leb, eqb}
@@ -71,8 +71,22 @@ depthAfter c width blank em = min (2 * blankOn (blankAfter c) c width blank) (de
 abbrev pub opening : Bool → ℕ → Bool
 opening first c = first && blankWhole c
 
--- how deep ruby may lie on a P character, past its start and before its end, in half units
+-- how deep ruby may lie on a P character, past its start and before its end, in half units: document 01 with R-1
 unfoldable pub depthsOn : Bool → (c width before after em : ℕ) → Depths
 unfolding blankWhole depthBefore depthAfter
 depthsOn first c width before after em =
     record { before = cond (opening first c) 0 (depthBefore c width before em); after = cond (opening first c) 0 (depthAfter c width after em) }
+
+-- "Profile 1 permits ruby on a P element of class 15 or 16 just before or just after" (document 02, R-8)
+abbrev pub kana : ℕ → Bool
+kana c = eqb c 15 || eqb c 16
+
+-- "to a depth of at most one ruby em (half the em) and at most its width", in half units
+abbrev pub onKana : ℕ → ℕ → ℕ
+onKana width em = min (2 * width) em
+
+-- by the profile: "Profile 0 is document 01 with R-1"; in profile 1 ruby "may also lie on a neighbouring kana"
+unfoldable pub depthsBy : ℕ → Bool → (c width before after em : ℕ) → Depths
+unfolding depthsOn
+depthsBy profile first c width before after em =
+    cond (eqb profile 1 && kana c) (record { before = onKana width em; after = onKana width em }) (depthsOn first c width before after em)

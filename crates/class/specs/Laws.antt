@@ -14,7 +14,7 @@ use Rattle.class.specs.declared.Kind.{Kind}
 use Rattle.class.specs.declared.Kind.the-variants.{KanaLike, Western, Space, Outside}
 use Rattle.class.specs.declared.Row.{Row}
 use Rattle.class.specs.declared.Depths.{Depths}
-use Rattle.class.specs.Class.{accepted, western, kanaLike, kindOf, blankBefore, blankAfter, blankWhole, quarters, rowOf, deepest, depthBefore, depthAfter, opening, depthsOn}
+use Rattle.class.specs.Class.{accepted, western, kanaLike, kindOf, blankBefore, blankAfter, blankWhole, quarters, rowOf, deepest, depthBefore, depthAfter, opening, depthsOn, kana, onKana, depthsBy}
 use Rattle.class.specs.Depth.{depthBy}
 use Rattle.class.specs.Entry.{rowBy, entryBy, entryOf}
 
@@ -181,13 +181,35 @@ unless : (t : Bool) (depth n : ℕ) → depth ≤ n → cond t 0 depth ≤ n
 unless true depth n h = omega arith
 unless false depth n h = h
 
-pub before-within : (first : Bool) (c width before after em : ℕ) → before ≤ width → depthsOn first c width before after em .before ≤ 2 * width
+before-on : (first : Bool) (c width before after em : ℕ) → before ≤ width → depthsOn first c width before after em .before ≤ 2 * width
 unfolding depthsOn depthBefore
-before-within first c width before after em h = unless (opening first c) _ _ (on-width (blankWhole c) (blankBefore c) width before (deepest c em) h)
+before-on first c width before after em h = unless (opening first c) _ _ (on-width (blankWhole c) (blankBefore c) width before (deepest c em) h)
 
-pub after-within : (first : Bool) (c width before after em : ℕ) → after ≤ width → depthsOn first c width before after em .after ≤ 2 * width
+after-on : (first : Bool) (c width before after em : ℕ) → after ≤ width → depthsOn first c width before after em .after ≤ 2 * width
 unfolding depthsOn depthAfter
-after-within first c width before after em h = unless (opening first c) _ _ (on-width (blankWhole c) (blankAfter c) width after (deepest c em) h)
+after-on first c width before after em h = unless (opening first c) _ _ (on-width (blankWhole c) (blankAfter c) width after (deepest c em) h)
+
+-- so it does by every profile: each has a table of permitted depths within a neighbour's width
+pub before-within : (profile : ℕ) (first : Bool) (c width before after em : ℕ) → before ≤ width → depthsBy profile first c width before after em .before ≤ 2 * width
+unfolding depthsBy
+before-within profile first c width before after em h = go (eqb profile 1 && kana c)
+  where
+    go : (t : Bool) → cond t (record { before = onKana width em; after = onKana width em }) (depthsOn first c width before after em) .before ≤ 2 * width
+    go true = omega arith
+    go false = before-on first c width before after em h
+
+pub after-within : (profile : ℕ) (first : Bool) (c width before after em : ℕ) → after ≤ width → depthsBy profile first c width before after em .after ≤ 2 * width
+unfolding depthsBy
+after-within profile first c width before after em h = go (eqb profile 1 && kana c)
+  where
+    go : (t : Bool) → cond t (record { before = onKana width em; after = onKana width em }) (depthsOn first c width before after em) .after ≤ 2 * width
+    go true = omega arith
+    go false = after-on first c width before after em h
+
+-- profile 0 is document 01 with R-1
+pub by-first : (first : Bool) (c width before after em : ℕ) → depthsBy 0 first c width before after em ≡ depthsOn first c width before after em
+unfolding depthsBy
+by-first first c width before after em = refl
 
 -- where an entry's depth is 0, no ruby lies on the character
 pub no-depth : (first : Bool) (c width before after em : ℕ) → quarters c ≡ 0 → record { before = 0; after = 0 } ≡ depthsOn first c width before after em

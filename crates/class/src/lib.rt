@@ -1,14 +1,15 @@
 // The class table of document 01: for each class from 0 to 30 whether it is accepted, its kind, the sides on which it may carry a
-// blank, and how deep ruby may lie on that blank. Every check and every rule of clearance consults this table and nothing
-// else; that it says what document 01 says is proved once (specs/Class.antt, proofs/entry_of). All functions here are
-// total: any u32 is asked as it is. It relies on no other crate.
+// blank, and how deep ruby may lie on that blank. Every check and every rule of clearance consults this table; that it says what
+// document 01 says is proved of each of its readers (specs/Class.antt; proofs/entry_of, code_at, is_deep). Beside it stands what a
+// job's profile permits (`depths_by`, R-8), and nothing above knows of profiles. All functions here are total: any u32 is asked as
+// it is. It relies on no other crate.
 ghost use mathlib.Core.Path.{_≡_};
 ghost use mathlib.Core.Bool.{_&&_};
 ghost use Prim.Native.Nat.{_<_, _≤_};
-ghost use Rattle.class.specs.Class.{accepted, western, kanaLike, blankBefore, blankAfter, rowOf, kindOf, quarters, depthsOn};
+ghost use Rattle.class.specs.Class.{accepted, western, kanaLike, blankBefore, blankAfter, rowOf, kindOf, quarters, depthsOn, kana, onKana, depthsBy};
 ghost use Rattle.class.specs.Depth.{blankBy, depthBy};
 ghost use Rattle.class.specs.Entry.{entryOf, rowBy, liesBefore, liesAfter, isWhole};
-ghost use lib.Dec.{ltb};
+ghost use lib.Dec.{ltb, eqb};
 ghost use Rattle.class.specs.Laws.{tabled};
 ghost use Rattle.class.specs.Digits.{codeOf, kindCode, digits, digitAt};
 
@@ -381,6 +382,13 @@ fn depth_by(whole: bool, side: bool, quarters: u32, width: u32, blank: u32, em: 
     }
 }
 
+// The profile for older children (document 02, R-8), and the classes of kana that it names.
+const OLDER: u32 = 1;
+
+const HIRAGANA: u32 = 15;
+
+const KATAKANA: u32 = 16;
+
 // How deep the ruby before a P character may lie on it, past its start, and the ruby after it, before its end; in half units.
 pub struct Depths {
     pub before: u32,
@@ -394,8 +402,8 @@ fn is_opening(first: bool, whole: bool) -> bool
     if first { whole } else { false }
 }
 
-// How deep ruby may lie on a P character; `first`: it is base character 0 of the job.
-pub fn depths_on(first: bool, class: u32, width: u32, before: u32, after: u32, em: u32) -> Depths
+// How deep ruby may lie on a P character by document 01 with R-1; `first`: it is base character 0 of the job.
+fn depths_on(first: bool, class: u32, width: u32, before: u32, after: u32, em: u32) -> Depths
     ensures { λ r. ⌜ r ≡ depthsOn first class width before after em ⌝ }
 {
     if !is_deep(class) {
@@ -415,4 +423,47 @@ pub fn depths_on(first: bool, class: u32, width: u32, before: u32, after: u32, e
         before: depth_by(r.whole, r.before, r.quarters, width, before, em),
         after: depth_by(r.whole, r.after, r.quarters, width, after, em),
     }
+}
+
+// "Profile 1 permits ruby on a P element of class 15 or 16 just before or just after" (document 02, R-8).
+fn lies_on_kana(profile: u32, class: u32) -> bool
+    ensures { λ r. ⌜ r ≡ (eqb profile 1 && kana class) ⌝ }
+{
+    if profile == OLDER {
+        if class == HIRAGANA {
+            return true;
+        }
+        return class == KATAKANA;
+    }
+    false
+}
+
+// "to a depth of at most one ruby em (half the em) and at most its width", in half units.
+fn kana_depth(width: u32, em: u32) -> u32
+    ensures { λ r. ⌜ r ≡ onKana width em ⌝ }
+{
+    let wide = 2 * width as u64;
+    if wide <= em as u64 { wide as u32 } else { em }
+}
+
+// How deep ruby may lie on a P character by the job's profile.
+pub fn depths_by(
+    profile: u32,
+    first: bool,
+    class: u32,
+    width: u32,
+    before: u32,
+    after: u32,
+    em: u32,
+) -> Depths
+    ensures { λ r. ⌜ r ≡ depthsBy profile first class width before after em ⌝ }
+{
+    if lies_on_kana(profile, class) {
+        let d = kana_depth(width, em);
+        return Depths {
+            before: d,
+            after: d,
+        };
+    }
+    depths_on(first, class, width, before, after, em)
 }

@@ -44,6 +44,7 @@ partsOnly ratios em class width before after rubyClass rubyWidth kind elementBas
       em = em;
       measure = 0;
       ratios = ratios;
+      profile = 0;
       class = class;
       width = width;
       before = before;

@@ -11,11 +11,12 @@ use Rattle.word.specs.declared.Form.the-variants.{P, M, G, J}
 use Rattle.word.specs.Given.{Given}
 use Rattle.door.specs.declared.Piece.{Piece}
 
--- em, measure and the house ratios (R-4); each field in a list of its own. em, measure and widths are in units.
+-- em, measure, the house ratios (R-4) and the profile (R-8); each field in a list of its own. em, measure and widths are in units.
 pub record Job : Type 0 where
   pub em : ℕ
   pub measure : ℕ
   pub ratios : Ratios
+  pub profile : ℕ
   pub class : List ℕ
   pub width : List ℕ
   pub before : List ℕ
@@ -29,12 +30,13 @@ pub record Job : Type 0 where
   pub run : List ℕ
 
 -- a job by its numbers and lists, as the entry point is lent them
-abbrev pub jobOf : ℕ → ℕ → List (List ℕ) → List ℕ → List ℕ → List ℕ → List ℕ → List ℕ → List ℕ → List ℕ → List ℕ → List ℕ → List ℕ → List ℕ → Job
-jobOf em measure ratios class width before after flag rubyClass rubyWidth kind elementBase elementRuby run =
+abbrev pub jobOf : ℕ → ℕ → List (List ℕ) → ℕ → List ℕ → List ℕ → List ℕ → List ℕ → List ℕ → List ℕ → List ℕ → List ℕ → List ℕ → List ℕ → List ℕ → Job
+jobOf em measure ratios profile class width before after flag rubyClass rubyWidth kind elementBase elementRuby run =
     record {
       em = em;
       measure = measure;
       ratios = ratiosOf ratios;
+      profile = profile;
       class = class;
       width = width;
       before = before;
@@ -55,6 +57,7 @@ withMeasure measure job =
       em = job .em;
       measure = measure;
       ratios = job .ratios;
+      profile = job .profile;
       class = job .class;
       width = job .width;
       before = job .before;

@@ -7,7 +7,7 @@ use lib.ListN.{getD}
 use Rattle.basics.specs.Lists.{sum, count, any, each}
 use Rattle.class.specs.Class.{accepted, western, kanaLike, blankBefore, blankAfter}
 use Rattle.refusal.specs.declared.Refusal.{Refusal}
-use Rattle.refusal.specs.declared.Refusal.the-variants.{Range, Ratio, Count, Short, Character, Blanks, Element, Supply, BlankInside, JukugoBase, Mixed, WesternOver}
+use Rattle.refusal.specs.declared.Refusal.the-variants.{Range, Ratio, Profile, Count, Short, Character, Blanks, Element, Supply, BlankInside, JukugoBase, Mixed, WesternOver}
 use Rattle.spread.specs.declared.Ratio.{Ratio as RatioNumbers}
 use Rattle.word.specs.declared.Form.{Form}
 use Rattle.word.specs.declared.Form.the-variants.{P, M, G, J}
@@ -28,6 +28,10 @@ measureWrong job = outside 1 4000000 (job .measure)
 -- 15: "a ratio number over 7 or all three 0"
 abbrev pub ratioWrong : RatioNumbers → Bool
 ratioWrong r = ltb 7 (r .a) || (ltb 7 (r .m) || (ltb 7 (r .c) || (eqb (r .a) 0 && (eqb (r .m) 0 && eqb (r .c) 0))))
+
+-- 20: "a profile over 1"
+abbrev pub profileWrong : Job → Bool
+profileWrong job = ltb 1 (job .profile)
 
 -- 12: "base list or line list below the base count, ruby list below the ruby count"; base, ruby and lines are the lengths of the result lists
 abbrev pub listShort : Job → ℕ → ℕ → ℕ → Bool
@@ -85,7 +89,7 @@ abbrev pub held : List (Refusal × Bool) → List Refusal
 held [] = []
 held (r ∷ rs) = heldAfter (r .0 when r .1) rs
 
--- "1, 2 and 12, each by lowest place", with 15 "checked after 1, place 0 for the ruby ratio, 1 for the base": "At most 1,024 base characters, 2,048 ruby
+-- "1, 2 and 12, each by lowest place", with 15 "checked after 1, place 0 for the ruby ratio, 1 for the base" and 20 "checked after 15": "At most 1,024 base characters, 2,048 ruby
 -- characters, 1,024 elements"
 abbrev pub jobTable : Job → ℕ → ℕ → ℕ → List (Refusal × Bool)
 jobTable job base ruby lines =
@@ -93,6 +97,7 @@ jobTable job base ruby lines =
     ∷ (Range 1, measureWrong job)
     ∷ (Ratio 0, ratioWrong (job .ratios .ruby))
     ∷ (Ratio 1, ratioWrong (job .ratios .base))
+    ∷ (Profile, profileWrong job)
     ∷ (Count 0, ltb 1024 (baseCount job))
     ∷ (Count 1, ltb 2048 (rubyCount job))
     ∷ (Count 2, ltb 1024 (elementCount job))

@@ -10,19 +10,20 @@ use Rattle.basics.specs.Lists.{sum, any}
 use Rattle.class.specs.Class.{accepted, blankBefore, blankAfter}
 use Rattle.spread.specs.Ratio.{Ratios, usual}
 use Rattle.refusal.specs.declared.Refusal.{Refusal}
-use Rattle.refusal.specs.declared.Refusal.the-variants.{Range, Ratio, Count, Short, Character, Blanks}
+use Rattle.refusal.specs.declared.Refusal.the-variants.{Range, Ratio, Profile, Count, Short, Character, Blanks}
 use Rattle.door.specs.declared.Runs.{Runs}
 use Rattle.door.specs.declared.Runs.the-variants.{Sum, Wrong}
 use Rattle.door.specs.Job.{Job, entries}
 use Rattle.door.specs.Refusals.{outside, ratioWrong, _when_}
 
--- numbers 1 and 15
-abbrev pub houseRows : ℕ → ℕ → Ratios → List Refusal
-houseRows em measure ratios =
+-- numbers 1, 15 and 20
+abbrev pub houseRows : ℕ → ℕ → Ratios → ℕ → List Refusal
+houseRows em measure ratios profile =
     Range 0 when (eqb (em % 2) 1 || outside 2 4096 em)
     ++ Range 1 when outside 1 4000000 measure
     ++ Ratio 0 when ratioWrong (ratios .ruby)
     ++ Ratio 1 when ratioWrong (ratios .base)
+    ++ Profile when ltb 1 profile
 
 -- numbers 2 and 12, by the counts and the lengths of the result lists
 abbrev pub sizeRows : ℕ → ℕ → ℕ → ℕ → ℕ → ℕ → List Refusal
@@ -53,6 +54,7 @@ basesOnly class width before after flag =
       em = 0;
       measure = 0;
       ratios = usual;
+      profile = 0;
       class = class;
       width = width;
       before = before;
@@ -72,6 +74,7 @@ rubiesOnly class width =
       em = 0;
       measure = 0;
       ratios = usual;
+      profile = 0;
       class = [];
       width = [];
       before = [];

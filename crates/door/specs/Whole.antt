@@ -62,7 +62,7 @@ element-within job = go _ _ _
 
 module _ (job : Job) (base ruby lines : ℕ) where
   abbrev pub house : List Refusal
-  house = houseRows (job .em) (job .measure) (job .ratios)
+  house = houseRows (job .em) (job .measure) (job .ratios) (job .profile)
 
   abbrev pub sizes : List Refusal
   sizes = sizeRows (baseCount job) (rubyCount job) (elementCount job) base ruby lines

@@ -1,4 +1,4 @@
-// The door (document 01, "The job" and "Refusal list"): numbers 1, 15, 2 and 12, then the characters (3, 4), before any element is looked at; and of an element what `layout`
+// The door (document 01, "The job" and "Refusal list"): numbers 1, 15, 20, 2 and 12, then the characters (3, 4), before any element is looked at; and of an element what `layout`
 // asks for as it goes over them: its counts (5), whether its characters are there (6), level one's answer (7 to 10), and what is left over. It relies on
 // `word` for level one, on `class` for the class table, on `refusal` and on `basics`.
 
@@ -31,12 +31,14 @@ pub const GROUP: u32 = 71;
 
 pub const JUKUGO: u32 = 74;
 
-// The most that a job may have (numbers 1, 15 and 2), that a character may be wide (3) and that an element may take (5).
+// The most that a job may have (numbers 1, 15, 20 and 2), that a character may be wide (3) and that an element may take (5).
 pub const MOST_EM: u32 = 4096;
 
 pub const MOST_MEASURE: u32 = 4000000;
 
 pub const MOST_RATIO: u32 = 7;
+
+pub const MOST_PROFILE: u32 = 1;
 
 pub const MOST_BASES: usize = 1024;
 
@@ -147,9 +149,9 @@ fn ratio_wrong(r: [u32; 3]) -> bool
     false
 }
 
-// Numbers 1 and 15.
-fn check_house(em: u32, measure: u32, ratios: [[u32; 3]; 2]) -> Checked
-    ensures { λ r. ⌜ r ≡ verdict (houseRows em measure (ratiosOf ratios)) ⌝ }
+// Numbers 1, 15 and 20.
+fn check_house(em: u32, measure: u32, ratios: [[u32; 3]; 2], profile: u32) -> Checked
+    ensures { λ r. ⌜ r ≡ verdict (houseRows em measure (ratiosOf ratios) profile) ⌝ }
 {
     if em_wrong(em) {
         return Checked::Refused(Refusal::Range(0));
@@ -162,6 +164,9 @@ fn check_house(em: u32, measure: u32, ratios: [[u32; 3]; 2]) -> Checked
     }
     if ratio_wrong(ratios[1]) {
         return Checked::Refused(Refusal::Ratio(1));
+    }
+    if MOST_PROFILE < profile {
+        return Checked::Refused(Refusal::Profile);
     }
     Checked::Passed
 }
@@ -548,11 +553,12 @@ pub fn element_count(kind: &[u32], ebase: &[u32], eruby: &[u32]) -> usize
     fewer(kind.len(), fewer(ebase.len(), eruby.len()))
 }
 
-// What is judged before any element: numbers 1, 15, 2 and 12, then the characters. `base`, `ruby` and `lines` are the lengths of the result lists.
+// What is judged before any element: numbers 1, 15, 20, 2 and 12, then the characters. `base`, `ruby` and `lines` are the lengths of the result lists.
 pub fn check_characters(
     em: u32,
     measure: u32,
     ratios: [[u32; 3]; 2],
+    profile: u32,
     class: &[u32],
     width: &[u32],
     before: &[u32],
@@ -567,9 +573,9 @@ pub fn check_characters(
     ruby: usize,
     lines: usize,
 ) -> Checked
-    ensures { λ c. let job = jobOf em measure ratios (now (class .entry)) (now (width .entry)) (now (before .entry)) (now (after .entry)) (now (flag .entry)) (now (rclass .entry)) (now (rwidth .entry)) (now (kind .entry)) (now (ebase .entry)) (now (eruby .entry)) [] in ⌜ c ≡ verdict (ahead job base ruby lines) ⌝ }
+    ensures { λ c. let job = jobOf em measure ratios profile (now (class .entry)) (now (width .entry)) (now (before .entry)) (now (after .entry)) (now (flag .entry)) (now (rclass .entry)) (now (rwidth .entry)) (now (kind .entry)) (now (ebase .entry)) (now (eruby .entry)) [] in ⌜ c ≡ verdict (ahead job base ruby lines) ⌝ }
 {
-    let house = check_house(em, measure, ratios);
+    let house = check_house(em, measure, ratios, profile);
     let Checked::Passed = house else {
         return house;
     };

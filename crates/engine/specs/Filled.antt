@@ -62,6 +62,7 @@ runless job =
       em = job .em;
       measure = job .measure;
       ratios = job .ratios;
+      profile = job .profile;
       class = job .class;
       width = job .width;
       before = job .before;

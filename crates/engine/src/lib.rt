@@ -16,6 +16,7 @@ pub fn fill_job(
     em: u32,
     measure: u32,
     ratios: [[u32; 3]; 2],
+    profile: u32,
     class: &[u32],
     width: &[u32],
     before: &[u32],
@@ -31,13 +32,14 @@ pub fn fill_job(
     ruby: usize,
     lines: usize,
 ) -> filling::Lines
-    requires { let job = jobOf em measure ratios (now class) (now width) (now before) (now after) (now flag) (now rclass) (now rwidth) (now kind) (now ebase) (now eruby) (now runs) in ⌜ Room job (now t) (now ends) (now extents) ⌝ }
-    ensures { λ a. let job = jobOf em measure ratios (now (class .entry)) (now (width .entry)) (now (before .entry)) (now (after .entry)) (now (flag .entry)) (now (rclass .entry)) (now (rwidth .entry)) (now (kind .entry)) (now (ebase .entry)) (now (eruby .entry)) (now (runs .entry)) in ⌜ Fills job base ruby lines (now (extents .entry)) (now (t .exit)) (now (ends .exit)) (now (extents .exit)) a ⌝ }
+    requires { let job = jobOf em measure ratios profile (now class) (now width) (now before) (now after) (now flag) (now rclass) (now rwidth) (now kind) (now ebase) (now eruby) (now runs) in ⌜ Room job (now t) (now ends) (now extents) ⌝ }
+    ensures { λ a. let job = jobOf em measure ratios profile (now (class .entry)) (now (width .entry)) (now (before .entry)) (now (after .entry)) (now (flag .entry)) (now (rclass .entry)) (now (rwidth .entry)) (now (kind .entry)) (now (ebase .entry)) (now (eruby .entry)) (now (runs .entry)) in ⌜ Fills job base ruby lines (now (extents .entry)) (now (t .exit)) (now (ends .exit)) (now (extents .exit)) a ⌝ }
 {
     match door::check_characters(
         em,
         measure,
         ratios,
+        profile,
         class,
         width,
         before,
@@ -59,6 +61,7 @@ pub fn fill_job(
         t,
         em,
         ratios,
+        profile,
         class,
         width,
         before,
@@ -86,6 +89,7 @@ pub fn set_table(
     em: u32,
     measure: u32,
     ratios: [[u32; 3]; 2],
+    profile: u32,
     class: &[u32],
     width: &[u32],
     before: &[u32],
@@ -101,9 +105,9 @@ pub fn set_table(
     ruby: &mut [u32],
     lines: &mut [u32],
 ) -> job::Answer
-    requires { let job = jobOf em measure ratios (now class) (now width) (now before) (now after) (now flag) (now rclass) (now rwidth) (now kind) (now ebase) (now eruby) (now runs) in ⌜ Room job (now t) (now ends) (now extents) ⌝ }
-    ensures { λ r. let job = jobOf em measure ratios (now (class .entry)) (now (width .entry)) (now (before .entry)) (now (after .entry)) (now (flag .entry)) (now (rclass .entry)) (now (rwidth .entry)) (now (kind .entry)) (now (ebase .entry)) (now (eruby .entry)) (now (runs .entry)) in ⌜ _≡_ {A = Outcome} (record { answer = r; base = now (base .exit); ruby = now (ruby .exit); lines = now (lines .exit) }) (outcome job (now (base .entry)) (now (ruby .entry)) (now (lines .entry))) ⌝ }
-    ensures { λ r. let job = jobOf em measure ratios (now (class .entry)) (now (width .entry)) (now (before .entry)) (now (after .entry)) (now (flag .entry)) (now (rclass .entry)) (now (rwidth .entry)) (now (kind .entry)) (now (ebase .entry)) (now (eruby .entry)) (now (runs .entry)) in ⌜ Keeps job (length (now (base .entry))) (length (now (ruby .entry))) (length (now (lines .entry))) (now (extents .entry)) (now (t .exit)) (now (ends .exit)) (now (extents .exit)) r ⌝ }
+    requires { let job = jobOf em measure ratios profile (now class) (now width) (now before) (now after) (now flag) (now rclass) (now rwidth) (now kind) (now ebase) (now eruby) (now runs) in ⌜ Room job (now t) (now ends) (now extents) ⌝ }
+    ensures { λ r. let job = jobOf em measure ratios profile (now (class .entry)) (now (width .entry)) (now (before .entry)) (now (after .entry)) (now (flag .entry)) (now (rclass .entry)) (now (rwidth .entry)) (now (kind .entry)) (now (ebase .entry)) (now (eruby .entry)) (now (runs .entry)) in ⌜ _≡_ {A = Outcome} (record { answer = r; base = now (base .exit); ruby = now (ruby .exit); lines = now (lines .exit) }) (outcome job (now (base .entry)) (now (ruby .entry)) (now (lines .entry))) ⌝ }
+    ensures { λ r. let job = jobOf em measure ratios profile (now (class .entry)) (now (width .entry)) (now (before .entry)) (now (after .entry)) (now (flag .entry)) (now (rclass .entry)) (now (rwidth .entry)) (now (kind .entry)) (now (ebase .entry)) (now (eruby .entry)) (now (runs .entry)) in ⌜ Keeps job (length (now (base .entry))) (length (now (ruby .entry))) (length (now (lines .entry))) (now (extents .entry)) (now (t .exit)) (now (ends .exit)) (now (extents .exit)) r ⌝ }
 {
     match fill_job(
         t,
@@ -112,6 +116,7 @@ pub fn set_table(
         em,
         measure,
         ratios,
+        profile,
         class,
         width,
         before,
@@ -136,7 +141,7 @@ pub fn set_table(
     }
 }
 
-// Sets a job. `ratios` are the house ratios, the ruby's first, each a, m, c; `class`, `width`, `before`, `after` and `flag` are the base characters' fields, `rclass` and
+// Sets a job. `ratios` are the house ratios, the ruby's first, each a, m, c; `profile` is 0, or 1 for older children; `class`, `width`, `before`, `after` and `flag` are the base characters' fields, `rclass` and
 // `rwidth` the ruby characters'; `kind` (a letter's byte: 80 P, 77 M, 71 G, 74 J), `ebase` and `eruby` the elements'; `runs` the J runs. The positions go to `base` and
 // `ruby`, in half units from the line's start, and the running counts of base characters at the lines' ends to `lines`. A small job has a small table, since a
 // table is cleared before it is used.
@@ -144,6 +149,7 @@ pub fn set_job(
     em: u32,
     measure: u32,
     ratios: [[u32; 3]; 2],
+    profile: u32,
     class: &[u32],
     width: &[u32],
     before: &[u32],
@@ -159,7 +165,7 @@ pub fn set_job(
     ruby: &mut [u32],
     lines: &mut [u32],
 ) -> job::Answer
-    ensures { λ r. ⌜ _≡_ {A = Outcome} (record { answer = r; base = now (base .exit); ruby = now (ruby .exit); lines = now (lines .exit) }) (outcome (jobOf em measure ratios (now (class .entry)) (now (width .entry)) (now (before .entry)) (now (after .entry)) (now (flag .entry)) (now (rclass .entry)) (now (rwidth .entry)) (now (kind .entry)) (now (ebase .entry)) (now (eruby .entry)) (now (runs .entry))) (now (base .entry)) (now (ruby .entry)) (now (lines .entry))) ⌝ }
+    ensures { λ r. ⌜ _≡_ {A = Outcome} (record { answer = r; base = now (base .exit); ruby = now (ruby .exit); lines = now (lines .exit) }) (outcome (jobOf em measure ratios profile (now (class .entry)) (now (width .entry)) (now (before .entry)) (now (after .entry)) (now (flag .entry)) (now (rclass .entry)) (now (rwidth .entry)) (now (kind .entry)) (now (ebase .entry)) (now (eruby .entry)) (now (runs .entry))) (now (base .entry)) (now (ruby .entry)) (now (lines .entry))) ⌝ }
 {
     if door::base_count(class, width, before, after, flag) <= 128 {
         let mut t = [0; 2438];
@@ -172,6 +178,7 @@ pub fn set_job(
             em,
             measure,
             ratios,
+            profile,
             class,
             width,
             before,
@@ -198,6 +205,7 @@ pub fn set_job(
         em,
         measure,
         ratios,
+        profile,
         class,
         width,
         before,

@@ -39,6 +39,7 @@ pub extern "C" fn bv_set_job(
     measure: u32,
     rratio: &[u32; 3],
     bratio: &[u32; 3],
+    profile: u32,
     class: &[u32],
     width: &[u32],
     before: &[u32],
@@ -54,12 +55,13 @@ pub extern "C" fn bv_set_job(
     ruby: &mut [u32],
     lines: &mut [u32],
 ) -> Answer
-    ensures { λ r. ⌜ Left (jobOf em measure (now (rratio .entry) ∷ now (bratio .entry) ∷ []) (now (class .entry)) (now (width .entry)) (now (before .entry)) (now (after .entry)) (now (flag .entry)) (now (rclass .entry)) (now (rwidth .entry)) (now (kind .entry)) (now (ebase .entry)) (now (eruby .entry)) (now (runs .entry))) (now (base .entry)) (now (ruby .entry)) (now (lines .entry)) r (now (base .exit)) (now (ruby .exit)) (now (lines .exit)) ⌝ }
+    ensures { λ r. ⌜ Left (jobOf em measure (now (rratio .entry) ∷ now (bratio .entry) ∷ []) profile (now (class .entry)) (now (width .entry)) (now (before .entry)) (now (after .entry)) (now (flag .entry)) (now (rclass .entry)) (now (rwidth .entry)) (now (kind .entry)) (now (ebase .entry)) (now (eruby .entry)) (now (runs .entry))) (now (base .entry)) (now (ruby .entry)) (now (lines .entry)) r (now (base .exit)) (now (ruby .exit)) (now (lines .exit)) ⌝ }
 {
     let answer = engine::set_job(
         em,
         measure,
         [*rratio, *bratio],
+        profile,
         class,
         width,
         before,
@@ -113,6 +115,7 @@ pub extern "C" fn bv_account_job(
     measure: u32,
     rratio: &[u32; 3],
     bratio: &[u32; 3],
+    profile: u32,
     class: &[u32],
     width: &[u32],
     before: &[u32],
@@ -128,12 +131,13 @@ pub extern "C" fn bv_account_job(
     told: &mut [u32],
     extents: &mut [u32],
 ) -> Answer
-    ensures { λ r. ⌜ Accounted (jobOf em measure (now (rratio .entry) ∷ now (bratio .entry) ∷ []) (now (class .entry)) (now (width .entry)) (now (before .entry)) (now (after .entry)) (now (flag .entry)) (now (rclass .entry)) (now (rwidth .entry)) (now (kind .entry)) (now (ebase .entry)) (now (eruby .entry)) (now (runs .entry))) (now (rows .entry)) (now (told .entry)) (now (extents .entry)) r (now (rows .exit)) (now (told .exit)) (now (extents .exit)) ⌝ }
+    ensures { λ r. ⌜ Accounted (jobOf em measure (now (rratio .entry) ∷ now (bratio .entry) ∷ []) profile (now (class .entry)) (now (width .entry)) (now (before .entry)) (now (after .entry)) (now (flag .entry)) (now (rclass .entry)) (now (rwidth .entry)) (now (kind .entry)) (now (ebase .entry)) (now (eruby .entry)) (now (runs .entry))) (now (rows .entry)) (now (told .entry)) (now (extents .entry)) r (now (rows .exit)) (now (told .exit)) (now (extents .exit)) ⌝ }
 {
     let answer = job_account::account_job(
         em,
         measure,
         [*rratio, *bratio],
+        profile,
         class,
         width,
         before,

@@ -50,6 +50,7 @@ jobOf measure es =
       em = 10;
       measure = measure;
       ratios = usual;
+      profile = 0;
       class = each (baseOf 19 (λ c w a. c)) es;
       width = each (baseOf 10 (λ c w a. w)) es;
       before = each (baseOf 0 (λ c w a. 0)) es;
@@ -178,9 +179,9 @@ set = (record { count = 1; answer = refl; there = omega arith }, record { count 
 others : (k : ℕ) → k < 4 → (k ≡ 0 → ⊥) → SameElement (lineIn was .job) (elementOf (lineIn was .job) k) (lineIn now .job) (elementOf (lineIn now .job) k)
 unfolding elements
 others zero h n = absurd (n refl)
-others (suc zero) h n = record { form = refl; alike = record { em = refl; ratios = refl; class = refl; width = refl; rubyClass = refl; rubyWidth = refl; run = λ e. refl }; before = refl; after = refl }
-others (suc (suc zero)) h n = record { form = refl; alike = record { em = refl; ratios = refl; class = refl; width = refl; rubyClass = refl; rubyWidth = refl; run = λ e. refl }; before = refl; after = refl }
-others (suc (suc (suc zero))) h n = record { form = refl; alike = record { em = refl; ratios = refl; class = refl; width = refl; rubyClass = refl; rubyWidth = refl; run = λ e. refl }; before = refl; after = refl }
+others (suc zero) h n = record { profile = refl; form = refl; alike = record { em = refl; ratios = refl; class = refl; width = refl; rubyClass = refl; rubyWidth = refl; run = λ e. refl }; before = refl; after = refl }
+others (suc (suc zero)) h n = record { profile = refl; form = refl; alike = record { em = refl; ratios = refl; class = refl; width = refl; rubyClass = refl; rubyWidth = refl; run = λ e. refl }; before = refl; after = refl }
+others (suc (suc (suc zero))) h n = record { profile = refl; form = refl; alike = record { em = refl; ratios = refl; class = refl; width = refl; rubyClass = refl; rubyWidth = refl; run = λ e. refl }; before = refl; after = refl }
 others (suc (suc (suc (suc k)))) h n = absurd (omega arith)
 
 exchanged : ElementExchanged 0 (lineIn was .job) (lineIn now .job)

@@ -71,6 +71,7 @@ piece l k = pieceOf (l .job) (from l) (upto l) k
 -- One element in two jobs: one form; alike in em, in the classes and widths of its base and of its ruby characters, and of a J in its runs (`Alike`); and with
 -- the same blanks. Where its characters stand in the job's lists is no matter.
 pub record SameElement (job : Job) (p : Piece) (job′ : Job) (q : Piece) : Type 0 where
+  pub profile : job .profile ≡ job′ .profile
   pub form : p .form ≡ q .form
   pub alike : Alike (p .form) (given job p) (given job′ q)
   pub before : given job p .before ≡ given job′ q .before
@@ -190,6 +191,7 @@ module _ (job : Job) (p : Piece) (job′ : Job) (q : Piece) (same : SameElement 
       let b = first-entry (job .before) (job′ .before) (p .base) (q .base) (p .bases) (q .bases) h k (same .before) in
       let a = first-entry (job .after) (job′ .after) (p .base) (q .base) (p .bases) (q .bases) h k (same .after) in
       let m = same .alike .em in
+      let f = same .profile in
       cc
 
   pub same-seen : 0 < p .bases → 0 < q .bases → eqb (p .base) 0 ≡ eqb (q .base) 0 → seen job p ≡ seen job′ q

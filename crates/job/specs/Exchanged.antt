@@ -137,15 +137,15 @@ unfolding part
 part-form job x i n = refl
 
 module _ (job job′ : Job) where
-  same-by : (p q : Piece) (form : Form) (v w : Given) → p .form ≡ form → q .form ≡ form → given job p ≡ v → given job′ q ≡ w → SameGiven form v w → SameElement job p job′ q
-  same-by p q form v w f f′ e e′ s =
+  same-by : job .profile ≡ job′ .profile → (p q : Piece) (form : Form) (v w : Given) → p .form ≡ form → q .form ≡ form → given job p ≡ v → given job′ q ≡ w → SameGiven form v w → SameElement job p job′ q
+  same-by h p q form v w f f′ e e′ s =
       let t : SameGiven (p .form) (given job p) (given job′ q) = rw (f, e, e′) s in
-      record { form = f ∙ sym f′; alike = t .alike; before = t .before; after = t .after }
+      record { profile = h; form = f ∙ sym f′; alike = t .alike; before = t .before; after = t .after }
 
   module _ (good : Passed job) (good′ : Passed job′) (x x′ : Piece) (g : GoodElement job x) (g′ : GoodElement job′ x′) (same : SameElement job x job′ x′) where
     part-same : (i n : ℕ) → isJ (x .form) ≡ true → 0 < n → i + n ≤ x .bases → SameElement job (part job x i n) job′ (part job′ x′ i n)
     part-same i n j h k =
-        same-by (part job x i n) (part job′ x′ i n) (parts.formOfPart n) (parts.part (given job x) i n) (parts.part (given job′ x′) i n)
+        same-by (same .profile) (part job x i n) (part job′ x′ i n) (parts.formOfPart n) (parts.part (given job x) i n) (parts.part (given job′ x′) i n)
         (part-form job x i n) (part-form job′ x′ i n) (part-given job good x g j i n h k)
         (part-given job′ good′ x′ g′ (subst (λ f. isJ f ≡ true) (same .form) j) i n h (omega (arith, same-bases job x job′ x′ same)))
         (part-alike (x .form) (given job x) (given job′ x′) i n j (record { alike = same .alike; before = same .before; after = same .after }))

@@ -7,7 +7,7 @@ use lib.Dec.{eqb, leb, ltb}
 use lib.ListN.{getD}
 use Rattle.basics.specs.Lists.{sum, count, any, keep, each, lastOr}
 use Rattle.class.specs.declared.Depths.{Depths}
-use Rattle.class.specs.Class.{depthsOn}
+use Rattle.class.specs.Class.{depthsBy}
 use Rattle.word.specs.declared.Form.{Form}
 use Rattle.word.specs.declared.Form.the-variants.{P, M, G, J}
 use Rattle.word.specs.declared.Word.{Word}
@@ -60,11 +60,11 @@ onP J depth = 0
 
 -- how deep ruby may lie on base character i where it is a P, by its class, its width and its blanks, and whether it is the job's first
 abbrev pub depthsAt : Job → ℕ → Depths
-depthsAt job i = depthsOn (eqb i 0) (getD (job .class) i 0) (getD (job .width) i 0) (getD (job .before) i 0) (getD (job .after) i 0) (job .em)
+depthsAt job i = depthsBy (job .profile) (eqb i 0) (getD (job .class) i 0) (getD (job .width) i 0) (getD (job .before) i 0) (getD (job .after) i 0) (job .em)
 
 -- a piece as a line sees it: its block, its ruby, and how deep a neighbour's ruby may lie on it
 unfoldable pub seen : Job → Piece → Element
-unfolding word.wordOf depthsOn
+unfolding word.wordOf depthsBy
 seen job p =
     let w = wordOf job p in
     record {

@@ -14,7 +14,7 @@ use lib.Dec.{ltb, eqb}
 use lib.ListN.{length, getD}
 use Rattle.basics.specs.Lists.{count, keep, each, All}
 use Rattle.refusal.specs.declared.Refusal.{Refusal}
-use Rattle.refusal.specs.declared.Refusal.the-variants.{Range, Ratio, Count, Short, Character, Blanks, Element, Supply, BlankInside, JukugoBase, Mixed, WesternOver, NoBreak, Form}
+use Rattle.refusal.specs.declared.Refusal.the-variants.{Range, Ratio, Profile, Count, Short, Character, Blanks, Element, Supply, BlankInside, JukugoBase, Mixed, WesternOver, NoBreak, Form}
 use Rattle.refusal.specs.Refusal.{placeOf}
 use Rattle.door.specs.declared.Piece.{Piece}
 use Rattle.door.specs.Job.{Job, baseCount, rubyCount, elementCount, elements}
@@ -284,6 +284,7 @@ module _ (job : Job) (b r l : ℕ) where
   listed (Range p) (inr h) = in-job Range 1 (h .0) (h .1)
   listed (Ratio p) (inl h) = in-job Ratio 0 (h .0) (h .1)
   listed (Ratio p) (inr h) = in-job Ratio 1 (h .0) (h .1)
+  listed Profile h = in-job (λ p. Profile) 0 {p = 0} refl h
   listed (Count p) (inl h) = in-job Count 0 (h .0) (lt-ltb _ _ (h .1))
   listed (Count p) (inr (inl h)) = in-job Count 1 (h .0) (lt-ltb _ _ (h .1))
   listed (Count p) (inr (inr h)) = in-job Count 2 (h .0) (lt-ltb _ _ (h .1))

@@ -58,8 +58,8 @@ module _ (job : Job) (passed : Passed job) where
       record {
         some = k .some;
         flush = flush (k .edge) (hasRuby (p .form)) refl (k .reads);
-        before = on-le (p .form) _ _ (omega (arith, before-within (eqb (p .base) 0) c w (getD (job .before) (p .base) 0) (getD (job .after) (p .base) 0) (job .em) (omega (arith, b .blanks))));
-        after = on-le (p .form) _ _ (omega (arith, after-within (eqb (p .base) 0) c w (getD (job .before) (p .base) 0) (getD (job .after) (p .base) 0) (job .em) (omega (arith, b .blanks))));
+        before = on-le (p .form) _ _ (omega (arith, before-within (job .profile) (eqb (p .base) 0) c w (getD (job .before) (p .base) 0) (getD (job .after) (p .base) 0) (job .em) (omega (arith, b .blanks))));
+        after = on-le (p .form) _ _ (omega (arith, after-within (job .profile) (eqb (p .base) 0) c w (getD (job .before) (p .base) 0) (getD (job .after) (p .base) 0) (job .em) (omega (arith, b .blanks))));
         shape = λ t. shape (k .shape (is-true (wordOf job p .ruby) t));
       }
     where

@@ -9,12 +9,12 @@ use lib.Dec.{eqb}
 use lib.ListN.{getD}
 use Rattle.basics.specs.Lists.{any}
 use Rattle.refusal.specs.declared.Refusal.{Refusal}
-use Rattle.refusal.specs.declared.Refusal.the-variants.{Range, Ratio, Count, Short, Character, Blanks, Element, Supply, BlankInside, JukugoBase, Mixed, WesternOver, NoBreak, Form}
+use Rattle.refusal.specs.declared.Refusal.the-variants.{Range, Ratio, Profile, Count, Short, Character, Blanks, Element, Supply, BlankInside, JukugoBase, Mixed, WesternOver, NoBreak, Form}
 use Rattle.refusal.specs.Refusal.{numberOf, placeOf}
 use Rattle.word.specs.Answer.{blankInside, jukugoBase, mixedIn, westernOver}
 use Rattle.door.specs.declared.Piece.{Piece}
 use Rattle.door.specs.Job.{Job, baseCount, rubyCount, elementCount, elements, given}
-use Rattle.door.specs.Refusals.{emWrong, measureWrong, ratioWrong, listShort, baseWrong, rubyWrong, blanksWrong, countsWrong, runOut, leftOver}
+use Rattle.door.specs.Refusals.{emWrong, measureWrong, ratioWrong, profileWrong, listShort, baseWrong, rubyWrong, blanksWrong, countsWrong, runOut, leftOver}
 use Rattle.job.specs.Line.{ends}
 use Rattle.job.specs.Refusals.{noBreak}
 use Rattle.job.specs.Promise.{nobody}
@@ -35,6 +35,7 @@ Begins job s = (s < baseCount job) × Member s (0 ∷ ends job)
 abbrev pub Row : Job → ℕ → ℕ → ℕ → Refusal → Type 0
 Row job base ruby lines (Range p) = ((p ≡ 0) × (emWrong job ≡ true)) ⊎ ((p ≡ 1) × (measureWrong job ≡ true))  -- "0 em, 1 measure"
 Row job base ruby lines (Ratio p) = ((p ≡ 0) × (ratioWrong (job .ratios .ruby) ≡ true)) ⊎ ((p ≡ 1) × (ratioWrong (job .ratios .base) ≡ true))  -- "0 for the ruby ratio, 1 for the base"
+Row job base ruby lines Profile = profileWrong job ≡ true
 Row job base ruby lines (Count p) =
     ((p ≡ 0) × (1024 < baseCount job)) ⊎ (((p ≡ 1) × (2048 < rubyCount job)) ⊎ ((p ≡ 2) × (1024 < elementCount job)))  -- "0 base, 1 ruby, 2 elements"
 Row job base ruby lines Short = listShort job base ruby lines ≡ true
@@ -50,12 +51,13 @@ Row job base ruby lines (WesternOver p) = Of job (λ x. westernOver (x .form) (g
 Row job base ruby lines (NoBreak p) = Begins job p × (noBreak job p ≡ true)  -- "first base character of the line"
 Row job base ruby lines (Form p) = ⊥  -- 13 is the sheet's own
 
--- "Order: 1, 2 and 12, each by lowest place", 15 "checked after 1"; "then base characters and then ruby characters in turn, 3 before 4; then elements in turn, in the table's order
+-- "Order: 1, 2 and 12, each by lowest place", 15 "checked after 1", 20 "checked after 15"; "then base characters and then ruby characters in turn, 3 before 4; then elements in turn, in the table's order
 -- from 5; then leftover characters; then lines in turn": the numbers stage by stage, each stage's in the table's order. 13 is the sheet's own.
 abbrev pub order : List (List ℕ)
 order =
     (1 ∷ [])
     ∷ (15 ∷ [])
+    ∷ (20 ∷ [])
     ∷ (2 ∷ [])
     ∷ (12 ∷ [])
     ∷ (3 ∷ 4 ∷ [])

@@ -163,6 +163,7 @@ pub fn account_job(
     em: u32,
     measure: u32,
     ratios: [[u32; 3]; 2],
+    profile: u32,
     class: &[u32],
     width: &[u32],
     before: &[u32],
@@ -178,7 +179,7 @@ pub fn account_job(
     told: &mut [u32],
     extents: &mut [u32],
 ) -> job::Answer
-    ensures { λ r. ⌜ _≡_ {A = Telling} (record { answer = r; rows = now (rows .exit); told = now (told .exit); extents = now (extents .exit) }) (telling (jobOf em measure ratios (now (class .entry)) (now (width .entry)) (now (before .entry)) (now (after .entry)) (now (flag .entry)) (now (rclass .entry)) (now (rwidth .entry)) (now (kind .entry)) (now (ebase .entry)) (now (eruby .entry)) (now (runs .entry))) (now (rows .entry)) (now (told .entry)) (now (extents .entry))) ⌝ }
+    ensures { λ r. ⌜ _≡_ {A = Telling} (record { answer = r; rows = now (rows .exit); told = now (told .exit); extents = now (extents .exit) }) (telling (jobOf em measure ratios profile (now (class .entry)) (now (width .entry)) (now (before .entry)) (now (after .entry)) (now (flag .entry)) (now (rclass .entry)) (now (rwidth .entry)) (now (kind .entry)) (now (ebase .entry)) (now (eruby .entry)) (now (runs .entry))) (now (rows .entry)) (now (told .entry)) (now (extents .entry))) ⌝ }
 {
     let room = room_of(rows.len(), told.len(), extents.len());
     let mut t = [0; 19462];
@@ -191,6 +192,7 @@ pub fn account_job(
         em,
         measure,
         ratios,
+        profile,
         class,
         width,
         before,

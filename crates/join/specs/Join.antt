@@ -12,7 +12,7 @@ use lib.Dec.{eqb, leb, ltb}
 use lib.ListN.{length, getD}
 use lib.Seq.{append-snoc}
 use Rattle.basics.specs.Lists.{sum, All, lastOr}
-use Rattle.class.specs.Class.{western, depthsOn}
+use Rattle.class.specs.Class.{western, depthsBy}
 use Rattle.class.specs.declared.Depths.{Depths}
 use Rattle.class.specs.Laws.{before-within}
 use Rattle.spread.specs.Ratio.{Ratios, Housed}
@@ -340,7 +340,7 @@ module _ (job : Job) (passed : Passed job) (t : List ℕ) (table : Holds job t) 
         let w = getD (job .width) (x .base) 0 in
         let b = passed .base (x .base) (omega (arith, g .some, g .inside)) in
         let wide : 2 * w ≤ line.wordOf job x .len = omega (arith, k .block, sum-first (job .width) (x .base) (x .bases) (g .some)) in
-        let deep = before-within (eqb (x .base) 0) (getD (job .class) (x .base) 0) w (getD (job .before) (x .base) 0) (getD (job .after) (x .base) 0) (job .em) (omega (arith, b .blanks)) in
+        let deep = before-within (job .profile) (eqb (x .base) 0) (getD (job .class) (x .base) 0) w (getD (job .before) (x .base) 0) (getD (job .after) (x .base) 0) (job .em) (omega (arith, b .blanks)) in
         record {
           front = ap (λ w. w .front) e ∙ plain-front (x .form) (given job x) p;
           before = omega (arith, before-at x at i h l, ap (λ w. w .len) e, on-le (x .form) (depthsAt job (x .base) .before) (line.wordOf job x .len) (omega (arith, deep)));

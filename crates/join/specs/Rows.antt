@@ -7,7 +7,7 @@ use lib.Dec.{eqb, ltb}
 use lib.ListN.{length, getD}
 use Rattle.basics.specs.Lists.{sum, count, keep, All}
 use Rattle.class.specs.declared.Depths.{Depths}
-use Rattle.class.specs.Class.{western, depthsOn}
+use Rattle.class.specs.Class.{western, depthsBy}
 use Rattle.word.specs.declared.Word.{Word}
 use Rattle.word.specs.Given.{isJ}
 use Rattle.word.specs.Word as word
@@ -79,7 +79,7 @@ endsBehind job x = eqb (getD (job .flag) (x .base + x .bases - 1) 0) 1
 
 -- the row of base character i of element x: its word is level one's, and ruby lies on it as deep as it may on a P
 unfoldable pub rowOf : Job → Piece → ℕ → Cell
-unfolding western word.wordOf depthsOn
+unfolding western word.wordOf depthsBy
 rowOf job x i = rowBy job x (wordOf job x) (endsBehind job x) (onP (x .form) (depthsAt job (x .base) .before)) (onP (x .form) (depthsAt job (x .base) .after)) i
 
 abbrev pub HasRows : Job → List ℕ → Piece → Type 0

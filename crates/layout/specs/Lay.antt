@@ -10,7 +10,7 @@ use native.Mathlib.Decide.{decLt}
 use lib.Dec.{eqb, ltb}
 use lib.ListN.{length, getD}
 use Rattle.basics.specs.Lists.{sum, All}
-use Rattle.class.specs.Class.{western, depthsOn}
+use Rattle.class.specs.Class.{western, depthsBy}
 use Rattle.spread.specs.Ratio.{usual, Housed}
 use Rattle.word.specs.Word.{plain}
 use Rattle.word.specs.declared.Word.{Word}
@@ -232,9 +232,9 @@ pub record PlainReady (b r : ℕ) (cs ws bs ss fs t : List ℕ) : Type 0 where
   pub held : size (b + 1) ≤ length t
 
 -- the row of base character b, a P before which r ruby characters were taken
-abbrev pub plainRow : ℕ → ℕ → ℕ → List ℕ → List ℕ → List ℕ → List ℕ → List ℕ → Cell
-plainRow b r em class width before after flag =
-    let d = depthsOn (eqb b 0) (getD class b 0) (getD width b 0) (getD before b 0) (getD after b 0) em in
+abbrev pub plainRow : ℕ → ℕ → ℕ → ℕ → List ℕ → List ℕ → List ℕ → List ℕ → List ℕ → Cell
+plainRow profile b r em class width before after flag =
+    let d = depthsBy profile (eqb b 0) (getD class b 0) (getD width b 0) (getD before b 0) (getD after b 0) em in
     record {
       bases = 1;
       cut = false;

@@ -12,7 +12,7 @@ use lib.ListN.{length, getD, take, drop}
 use lib.Seq.{take-all, take-add}
 use Rattle.basics.specs.Lists.{sum, All}
 use Rattle.refusal.specs.declared.Refusal.{Refusal}
-use Rattle.class.specs.Class.{depthsOn}
+use Rattle.class.specs.Class.{depthsBy}
 use Rattle.spread.specs.Ratio.{Housed}
 use Rattle.word.specs.declared.Form.the-variants.{P}
 use Rattle.word.specs.Word as word
@@ -185,7 +185,7 @@ module _ (job : Job) (was t : List ℕ) (k b r u : ℕ) (q : Walking job was t k
       abbrev alone : Piece
       alone = record { form = P; base = b; bases = 1; ruby = r; rubies = 0; run = u }
 
-      plain-row : plainRow b r (job .em) (job .class) (job .width) (job .before) (job .after) (job .flag) ≡ rowOf job alone b
+      plain-row : plainRow (job .profile) b r (job .em) (job .class) (job .width) (job .before) (job .after) (job .flag) ≡ rowOf job alone b
       unfolding rowOf word.wordOf
       plain-row = rw (one b, less b, add-zero (getD (job .width) b 0), add-zero r)
         where
@@ -195,7 +195,7 @@ module _ (job : Job) (was t : List ℕ) (k b r u : ℕ) (q : Walking job was t k
           less : (b : ℕ) → b + 1 - 1 ≡ b
           less b = omega arith
 
-      laid : (v : List ℕ) → Puts t b (plainRow b r (job .em) (job .class) (job .width) (job .before) (job .after) (job .flag)) v → Laid job alone t v
+      laid : (v : List ℕ) → Puts t b (plainRow (job .profile) b r (job .em) (job .class) (job .width) (job .before) (job .after) (job .flag)) v → Laid job alone t v
       laid v p =
           record {
             long = p .long;
@@ -208,7 +208,7 @@ module _ (job : Job) (was t : List ℕ) (k b r u : ℕ) (q : Walking job was t k
           not-here i e (inl z) = omega arith
           not-here i e (inr z) = omega arith
 
-      pub walking-plain : (v : List ℕ) → Puts t b (plainRow b r (job .em) (job .class) (job .width) (job .before) (job .after) (job .flag)) v → Walking job was v (k + 1) (b + 1) r u
+      pub walking-plain : (v : List ℕ) → Puts t b (plainRow (job .profile) b r (job .em) (job .class) (job .width) (job .before) (job .after) (job .flag)) v → Walking job was v (k + 1) (b + 1) r u
       walking-plain v p =
           let e = loop.piece (baseCount job) (rubyCount job) job k b r u plain in
           let along = loop.along-plain (baseCount job) (rubyCount job) job k b r u plain (elementCount job) h stands left (q .along) in

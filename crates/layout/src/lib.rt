@@ -217,6 +217,7 @@ fn put_plain(
     b: usize,
     r: usize,
     em: u32,
+    profile: u32,
     class: &[u32],
     width: &[u32],
     before: &[u32],
@@ -224,13 +225,13 @@ fn put_plain(
     flag: &[u32],
 )
     requires { ⌜ PlainReady b r (now class) (now width) (now before) (now after) (now flag) (now t) ⌝ }
-    ensures { λ _. ⌜ Puts (now (t .entry)) b (plainRow b r em (now (class .entry)) (now (width .entry)) (now (before .entry)) (now (after .entry)) (now (flag .entry))) (now (t .exit)) ⌝ }
+    ensures { λ _. ⌜ Puts (now (t .entry)) b (plainRow profile b r em (now (class .entry)) (now (width .entry)) (now (before .entry)) (now (after .entry)) (now (flag .entry))) (now (t .exit)) ⌝ }
 {
     let answer = word::plain_answer(width[b]);
     let word::Answer::Set(w) = answer else {
         return; // unreachable: level one has no row for a P
     };
-    let d = class::depths_on(b == 0, class[b], width[b], before[b], after[b], em);
+    let d = class::depths_by(profile, b == 0, class[b], width[b], before[b], after[b], em);
     cells::put_cell(
         t,
         b,
@@ -263,6 +264,7 @@ fn lay_word(
     rubies: usize,
     em: u32,
     ratios: [[u32; 3]; 2],
+    profile: u32,
     class: &[u32],
     width: &[u32],
     before: &[u32],
@@ -275,8 +277,8 @@ fn lay_word(
     eruby: &[u32],
     runs: &[u32],
 ) -> door::Step
-    requires { let job = jobOf em 0 ratios (now class) (now width) (now before) (now after) (now flag) (now rclass) (now rwidth) (now kind) (now ebase) (now eruby) (now runs) in ⌜ Standing bases rubies job k b r u (now t) ⌝ }
-    ensures { λ s. let job = jobOf em 0 ratios (now (class .entry)) (now (width .entry)) (now (before .entry)) (now (after .entry)) (now (flag .entry)) (now (rclass .entry)) (now (rwidth .entry)) (now (kind .entry)) (now (ebase .entry)) (now (eruby .entry)) (now (runs .entry)) in ⌜ Stepped bases rubies job k b r u (now (t .entry)) (now (t .exit)) s ⌝ }
+    requires { let job = jobOf em 0 ratios profile (now class) (now width) (now before) (now after) (now flag) (now rclass) (now rwidth) (now kind) (now ebase) (now eruby) (now runs) in ⌜ Standing bases rubies job k b r u (now t) ⌝ }
+    ensures { λ s. let job = jobOf em 0 ratios profile (now (class .entry)) (now (width .entry)) (now (before .entry)) (now (after .entry)) (now (flag .entry)) (now (rclass .entry)) (now (rwidth .entry)) (now (kind .entry)) (now (ebase .entry)) (now (eruby .entry)) (now (runs .entry)) in ⌜ Stepped bases rubies job k b r u (now (t .entry)) (now (t .exit)) s ⌝ }
 {
     let place = k as u32;
     let counted = door::count_element(kind[k], ebase[k], eruby[k], b, r, u, runs);
@@ -316,6 +318,7 @@ pub fn layout(
     t: &mut [u32],
     em: u32,
     ratios: [[u32; 3]; 2],
+    profile: u32,
     class: &[u32],
     width: &[u32],
     before: &[u32],
@@ -328,8 +331,8 @@ pub fn layout(
     eruby: &[u32],
     runs: &[u32],
 ) -> door::Checked
-    requires { let job = jobOf em 0 ratios (now class) (now width) (now before) (now after) (now flag) (now rclass) (now rwidth) (now kind) (now ebase) (now eruby) (now runs) in ⌜ Ready job (now t) ⌝ }
-    ensures { λ c. let job = jobOf em 0 ratios (now (class .entry)) (now (width .entry)) (now (before .entry)) (now (after .entry)) (now (flag .entry)) (now (rclass .entry)) (now (rwidth .entry)) (now (kind .entry)) (now (ebase .entry)) (now (eruby .entry)) (now (runs .entry)) in ⌜ (c ≡ verdict (elementsFaults job 0 (elements job) ++ leftFaults job)) × (c ≡ Passed → Holds job (now (t .exit))) ⌝ }
+    requires { let job = jobOf em 0 ratios profile (now class) (now width) (now before) (now after) (now flag) (now rclass) (now rwidth) (now kind) (now ebase) (now eruby) (now runs) in ⌜ Ready job (now t) ⌝ }
+    ensures { λ c. let job = jobOf em 0 ratios profile (now (class .entry)) (now (width .entry)) (now (before .entry)) (now (after .entry)) (now (flag .entry)) (now (rclass .entry)) (now (rwidth .entry)) (now (kind .entry)) (now (ebase .entry)) (now (eruby .entry)) (now (runs .entry)) in ⌜ (c ≡ verdict (elementsFaults job 0 (elements job) ++ leftFaults job)) × (c ≡ Passed → Holds job (now (t .exit))) ⌝ }
 {
     cells::put_ratios(t, ratios);
     let elements = door::element_count(kind, ebase, eruby);
@@ -344,7 +347,7 @@ pub fn layout(
             if bases <= b {
                 return door::Checked::Refused(Refusal::Supply(k as u32));
             }
-            put_plain(t, b, r, em, class, width, before, after, flag);
+            put_plain(t, b, r, em, profile, class, width, before, after, flag);
             b += 1;
             k += 1;
             continue;
@@ -359,6 +362,7 @@ pub fn layout(
             rubies,
             em,
             ratios,
+            profile,
             class,
             width,
             before,

@@ -5,11 +5,12 @@ use Prim.Native.Nat.{ℕ, _≤_}
 use native.Mathlib.Omega.{arith}
 use lib.Dec.{eqb}
 use Rattle.refusal.specs.declared.Refusal.{Refusal}
-use Rattle.refusal.specs.declared.Refusal.the-variants.{Range, Ratio, Count, Short, Character, Blanks, Element, Supply, BlankInside, JukugoBase, Mixed, WesternOver, NoBreak, Form}
+use Rattle.refusal.specs.declared.Refusal.the-variants.{Range, Ratio, Profile, Count, Short, Character, Blanks, Element, Supply, BlankInside, JukugoBase, Mixed, WesternOver, NoBreak, Form}
 
 abbrev pub numberOf : Refusal → ℕ
 numberOf (Range p) = 1
 numberOf (Ratio p) = 15
+numberOf Profile = 20
 numberOf (Count p) = 2
 numberOf Short = 12
 numberOf (Character p) = 3
@@ -23,10 +24,11 @@ numberOf (WesternOver p) = 10
 numberOf (NoBreak p) = 11
 numberOf (Form p) = 13
 
--- 12 has the place 0, whichever list is short
+-- 12 and 20 have the place 0
 abbrev pub placeOf : Refusal → ℕ
 placeOf (Range p) = p
 placeOf (Ratio p) = p
+placeOf Profile = 0
 placeOf (Count p) = p
 placeOf Short = 0
 placeOf (Character p) = p
@@ -44,6 +46,7 @@ placeOf (Form p) = p
 pub two-digits : (r : Refusal) → numberOf r ≤ 99
 two-digits (Range p) = omega arith
 two-digits (Ratio p) = omega arith
+two-digits Profile = omega arith
 two-digits (Count p) = omega arith
 two-digits Short = omega arith
 two-digits (Character p) = omega arith
@@ -62,6 +65,7 @@ unfoldable pub byPaper : ℕ → ℕ → Refusal
 byPaper n p =
     cond (eqb n 1) (Range p)
     (cond (eqb n 15) (Ratio p)
+    (cond (eqb n 20) Profile
     (cond (eqb n 2) (Count p)
     (cond (eqb n 3) (Character p)
     (cond (eqb n 4) (Blanks p)
@@ -72,12 +76,13 @@ byPaper n p =
     (cond (eqb n 9) (Mixed p)
     (cond (eqb n 10) (WesternOver p)
     (cond (eqb n 11) (NoBreak p)
-    (cond (eqb n 13) (Form p) Short))))))))))))
+    (cond (eqb n 13) (Form p) Short)))))))))))))
 
 back : (r : Refusal) → byPaper (numberOf r) (placeOf r) ≡ r
 unfolding byPaper
 back (Range p) = refl
 back (Ratio p) = refl
+back Profile = refl
 back (Count p) = refl
 back Short = refl
 back (Character p) = refl

@@ -9,6 +9,8 @@ pub enum Refusal {
     Range(u32),
     // 15: a ratio number over 7, or all three 0; 0 the ruby ratio, 1 the base ratio.
     Ratio(u32),
+    // 20: a profile over 1. Its place is always 0.
+    Profile,
     // 2: a count over its maximum; 0 base, 1 ruby, 2 elements.
     Count(u32),
     // 12: a result list too short. Its place is always 0.
@@ -42,6 +44,7 @@ pub fn number(r: Refusal) -> u32
     match r {
         Refusal::Range(_) => 1,
         Refusal::Ratio(_) => 15,
+        Refusal::Profile => 20,
         Refusal::Count(_) => 2,
         Refusal::Short => 12,
         Refusal::Character(_) => 3,
@@ -64,6 +67,7 @@ pub fn place(r: Refusal) -> u32
     match r {
         Refusal::Range(p) => p,
         Refusal::Ratio(p) => p,
+        Refusal::Profile => 0,
         Refusal::Count(p) => p,
         Refusal::Short => 0,
         Refusal::Character(p) => p,

@@ -16,6 +16,7 @@ plain measure classes rubies kinds bases counts runs =
       em = 10;
       measure = measure;
       ratios = usual;
+      profile = 0;
       class = classes;
       width = replicate (length classes) 10;
       before = replicate (length classes) 0;

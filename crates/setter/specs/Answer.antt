@@ -37,13 +37,14 @@ unfolding textBy fault
 jobText job base ruby lines = textBy job (fault job base ruby lines)
 
 -- "`set 2` with em and measure ..; `base` (class, width, blank before, blank after, flag); `ruby` (class, width); `elem`": the job that a sheet holds; it has no ratios
--- and means 1:2:1
+-- and no profile, and means 1:2:1 and 0
 unfoldable pub sheetJob : Sheet → Job
 sheetJob t =
     jobOf
     (emOf t)
     (measureOf t)
     usualLists
+    0
     (column 0 (t .base))
     (column 1 (t .base))
     (column 2 (t .base))
@@ -92,6 +93,7 @@ tablesJob n set base ruby elem runs =
     (getD set 0 0)
     (getD set 1 0)
     usualLists
+    0
     (part 0 (n .bases) base)
     (part 1024 (1024 + n .bases) base)
     (part 2048 (2048 + n .bases) base)

@@ -8,7 +8,7 @@ ghost use Rattle.door.specs.Job.{jobOf};
 ghost use Rattle.result.specs.Short.{longest};
 ghost use Rattle.setter.specs.Answer.{part, Told, ElementsReady, TablesReady, tablesJob, Fits, Answered};
 
-// Sets a job in lists and writes its text. A sheet has no ratios: it means 1:2:1.
+// Sets a job in lists and writes its text. A sheet has no ratios and no profile: it means 1:2:1 and 0.
 fn set_lists(
     em: u32,
     measure: u32,
@@ -29,7 +29,7 @@ fn set_lists(
     out: &mut [u8],
 ) -> usize
     requires { ⌜ longest ≤ length (now out) ⌝ }
-    ensures { λ r. ⌜ Told (jobOf em measure usualLists (now (class .entry)) (now (width .entry)) (now (before .entry)) (now (after .entry)) (now (flag .entry)) (now (rclass .entry)) (now (rwidth .entry)) (now (kind .entry)) (now (ebase .entry)) (now (eruby .entry)) (now (runs .entry))) (now (base .entry)) (now (ruby .entry)) (now (lines .entry)) (now (out .entry)) r (now (base .exit)) (now (ruby .exit)) (now (lines .exit)) (now (out .exit)) ⌝ }
+    ensures { λ r. ⌜ Told (jobOf em measure usualLists 0 (now (class .entry)) (now (width .entry)) (now (before .entry)) (now (after .entry)) (now (flag .entry)) (now (rclass .entry)) (now (rwidth .entry)) (now (kind .entry)) (now (ebase .entry)) (now (eruby .entry)) (now (runs .entry))) (now (base .entry)) (now (ruby .entry)) (now (lines .entry)) (now (out .entry)) r (now (base .exit)) (now (ruby .exit)) (now (lines .exit)) (now (out .exit)) ⌝ }
 {
     let mut t = [0; 19462];
     let mut ends = [0; 1024];
@@ -41,6 +41,7 @@ fn set_lists(
         em,
         measure,
         spread::USUAL,
+        0,
         class,
         width,
         before,
@@ -82,7 +83,7 @@ fn set_elements(
     out: &mut [u8],
 ) -> usize
     requires { ⌜ ElementsReady e u (now elem) (now runs) (now out) ⌝ }
-    ensures { λ r. ⌜ Told (jobOf em measure usualLists (now (class .entry)) (now (width .entry)) (now (before .entry)) (now (after .entry)) (now (flag .entry)) (now (rclass .entry)) (now (rwidth .entry)) (part 0 e (now (elem .entry))) (part 1024 (1024 + e) (now (elem .entry))) (part 2048 (2048 + e) (now (elem .entry))) (part 0 u (now (runs .entry)))) (now (base .entry)) (now (ruby .entry)) (now (lines .entry)) (now (out .entry)) r (now (base .exit)) (now (ruby .exit)) (now (lines .exit)) (now (out .exit)) ⌝ }
+    ensures { λ r. ⌜ Told (jobOf em measure usualLists 0 (now (class .entry)) (now (width .entry)) (now (before .entry)) (now (after .entry)) (now (flag .entry)) (now (rclass .entry)) (now (rwidth .entry)) (part 0 e (now (elem .entry))) (part 1024 (1024 + e) (now (elem .entry))) (part 2048 (2048 + e) (now (elem .entry))) (part 0 u (now (runs .entry)))) (now (base .entry)) (now (ruby .entry)) (now (lines .entry)) (now (out .entry)) r (now (base .exit)) (now (ruby .exit)) (now (lines .exit)) (now (out .exit)) ⌝ }
 {
     let e1 = 1024 + e;
     let e2 = 2048 + e;

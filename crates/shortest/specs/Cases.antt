@@ -16,6 +16,7 @@ example measure flag =
       em = 10;
       measure = measure;
       ratios = usual;
+      profile = 0;
       class = 19 ∷ 15 ∷ 19 ∷ 19 ∷ [];
       width = 10 ∷ 10 ∷ 10 ∷ 10 ∷ [];
       before = 0 ∷ 0 ∷ 0 ∷ 0 ∷ [];

@@ -10,7 +10,7 @@ use Rattle.account_sheet.proofs.tell_lists.Tie as tie
 
 abbrev job : tie.Start → Job
 job a =
-    jobOf (a .args .em) (a .args .measure) usualLists (a .args .class .now) (a .args .width .now) (a .args .before .now) (a .args .after .now) (a .args .flag .now) (a .args .rclass .now) (a .args .rwidth .now) (a .args .kind .now) (a .args .ebase .now) (a .args .eruby .now) (a .args .runs .now)
+    jobOf (a .args .em) (a .args .measure) usualLists 0 (a .args .class .now) (a .args .width .now) (a .args .before .now) (a .args .after .now) (a .args .flag .now) (a .args .rclass .now) (a .args .rwidth .now) (a .args .kind .now) (a .args .ebase .now) (a .args .eruby .now) (a .args .runs .now)
 
 counted : (c : tie.After-element-count) → c .element-count .result ≡ elementCount (job (c .before .before .before .before .before .before .before .before .before .before .before .before .before .before .before .before .before .before .before .before .before .before .before .before .before .before .before .before .before))
 unfolding elementCount

@@ -24,7 +24,7 @@ written c = c .before .before .before
 abbrev job : tie.Start → Job
 job a =
     let x = a .args in
-    jobOf (x .em) (x .measure) usualLists (x .class .now) (x .width .now) (x .before .now) (x .after .now) (x .flag .now) (x .rclass .now)
+    jobOf (x .em) (x .measure) usualLists 0 (x .class .now) (x .width .now) (x .before .now) (x .after .now) (x .flag .now) (x .rclass .now)
     (x .rwidth .now) (x .kind .now) (x .ebase .now) (x .eruby .now) (x .runs .now)
 
 -- a line is declined

@@ -19,7 +19,7 @@ start c = c .before .before .before .before .before .before .before .before .bef
 abbrev job : tie.Start → Job
 job a =
     let x = a .args in
-    jobOf (x .em) (x .measure) (x .ratios) (x .class .now) (x .width .now) (x .before .now) (x .after .now) (x .flag .now) (x .rclass .now) (x .rwidth .now) (x .kind .now) (x .ebase .now) (x .eruby .now) []
+    jobOf (x .em) (x .measure) (x .ratios) (x .profile) (x .class .now) (x .width .now) (x .before .now) (x .after .now) (x .flag .now) (x .rclass .now) (x .rwidth .now) (x .kind .now) (x .ebase .now) (x .eruby .now) []
 
 -- what the groups say, one after the other
 house : (c : tie.After-check-house) → let a = start c in verdict (whole.house (job a) (a .args .base) (a .args .ruby) (a .args .lines)) ≡ c .check-house .result

@@ -1,4 +1,5 @@
 -- Each test is its row, in the order of the list. Past them all the rows are empty.
+use borrow.Author.Tests.{lt-ltb, le-ltb}
 use borrow.Author.Needs.{needs}
 use Rattle.door.proofs.check_house.Statement.{statement}
 use Rattle.door.proofs.check_house.Tie as tie
@@ -41,10 +42,21 @@ returns-4 c =
 
 returns-5 : tie.Need-returns-5
 returns-5 c =
-    let r = c .before .before .before in
+    let q = c .before in
+    let r = q .before .before .before in
     let e = r .before .before .before in
     let o = e .before in
-    rw (← o .before .before .em-wrong .ensures, o .before .if1 .left, ← o .is-outside .ensures, e .if2 .left, ← r .before .ratio-wrong .ensures, r .if3 .left, ← c .before .ratio-wrong2 .ensures, c .if4 .left)
+    rw (← o .before .before .em-wrong .ensures, o .before .if1 .left, ← o .is-outside .ensures, e .if2 .left, ← r .before .ratio-wrong .ensures, r .if3 .left)
+    (rw (← q .before .ratio-wrong2 .ensures, q .if4 .left, lt-ltb _ _ (c .if5 .taken)))
+
+returns-6 : tie.Need-returns-6
+returns-6 c =
+    let q = c .before in
+    let r = q .before .before .before in
+    let e = r .before .before .before in
+    let o = e .before in
+    rw (← o .before .before .em-wrong .ensures, o .before .if1 .left, ← o .is-outside .ensures, e .if2 .left, ← r .before .ratio-wrong .ensures, r .if3 .left)
+    (rw (← q .before .ratio-wrong2 .ensures, q .if4 .left, le-ltb 1 (o .before .before .before .args .profile) (c .if5 .left)))
 
 pub check-house-spec : {M : Type 1} → statement M
 check-house-spec =
@@ -60,4 +72,5 @@ check-house-spec =
     array-copy-out-ratio-wrong-2
     ratio-wrong-requires-2
     returns-4
-    returns-5)
+    returns-5
+    returns-6)

@@ -27,7 +27,7 @@ start c = c .before .before .before .before .before .before .before .before .bef
 abbrev job : tie.Start → Job
 job a =
     let x = a .args in
-    jobOf (x .em) (x .measure) (x .ratios) (x .class .now) (x .width .now) (x .before .now) (x .after .now) (x .flag .now) (x .rclass .now) (x .rwidth .now) (x .kind .now) (x .ebase .now) (x .eruby .now) (x .runs .now)
+    jobOf (x .em) (x .measure) (x .ratios) (x .profile) (x .class .now) (x .width .now) (x .before .now) (x .after .now) (x .flag .now) (x .rclass .now) (x .rwidth .now) (x .kind .now) (x .ebase .now) (x .eruby .now) (x .runs .now)
 
 -- what the door says of the characters
 said : (c : tie.After-check-characters) → let a = start c in verdict (ahead (job a) (a .args .base) (a .args .ruby) (a .args .lines)) ≡ c .check-characters .result

@@ -27,18 +27,18 @@ use Rattle.layout.proofs.layout.Statement.{statement}
 use Rattle.layout.proofs.layout.Tie as tie
 
 abbrev Inv-loop : tie.InvT-loop
-Inv-loop t₀ em ratios class width before after flag rclass rwidth kind ebase eruby runs elements bases rubies k₀ b₀ r₀ u₀ t k b r u =
-    Walking (jobOf em 0 ratios class width before after flag rclass rwidth kind ebase eruby runs) t₀ t k b r u
+Inv-loop t₀ em ratios profile class width before after flag rclass rwidth kind ebase eruby runs elements bases rubies k₀ b₀ r₀ u₀ t k b r u =
+    Walking (jobOf em 0 ratios profile class width before after flag rclass rwidth kind ebase eruby runs) t₀ t k b r u
 
 abbrev μ-loop : tie.MeasureT-loop
-μ-loop t₀ em ratios class width before after flag rclass rwidth kind ebase eruby runs elements bases rubies k₀ b₀ r₀ u₀ t k b r u =
+μ-loop t₀ em ratios profile class width before after flag rclass rwidth kind ebase eruby runs elements bases rubies k₀ b₀ r₀ u₀ t k b r u =
     elements - k
 
 -- the job that the lists are
 abbrev job : tie.Start Inv-loop μ-loop → Job
 job a =
     let x = a .args in
-    jobOf (x .em) 0 (x .ratios) (x .class .now) (x .width .now) (x .before .now) (x .after .now) (x .flag .now) (x .rclass .now) (x .rwidth .now) (x .kind .now) (x .ebase .now) (x .eruby .now) (x .runs .now)
+    jobOf (x .em) 0 (x .ratios) (x .profile) (x .class .now) (x .width .now) (x .before .now) (x .after .now) (x .flag .now) (x .rclass .now) (x .rwidth .now) (x .kind .now) (x .ebase .now) (x .eruby .now) (x .runs .now)
 
 -- where the walk began, and its counts
 abbrev counts : tie.At-loop Inv-loop μ-loop → tie.After-ruby-count Inv-loop μ-loop
@@ -158,8 +158,8 @@ mul-if1 c = omega (arith, at c .index)
 shared-slice-read-if1 : tie.Need-shared-slice-read-if1 Inv-loop μ-loop
 shared-slice-read-if1 c = at (c .before) .kind
 
-cast-t32 : tie.Need-cast-t32 Inv-loop μ-loop
-cast-t32 c = omega (arith, at (c .before .before .before) .index)
+cast-t33 : tie.Need-cast-t33 Inv-loop μ-loop
+cast-t33 c = omega (arith, at (c .before .before .before) .index)
 
 same-length : tie.Need-same-length Inv-loop μ-loop
 same-length c = let l = c .before .before .before .before in l .loop .inv .long ∙ long l
@@ -286,8 +286,8 @@ ended c =
 left-over-requires : tie.Need-left-over-requires Inv-loop μ-loop
 left-over-requires c κs = search needs
 
-cast-t41 : tie.Need-cast-t41 Inv-loop μ-loop
-cast-t41 c =
+cast-t42 : tie.Need-cast-t42 Inv-loop μ-loop
+cast-t42 c =
     let l = c .before .before .before in
     omega (arith, elements-are l, l .loop .inv .ready .fewElements)
 
@@ -329,7 +329,7 @@ layout-spec =
     loop-holds
     mul-if1
     shared-slice-read-if1
-    cast-t32
+    cast-t33
     same-length
     returns
     put-plain-requires
@@ -349,7 +349,7 @@ layout-spec =
     loop-less-2
     loop-again-2
     left-over-requires
-    cast-t41
+    cast-t42
     same-length-3
     returns-3
     same-length-4

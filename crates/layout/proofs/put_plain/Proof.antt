@@ -46,41 +46,41 @@ returns c =
     let told = c .before .before .plain-answer .ensures in
     absurd (never (sym told ∙ c .enum-told .given .1))
 
-mul-depths-on : tie.Need-mul-depths-on
-mul-depths-on c = search needs
+mul-depths-by : tie.Need-mul-depths-by
+mul-depths-by c = search needs
 
-shared-slice-read-depths-on : tie.Need-shared-slice-read-depths-on
-shared-slice-read-depths-on c = search needs
+shared-slice-read-depths-by : tie.Need-shared-slice-read-depths-by
+shared-slice-read-depths-by c = search needs
 
-mul-depths-on-2 : tie.Need-mul-depths-on-2
-mul-depths-on-2 c = search needs
+mul-depths-by-2 : tie.Need-mul-depths-by-2
+mul-depths-by-2 c = search needs
 
-shared-slice-read-depths-on-2 : tie.Need-shared-slice-read-depths-on-2
-shared-slice-read-depths-on-2 c = search needs
+shared-slice-read-depths-by-2 : tie.Need-shared-slice-read-depths-by-2
+shared-slice-read-depths-by-2 c = search needs
 
-mul-depths-on-3 : tie.Need-mul-depths-on-3
-mul-depths-on-3 c = search needs
+mul-depths-by-3 : tie.Need-mul-depths-by-3
+mul-depths-by-3 c = search needs
 
-shared-slice-read-depths-on-3 : tie.Need-shared-slice-read-depths-on-3
-shared-slice-read-depths-on-3 c = search needs
+shared-slice-read-depths-by-3 : tie.Need-shared-slice-read-depths-by-3
+shared-slice-read-depths-by-3 c = search needs
 
-mul-depths-on-4 : tie.Need-mul-depths-on-4
-mul-depths-on-4 c = search needs
+mul-depths-by-4 : tie.Need-mul-depths-by-4
+mul-depths-by-4 c = search needs
 
-shared-slice-read-depths-on-4 : tie.Need-shared-slice-read-depths-on-4
-shared-slice-read-depths-on-4 c = search needs
+shared-slice-read-depths-by-4 : tie.Need-shared-slice-read-depths-by-4
+shared-slice-read-depths-by-4 c = search needs
 
-depths-on-requires : tie.Need-depths-on-requires
-depths-on-requires c κs = search needs
+depths-by-requires : tie.Need-depths-by-requires
+depths-by-requires c κs = search needs
 
-mul-t13 : tie.Need-mul-t13
-mul-t13 c = search needs
+mul-t14 : tie.Need-mul-t14
+mul-t14 c = search needs
 
-shared-slice-read-t26 : tie.Need-shared-slice-read-t26
-shared-slice-read-t26 c = search needs
+shared-slice-read-t27 : tie.Need-shared-slice-read-t27
+shared-slice-read-t27 c = search needs
 
-cast-t23 : tie.Need-cast-t23
-cast-t23 c = search needs
+cast-t24 : tie.Need-cast-t24
+cast-t24 c = search needs
 
 put-cell-requires : tie.Need-put-cell-requires
 put-cell-requires c κs = search needs
@@ -97,7 +97,7 @@ returns-2 c =
     let x = a .args in
     let told = answer .before .before .plain-answer .ensures in
     subst (λ z. Puts (x .t .now) (x .b) z (put .put-cell .last .0))
-    (ap₂ (cell (x .r) (eqb (getD (x .flag .now) (x .b) 0) 1)) (the-word (sym (answer .answer .given .1) ∙ told)) (d .depths-on .ensures)) (put .put-cell .ensures)
+    (ap₂ (cell (x .r) (eqb (getD (x .flag .now) (x .b) 0) 1)) (the-word (sym (answer .answer .given .1) ∙ told)) (d .depths-by .ensures)) (put .put-cell .ensures)
 
 pub put-plain-spec : {M : Type 1} → statement M
 put-plain-spec =
@@ -109,18 +109,18 @@ put-plain-spec =
     enum-known-answer
     enum-told
     returns
-    mul-depths-on
-    shared-slice-read-depths-on
-    mul-depths-on-2
-    shared-slice-read-depths-on-2
-    mul-depths-on-3
-    shared-slice-read-depths-on-3
-    mul-depths-on-4
-    shared-slice-read-depths-on-4
-    depths-on-requires
-    mul-t13
-    shared-slice-read-t26
-    cast-t23
+    mul-depths-by
+    shared-slice-read-depths-by
+    mul-depths-by-2
+    shared-slice-read-depths-by-2
+    mul-depths-by-3
+    shared-slice-read-depths-by-3
+    mul-depths-by-4
+    shared-slice-read-depths-by-4
+    depths-by-requires
+    mul-t14
+    shared-slice-read-t27
+    cast-t24
     put-cell-requires
     same-length
     returns-2)
