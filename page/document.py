@@ -3,12 +3,12 @@
 import hashlib
 import html
 
-import account
 import drawing
 import key
 import lanes
 import refusals
 import style
+import tables
 import toolong
 from plane import tag
 
@@ -74,9 +74,12 @@ def facts(sheet, of=''):
     return tag('p', of + '; '.join(told), class_='facts')
 
 
-def said():
+def with_said(parts):
+    """With the place above them where the account is told, if it is of use."""
+    if 'tabindex' not in parts:
+        return parts
     return tag('p', HINT, class_='said', id='said', role='status',
-               aria_live='polite')
+               aria_live='polite') + parts
 
 
 # ---------------------------------------------------------------------------
@@ -102,7 +105,7 @@ def verdict(page):
 def lines_section(view, lines):
     """The lines with their accounts, and the key to their signs."""
     parts = ''.join(tag('section', figure(view, line, at) + '\n'
-                        + account.table(view, line, at), class_='line',
+                        + tables.table(view, line, at), class_='line',
                         aria_label=view.line_name(at)) + '\n'
                     for at, line in enumerate(lines, 1))
     return tag('div', '\n' + parts + tag(
@@ -115,9 +118,9 @@ def set_page(source, vertical):
     view = lanes.View(page.sheet, page.lines, source.text, vertical)
     head = (tag('h1', html.escape(source.name)) + verdict(page)
             + facts(page.sheet))
-    main = (said() + tag('h2', 'The lines, and why each gap is as wide as '
-                         'it is')
-            + lines_section(view, page.lines))
+    main = with_said(
+        tag('h2', 'The lines, and why each gap is as wide as it is')
+        + lines_section(view, page.lines))
     return whole('%s: the page as a picture' % source.name, head, main,
                  footer(source), vertical)
 
@@ -196,7 +199,7 @@ def long_line(source, sheet, ask, vertical, prefix):
     return (parts + tag('p', 'It is drawn as the programs set it alone, with '
                         'that measure; beyond the dashed line it passes the '
                         'sheet’s own.')
-            + said() + lines_section(view, [line]))
+            + lines_section(view, [line]))
 
 
 def refused_page(source, sheet, ask, vertical):
@@ -206,5 +209,5 @@ def refused_page(source, sheet, ask, vertical):
             tag('b', 'Refused'), refused.number, refused.place),
         class_='verdict refused')
     return whole('%s: refused, number %d' % (source.name, refused.number),
-                 head, refusal_parts(source, sheet, ask, vertical),
+                 head, with_said(refusal_parts(source, sheet, ask, vertical)),
                  footer(source), vertical)

@@ -6,6 +6,8 @@ and twice the sheet's width.  An element of the line is a group that can be
 pointed at and moved to, with its account as its name.
 """
 
+import html
+
 import answers
 import lanes
 import letters
@@ -97,16 +99,21 @@ def gap_parts(view, plane, row, rows):
     """A gap: its place among the bases, and its width and rule beside it."""
     if not row.gap:
         return ''
-    label, em = rows.gaps.by_key[lanes.key_of(row)], view.em
-    start, tick = row.at - row.gap, rows.gaps.begin + lanes.AIR * em
-    middle = rows.gaps.middle(label)
-    drawn = plane.rect(start, row.gap, rows.base, lanes.BASE * em,
+    start = row.at - row.gap
+    return (plane.rect(start, row.gap, rows.base, lanes.BASE * view.em,
                        class_='gap', data_gap=row.gap)
+            + width_parts(view, plane, start, row.at, lanes.key_of(row),
+                          rows))
+
+
+def width_parts(view, plane, start, end, key, rows):
+    """A length between two places, and the words that stand beside it."""
+    em, label = view.em, rows.gaps.by_key[key]
+    tick, middle = rows.gaps.begin + lanes.AIR * em, rows.gaps.middle(label)
     foot = rows.base + lanes.BASE * em
-    for along in (start, row.at):
-        drawn += plane.path((along, foot), (along, tick + lanes.AIR * em),
-                            class_='tick')
-    drawn += plane.path((start, tick), (row.at, tick), class_='width')
+    drawn = ''.join(plane.path((along, foot), (along, tick + lanes.AIR * em),
+                               class_='tick') for along in (start, end))
+    drawn += plane.path((start, tick), (end, tick), class_='width')
     drawn += plane.path((label.along, tick),
                         (label.along, middle - label.thick / 2),
                         class_='tick')
@@ -193,6 +200,9 @@ def element_parts(view, plane, line, piece, rows):
 def element(view, plane, line, at, piece, rows, move):
     """An element of a line as a group that can be moved to."""
     said = words.sentence(view.sheet, view.text, line, piece)
+    if view.still:
+        return tag('g', tag('title', html.escape(said)) + element_parts(
+            view, plane, line, piece, rows), data_element=piece.element)
     others = sorted({row.other for row in piece.rows
                      if row.other is not None})
     return tag('g', element_parts(view, plane, line, piece, rows),
@@ -219,6 +229,8 @@ def measure_edge(view, plane, line, rows):
     if over > 0:
         drawn += plane.rect(view.measure, over, 0, rows.numbers,
                             class_='over', data_over=over)
+        drawn += width_parts(view, plane, view.measure, line.extent,
+                             lanes.OVER, rows)
     if not view.far:
         drawn += plane.path((view.measure, 0), (view.measure, rows.numbers),
                             class_='edge measure')

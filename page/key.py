@@ -5,43 +5,41 @@ import html
 import words
 from plane import Plane, tag
 
-WIDE, HIGH = 68, 46     # of a sample, in its own units
+LONG, THICK = 68, 46    # of a sample, along and across, in its own units
 
 
-def sample(drawn):
-    return tag('svg', drawn, class_='picture', viewBox='0 0 %d %d' % (
-        WIDE, HIGH), text_anchor='middle', aria_hidden='true')
+def sample(vertical, drawn):
+    size = (THICK, LONG) if vertical else (LONG, THICK)
+    return tag('svg', drawn, class_='picture', viewBox='0 0 %d %d' % size,
+               text_anchor='middle', aria_hidden='true')
 
 
-def samples(vertical, left):
+def samples(plane, left):
     """(drawing, words) for each sign."""
-    flat = Plane(False, HIGH)
-    rect, path, text = flat.rect, flat.path, flat.text
+    rect, path, text = plane.rect, plane.path, plane.text
+    right, beside = (('to the right of', 'to the left of') if plane.vertical
+                     else ('above', 'below'))
     base = rect(20, 28, 16, 28, class_='base')
-    sides = (('right of', 'left of') if vertical else ('above', 'below'))
-    yield base + rect(13, 14, 2, 14, class_='ruby') + rect(
-        27, 14, 2, 14, class_='ruby') + rect(41, 14, 2, 14, class_='ruby'), (
+    blank = base + rect(34, 14, 16, 28, class_='blank')
+    yield base + ''.join(rect(at, 14, 2, 14, class_='ruby')
+                         for at in (13, 27, 41)), (
         'a base character with its reading %s it; the small number beside it '
-        'is that of its element' % sides[0])
+        'is that of its element' % right)
     if left:
-        yield rect(20, 28, 2, 28, class_='base') + rect(
-            20, 14, 30, 14, class_='ruby left') + rect(
-            34, 14, 30, 14, class_='ruby left'), (
-            'a left reading, %s its base' % sides[1])
-    yield base + rect(34, 14, 16, 28, class_='blank'), (
-        'the blank of a character: the empty part of its width')
-    yield base + rect(34, 14, 16, 28, class_='blank') + rect(
-        34, 14, 16, 10, class_='depth') + text(41, 21, '10', 9,
-                                               class_='deep'), (
+        yield rect(20, 28, 2, 28, class_='base') + ''.join(
+            rect(at, 14, 30, 14, class_='ruby left') for at in (20, 34)), (
+            'a left reading, %s its base' % beside)
+    yield blank, 'the blank of a character: the empty part of its width'
+    yield blank + rect(34, 14, 16, 10, class_='depth') + text(
+        41, 21, '10', 9, class_='deep'), (
         'how deep the reading of a neighbour lies on it')
-    yield rect(24, 20, 4, 20, class_='gap') + path(
-        (24, 24), (24, 30), class_='tick') + path(
-        (44, 24), (44, 30), class_='tick') + path(
-        (24, 28), (44, 28), class_='width') + text(
-        34, 38, '30, rule 3', 9, class_='told'), (
-        'a gap between two bases, how wide it is, and the rule that holds it '
-        'open')
-    yield path((34, 12), (34, 42), class_='contact') + flat.circle(
+    yield rect(24, 20, 4, 20, class_='gap') + ''.join(
+        path((at, 24), (at, 31), class_='tick') for at in (24, 44)) + path(
+        (24, 29), (44, 29), class_='width') + text(
+        34, 39, '30', 11, class_='told'), (
+        'a gap between two bases; beside it how wide it is, and the rule that '
+        'holds it open')
+    yield path((34, 12), (34, 42), class_='contact') + plane.circle(
         34, 10, 8, class_='badge') + text(34, 10, '3', 11, class_='rule'), (
         'what holds it: here a reading may go no further, by the rule with '
         'this number')
@@ -52,8 +50,9 @@ def samples(vertical, left):
 
 def key(vertical, left):
     """The key as HTML, with the four rules."""
-    signs = ''.join(tag('li', sample(drawn) + tag('span', html.escape(told)))
-                    for drawn, told in samples(vertical, left))
+    signs = ''.join(tag('li', sample(vertical, drawn)
+                        + tag('span', html.escape(told)))
+                    for drawn, told in samples(Plane(vertical, THICK), left))
     rules = ''.join(tag('li', html.escape(words.RULES[rule]), value=rule)
                     for rule in sorted(words.RULES))
     return (tag('h2', 'How to read the picture')

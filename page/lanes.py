@@ -21,6 +21,7 @@ LABEL = 0.23            # letters of labels
 LETTER = 0.13           # the width of such a letter, near enough
 BADGE = 0.17            # radius of the sign with a rule's number
 AIR = 0.08
+OVER = 'over'           # the key of what passes the measure
 FAR = 6                 # a measure further off than this is not drawn
 
 
@@ -29,12 +30,13 @@ class View:
 
     text has the characters, None where the classes' names stand for them.
     prefix makes the names of elements differ where a page has two sheets.
-    alone is the name of a line that is no line of a page.
+    alone is the name of a line that is no line of a page; still is whether
+    the picture stands for itself, with nothing to point at.
     """
 
     def __init__(self, sheet, lines, text=None, vertical=False, prefix=''):
         self.sheet, self.text, self.vertical = sheet, text, vertical
-        self.prefix, self.alone = prefix, None
+        self.prefix, self.alone, self.still = prefix, None, False
         self.em, self.measure = sheets.em(sheet), sheets.measure(sheet)
         longest = max([line.extent for line in lines] + [self.em])
         # A measure that is far away would leave nothing of the line to see.
@@ -153,9 +155,14 @@ class Lanes:
             at = self.put_badges(sheets.LEFT, at + READING * em, False)
         self.numbers = at
         at += (0.5 if view.vertical else 0.3) * em
-        self.gaps = Band([Label(view, key_of(row), row.at - row.gap / 2,
-                                [str(row.gap), 'rule %d' % row.rule])
-                          for row in rows], at, 2 * AIR * em)
+        labels = [Label(view, key_of(row), row.at - row.gap / 2,
+                        [str(row.gap), 'rule %d' % row.rule])
+                  for row in rows]
+        over = line.extent - view.measure
+        if over > 0:
+            labels.append(Label(view, OVER, view.measure + over / 2,
+                                [str(over), 'too long']))
+        self.gaps = Band(labels, at, 2 * AIR * em)
         self.end = self.gaps.end + AIR * em
 
     def put_badges(self, side, at, inward):

@@ -186,13 +186,20 @@ def page_of(files, contents, texts, vertical, ask):
     return (1 if refused else 0), told
 
 
-def made(asked, ask):
-    """(status, HTML) of what is asked for."""
+def given(asked):
+    """The bytes of each sheet, and for each (bytes, name) of its text.
+
+    One text is for both sheets; where there is none it is None.
+    """
     contents = [read(file, compare.LONGEST) for file in asked.sheets]
     texts = [(read(file, LONGEST_TEXT), file) for file in asked.texts]
     texts = (texts * 2 if len(texts) == 1 else texts or [None, None])
-    return page_of(asked.sheets, contents, texts[:len(contents)],
-                   asked.vertical, ask)
+    return contents, texts[:len(contents)]
+
+
+def made(asked, ask):
+    """(status, HTML) of what is asked for."""
+    return page_of(asked.sheets, *given(asked), asked.vertical, ask)
 
 
 def answer(arguments):

@@ -2,13 +2,13 @@
 
 import html
 
-import account
 import answers
 import changes
 import document
 import key
 import lanes
 import sheets
+import tables
 from plane import tag
 
 SIDES = ('old', 'new')
@@ -18,7 +18,7 @@ def cell(view, line, at, moves, column, row, table_row):
     """A line and its account in their places of the grid."""
     return tag('section', document.figure(
         view, line, at, moves, style='--row:%d;--column:%d' % (row, column))
-        + account.table(view, line, at, style='--row:%d;--column:%d' % (
+        + tables.table(view, line, at, style='--row:%d;--column:%d' % (
             table_row, column)), class_='line', aria_label='%s, line %d' % (
                 view.prefix, at))
 
@@ -67,7 +67,7 @@ def set_parts(sources, vertical):
     return (tag('h2', 'What moved') + told_list(told.rows)
             + tag('p', 'Amounts are half units: +5 is away from the line’s '
                   'start, −5 towards it.', class_='facts')
-            + document.said() + grid(views, pages, told)
+            + document.with_said(grid(views, pages, told))
             + key.key(vertical, left))
 
 
@@ -85,7 +85,7 @@ def one_refused(sources, forms, ask, vertical):
                               side)
             parts += document.verdict(source.page)
             parts += document.lines_section(view, source.page.lines)
-    return parts
+    return document.with_said(parts)
 
 
 def pair_page(sources, forms, ask, vertical):

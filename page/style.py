@@ -38,7 +38,7 @@ PICTURE = '''
 .picture .rule { fill: var(--onhold); font-weight: 700; }
 .picture .edge { stroke: var(--ink); stroke-width: 1.5; }
 .picture .measure { stroke-dasharray: 7 3; }
-.picture .over { fill: var(--over); fill-opacity: .65; stroke: var(--hold);
+.picture .over { fill: var(--over); fill-opacity: .4; stroke: var(--hold);
   pointer-events: none; }
 .picture .move { fill: var(--moved); font-weight: 700; }
 .picture .moved .base { stroke: var(--moved); stroke-width: 2.5; }
@@ -120,6 +120,8 @@ td small { display: block; color: var(--dim); font-size: .95em; }
 .key li { display: grid; grid-template-columns: 4.6rem 1fr; gap: .6rem;
   align-items: center; font-size: .92rem; line-height: 1.35; }
 .key svg { width: 4.6rem; height: 3.1rem; }
+.vertical .key svg { width: 2.8rem; height: 4.1rem; }
+.vertical .key li { grid-template-columns: 2.8rem 1fr; }
 .rules { margin: .2rem 0; padding-left: 1.6rem; }
 .sheet { border: 1px solid var(--rule); background: var(--panel);
   overflow-x: auto; margin: 0; padding: .6rem 0; }
@@ -147,27 +149,36 @@ footer { padding-top: 1.5rem; padding-bottom: 2rem;
 }
 '''
 
-# In print the account stands beside each line.
+# In print the account stands beside each line: on a wide sheet of paper where
+# lines are horizontal, on a high one where they are vertical.
 PRINT = '''
+@page { size: landscape; margin: 12mm; }
+@page upright { size: portrait; margin: 12mm; }
 @media print {
+  .vertical { page: upright; }
   :root { --page: #fff; --panel: #fff; --text: #000; --dim: #333;
     --rule: #999; }
-  @page { margin: 14mm; }
   body { font-size: 9.5pt; }
   header, main, footer { max-width: none; padding-left: 0; padding-right: 0; }
-  .said, .hint { display: none; }
+  .said { display: none; }
   figure { border: 0; padding: 0; overflow: visible; break-inside: avoid; }
   .lines, .vertical .lines { display: block; }
-  .line { display: grid; gap: 5mm; align-items: start; margin: 0 0 5mm;
-    grid-template-columns: minmax(0, 11fr) minmax(0, 9fr); }
-  .vertical .line { grid-template-columns: auto minmax(0, 1fr); }
-  .vertical .picture { max-height: 230mm; width: auto; }
+  .lines .line { display: grid; gap: 6mm; align-items: start; margin: 0 0 5mm;
+    grid-template-columns: minmax(0, 6fr) minmax(0, 7fr); }
+  .vertical .lines .line { grid-template-columns: auto minmax(0, 1fr); }
+  .vertical .lines .picture { max-height: 225mm; width: auto; }
   .picture { min-width: 0 !important; }
-  .lines caption, .lines .told-in-picture { display: none; }
-  table { font-size: 8pt; }
-  th, td { padding: .5mm 1mm; }
+  .lines caption { display: none; }
+  .account { overflow: visible; }
+  table, .lines table, .pairs table { font-size: 8pt; min-width: 0; }
+  th, td { padding: .4mm 1mm; }
+  th.element, .pairs th.element { width: 15mm; }
+  th.at, th.gap, th.rule, .pairs th.at, .pairs th.gap, .pairs th.rule {
+    width: 9mm; }
+  th.characters, .pairs th.characters { width: 24mm; }
   thead { display: table-header-group; }
-  tr { break-inside: avoid; }
+  tr, .key, .rules { break-inside: avoid; }
+  h2 { break-after: avoid; }
   .key { grid-template-columns: repeat(3, 1fr); }
   .pairs { gap: 4mm; }
   .base, .ruby, .blank, .gap, .depth, .badge, .ground, .over, .verdict b {
