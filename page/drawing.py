@@ -82,7 +82,7 @@ def character(view, plane, letter, box, across, thick):
 
 
 def blanks(plane, box, across, thick, of):
-    """The empty parts of a base character; all of it is, where it is a space."""
+    """The empty parts of a base character; a space is empty altogether."""
     before, after = 2 * of.before, 2 * of.after
     parts = [(box.start, before), (answers.end(box) - after, after)]
     if of.cls == 14:
@@ -110,9 +110,9 @@ def width_parts(view, plane, start, end, key, rows):
     """A length between two places, and the words that stand beside it."""
     em, label = view.em, rows.gaps.by_key[key]
     tick, middle = rows.gaps.begin + lanes.AIR * em, rows.gaps.middle(label)
-    foot = rows.base + lanes.BASE * em
-    drawn = ''.join(plane.path((along, foot), (along, tick + lanes.AIR * em),
-                               class_='tick') for along in (start, end))
+    drawn = ''.join(plane.path((along, rows.numbers),
+                               (along, tick + lanes.AIR * em), class_='tick')
+                    for along in (start, end))
     drawn += plane.path((start, tick), (end, tick), class_='width')
     drawn += plane.path((label.along, tick),
                         (label.along, middle - label.thick / 2),
@@ -238,7 +238,7 @@ def measure_edge(view, plane, line, rows):
 
 
 def edge_labels(view, plane, rows):
-    """`start` and `measure`: over the line, or at the ends of a vertical one."""
+    """`start` and `measure`: over a line, or at the ends of a vertical one."""
     em, size = view.em, lanes.LABEL * view.em
     said = 'measure %d' % view.measure + (', further on' if view.far else '')
     end = view.span if view.far else view.measure

@@ -53,8 +53,9 @@ def key(vertical, left):
     signs = ''.join(tag('li', sample(vertical, drawn)
                         + tag('span', html.escape(told)))
                     for drawn, told in samples(Plane(vertical, THICK), left))
-    rules = ''.join(tag('li', html.escape(words.RULES[rule]), value=rule)
-                    for rule in sorted(words.RULES))
+    told = {**words.RULES, **({3: words.ONE_SIDE} if left else {})}
+    rules = ''.join(tag('li', html.escape(told[rule]), value=rule)
+                    for rule in sorted(told))
     return (tag('h2', 'How to read the picture')
             + tag('ul', signs, class_='key')
             + tag('h2', 'The four rules of clearance')

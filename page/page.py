@@ -156,10 +156,14 @@ def source(file, content, text, ask):
 
 
 def names_of(files):
-    """The sheets' names without their folders, unless these tell them apart."""
+    """The sheets' names, with as much of their folders as tells them apart."""
     short = [os.path.basename(file) for file in files]
+    if len(set(short)) < len(short):
+        whole = [os.path.abspath(file) for file in files]
+        top = os.path.commonpath([os.path.dirname(file) for file in whole])
+        short = [os.path.relpath(file, top) for file in whole]
     return ['standard input' if file == '-' else printable(file)
-            for file in (short if len(set(short)) == len(short) else files)]
+            for file in short]
 
 
 # ---------------------------------------------------------------------------

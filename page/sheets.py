@@ -1,4 +1,4 @@
-"""A job sheet as records: its characters, its elements, and where each stands on it.
+"""A job sheet as records: its characters, its elements, its sections.
 
 Readings stand on two sides of their base.  Whatever is done for a reading is
 done for a side, so that right and left are written once.  A sheet of form one
@@ -69,7 +69,7 @@ def read_elements(rows):
 
 
 def read_sheet(content):
-    """The records of a sheet's bytes; ValueError where its form is not sound."""
+    """The records of a sheet's bytes; ValueError if its form is not sound."""
     rows = content.decode('ascii').split('\n')
     if rows.pop() != '':
         raise ValueError('the last line has no end')

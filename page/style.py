@@ -104,10 +104,10 @@ figcaption { position: sticky; left: 0; font-size: .85rem;
 .account { overflow-x: auto; }
 table { border-collapse: collapse; width: 100%; background: var(--panel);
   font-size: .92rem; }
-th.element { width: 5.2rem; }
-th.at, th.gap, th.rule { width: 3.8rem; }
-th.characters { width: 14rem; }
-.lines table { table-layout: fixed; min-width: 44rem; }
+th.of-element { width: 5.2rem; }
+th.of-at, th.of-gap, th.of-rule { width: 3.8rem; }
+th.of-characters { width: 14rem; }
+.lines table { table-layout: fixed; }
 caption { text-align: left; font-weight: 600; padding: .5rem 0 .25rem; }
 th, td { text-align: left; vertical-align: top; padding: .25rem .6rem;
   border: 1px solid var(--rule); }
@@ -136,15 +136,20 @@ td small { display: block; color: var(--dim); font-size: .95em; }
 .pairs .none { color: var(--dim); font-size: .85rem; padding: .5rem .7rem; }
 .pairs table { font-size: .82rem; table-layout: fixed; }
 .pairs th, .pairs td { padding: .2rem .4rem; overflow-wrap: anywhere; }
-.pairs th.element { width: 4.6rem; }
-.pairs th.at, .pairs th.gap, .pairs th.rule { width: 2.9rem; }
-.pairs th.characters { width: 6.5rem; }
+.pairs th.of-element { width: 4.9rem; }
+.pairs th.of-at, .pairs th.of-gap, .pairs th.of-rule { width: 3.1rem; }
+.pairs th.of-characters { width: 6.5rem; }
 footer { padding-top: 1.5rem; padding-bottom: 2rem;
   overflow-wrap: anywhere; }
 @media (max-width: 46rem) {
   .pairs { display: flex; flex-direction: column; }
   header, main, footer { padding-left: .7rem; padding-right: .7rem; }
-  th, td { padding: .2rem .35rem; }
+  th, td, .pairs th, .pairs td { padding: .2rem .3rem; }
+  table, .pairs table { font-size: .8rem; }
+  th.of-element, .pairs th.of-element { width: 4.1rem; }
+  th.of-characters, .pairs th.of-characters { width: 5.4rem; }
+  th.of-at, th.of-gap, th.of-rule, .pairs th.of-at, .pairs th.of-gap,
+  .pairs th.of-rule { width: 2.5rem; }
   .said { font-size: .92rem; }
 }
 '''
@@ -170,12 +175,12 @@ PRINT = '''
   .picture { min-width: 0 !important; }
   .lines caption { display: none; }
   .account { overflow: visible; }
-  table, .lines table, .pairs table { font-size: 8pt; min-width: 0; }
+  table, .pairs table { font-size: 8pt; }
   th, td { padding: .4mm 1mm; }
-  th.element, .pairs th.element { width: 15mm; }
-  th.at, th.gap, th.rule, .pairs th.at, .pairs th.gap, .pairs th.rule {
-    width: 9mm; }
-  th.characters, .pairs th.characters { width: 24mm; }
+  th.of-element, .pairs th.of-element { width: 15mm; }
+  th.of-at, th.of-gap, th.of-rule, .pairs th.of-at, .pairs th.of-gap,
+  .pairs th.of-rule { width: 9mm; }
+  th.of-characters, .pairs th.of-characters { width: 24mm; }
   thead { display: table-header-group; }
   tr, .key, .rules { break-inside: avoid; }
   h2 { break-after: avoid; }

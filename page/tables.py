@@ -22,7 +22,7 @@ def characters_cell(view, piece):
 
 
 def why_cell(view, line, piece, row):
-    """The sentence of one row; what lies on the element goes with the first."""
+    """The sentence of one row; what lies on it goes with the first."""
     sheet, text = view.sheet, view.text
     pieces = {other.element: other for other in line.pieces}
     more = [words.gap_words(sheet, text, row, pieces)]
@@ -50,7 +50,7 @@ def row_of(view, line, at, piece, row):
 
 def table(view, line, at, **attributes):
     """The rows of one line."""
-    head = tag('tr', ''.join(tag('th', name, scope='col', class_=cls)
+    head = tag('tr', ''.join(tag('th', name, scope='col', class_='of-' + cls)
                              for cls, name in HEADS))
     rows = ''.join(row_of(view, line, at, piece, row) + '\n'
                    for piece in line.pieces for row in piece.rows)

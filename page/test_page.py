@@ -903,6 +903,7 @@ class Command(unittest.TestCase):
         self.assertEqual(page.names_of(['a/x.sheet']), ['x.sheet'])
         self.assertEqual(page.names_of(['a/x', 'b/y']), ['x', 'y'])
         self.assertEqual(page.names_of(['a/x', 'b/x']), ['a/x', 'b/x'])
+        self.assertEqual(page.names_of(['/a/x', '/a/b/x']), ['x', 'b/x'])
         self.assertEqual(page.names_of(['-']), ['standard input'])
 
 

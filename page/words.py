@@ -25,6 +25,7 @@ RULES = {
        'to a certain depth',
     3: 'no two readings overlap',
     4: 'nothing starts before the line does'}
+ONE_SIDE = 'no two readings of one side overlap'    # 3, where there are two
 
 
 def capital(words):
