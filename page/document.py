@@ -89,7 +89,7 @@ def with_said(parts):
 def figure(view, line, at, moves=None, **attributes):
     return tag('figure', tag('figcaption', '%s: extent %d' % (
         view.line_name(at), line.extent))
-               + drawing.svg(view, line, at, moves), lang='ja', **attributes)
+               + drawing.svg(view, line, at, moves), **attributes)
 
 
 def verdict(page):

@@ -16,6 +16,7 @@ import words
 from plane import Plane, number, tag
 
 GLYPH = 0.84            # of an em: the size of base characters
+NARROW = 1.7            # the size of a letter that is one wide
 DEPTH = 0.3             # of an em: the strip of a base on which a reading lies
 SMALL = 0.2             # of an em: small letters
 PIXELS = 72             # of an em on a screen, where there is room
@@ -35,21 +36,19 @@ def glyph(plane, box, across, thick, character, cls, size):
     opening bracket has it at the end of its square, a closing one, a full
     stop and a comma at the start.
     """
-    shown = letters.shown(character)
-    anchor, along = 'middle', box.start + box.length / 2
-    squeezed = letters.is_wide(character) and box.length < size
+    shown, wide = letters.shown(character), letters.is_wide(character)
+    anchor, along = None, box.start + box.length / 2
+    squeezed = wide and box.length < size
     if squeezed and cls in (2, 6, 7):
         anchor, along = 'start', box.start
     elif squeezed and cls == 1:
         anchor, along = 'end', answers.end(box)
-    elif squeezed or shown != character:
-        size = min(size, box.length)
     else:
-        size = min(size, 1.7 * box.length) if not letters.is_wide(
-            character) else size
-    return plane.text(along, across + thick / 2, shown, size,
-                      class_='glyph' + (' sign' if shown != character else ''),
-                      text_anchor=None if anchor == 'middle' else anchor)
+        sign = wide or shown != character
+        size = min(size, box.length * (1 if sign else NARROW))
+    return plane.text(along, across + thick / 2, shown, size, lang='ja',
+                      class_='glyph' if shown == character else 'glyph sign',
+                      text_anchor=anchor)
 
 
 def class_label(plane, box, across, thick, cls, size, short):
@@ -218,7 +217,7 @@ def element(view, plane, line, at, piece, rows, move):
 # A line
 # ---------------------------------------------------------------------------
 
-def start_edge(view, plane, rows):
+def start_edge(plane, rows):
     """The line's start."""
     return plane.path((0, 0), (0, rows.numbers), class_='edge start')
 
@@ -264,7 +263,7 @@ def line_parts(view, line, at, moves):
     plane = Plane(view.vertical, rows.end)
     drawn = plane.rect(0, min(view.span, view.measure), rows.base,
                        lanes.BASE * view.em, class_='ground')
-    drawn += start_edge(view, plane, rows)
+    drawn += start_edge(plane, rows)
     drawn += ''.join(element(view, plane, line, at, piece, rows,
                              moves.get(piece.element))
                      for piece in line.pieces)

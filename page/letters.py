@@ -73,7 +73,7 @@ def read_text(content, file, sheet):
     """
     name, letters = 'the text %s' % printable(file), {}
     rows = decoded(content, name)
-    for line, (letter, row) in enumerate(zip(ORDER, rows), 1):
+    for letter, row in zip(ORDER, rows):
         letters[letter] = clusters(row)
     if sheet is None:
         return letters

@@ -22,7 +22,7 @@ import sheets
 
 SETTING = [os.path.join(ROOT, 'bin', 'setting')]
 ACCOUNT = [os.path.join(ROOT, 'bin', 'account')]
-LONGEST_TEXT = 1 << 20      # bytes; a sheet has at most 5,120 characters
+LONGEST_TEXT = 1000001      # bytes, one more than a text may have
 
 USAGE = """\
 usage: bin/page [--text FILE] [--vertical] [SHEET] > page.html
@@ -108,6 +108,9 @@ def read(file, most):
     what = 'standard input' if file == '-' else printable(file)
     if file == '-' and compare.is_closed(0):
         raise Trouble('cannot read standard input: it is closed, or a folder')
+    if file == '-' and os.isatty(0):
+        compare.write(2, 'page: a sheet is awaited on standard input, ended '
+                      'by Ctrl-D (bin/page --help says how it is used)\n')
     try:
         with open(0 if file == '-' else file, 'rb',
                   closefd=file != '-') as opened:
@@ -197,6 +200,10 @@ def given(asked):
     """
     contents = [read(file, compare.LONGEST) for file in asked.sheets]
     texts = [(read(file, LONGEST_TEXT), file) for file in asked.texts]
+    for text, file in texts:
+        if len(text) == LONGEST_TEXT:
+            raise Trouble('the text %s has too many characters: it is over '
+                          '1,000,000 bytes' % printable(file))
     texts = (texts * 2 if len(texts) == 1 else texts or [None, None])
     return contents, texts[:len(contents)]
 

@@ -85,5 +85,5 @@ def svg(sheet, lines, text):
                viewBox='%s 0 %s %s' % (number(-margin), number(wide),
                                        number(at)),
                width=number(PIXELS / em * wide),
-               height=number(PIXELS / em * at), text_anchor='middle',
-               lang='ja') + '\n'
+               height=number(PIXELS / em * at),
+               text_anchor='middle') + '\n'

@@ -14,11 +14,13 @@ def characters_cell(view, piece):
     """The characters of an element in a line, and its readings."""
     sheet, text = view.sheet, view.text
     own = words.characters_of(sheet, text, 'b', piece.boxes['b'])
+    language = None if text is None else 'ja'
     kind = words.KINDS[sheet.elements[piece.element].kind]
     more = ''.join(', %s %s' % (side.words, words.characters_of(
         sheet, text, side.letter, piece.boxes[side.letter]))
         for side in sheets.SIDES if side.letter in piece.boxes)
-    return html.escape(own) + tag('small', html.escape(kind + more))
+    return tag('span', html.escape(own), lang=language) + tag(
+        'small', html.escape(kind + more), lang=language)
 
 
 def why_cell(view, line, piece, row):
