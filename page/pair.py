@@ -14,36 +14,34 @@ from plane import tag
 SIDES = ('old', 'new')
 
 
-def cell(view, line, at, moves, column, row, table_row):
-    """A line and its account in their places of the grid."""
-    return tag('section', document.figure(
-        view, line, at, moves, style='--row:%d;--column:%d' % (row, column))
-        + tables.table(view, line, at, style='--row:%d;--column:%d' % (
-            table_row, column)), class_='line', aria_label='%s, line %d' % (
-                view.prefix, at))
+def place(column, row):
+    """Where a thing stands among the pairs; the style turns vertical ones."""
+    return '--column:%d;--row:%d' % (column, row)
 
 
-def no_line(side, column, row):
-    return tag('p', 'no such line on the %s sheet' % side, class_='none',
-               style='--row:%d;--column:%d' % (row, column))
+def heads():
+    return ''.join(tag('h2', 'The %s sheet' % side, class_='head',
+                       style=place(column, 1))
+                   for column, side in enumerate(SIDES, 1))
 
 
 def grid(views, pages, told):
     """The lines of both, pair by pair, and below them their accounts."""
-    moves, parts = (told.old, told.new), ''
-    for column, side in enumerate(SIDES, 1):
-        parts += tag('h2', 'The %s sheet' % side, class_='head',
-                     style='--row:1;--column:%d' % column)
-    for index, pair in enumerate(told.pairs):
-        row, table_row = 2 + index, 2 + len(told.pairs) + index
+    moves, drawn, rows = (told.old, told.new), heads(), ''
+    for row, pair in enumerate(told.pairs, 2):
         for column, (side, at) in enumerate(zip(SIDES, pair)):
+            here = place(column + 1, row)
             if at is None:
-                parts += no_line(side, column + 1, row)
+                drawn += tag('p', 'no such line on the %s sheet' % side,
+                             class_='none', style=here)
                 continue
-            parts += cell(views[column], pages[column].lines[at], at + 1,
-                          moves[column][at], column + 1, row, table_row)
-            parts += '\n'
-    return tag('div', parts, class_='pairs')
+            line = pages[column].lines[at]
+            drawn += document.figure(views[column], line, at + 1,
+                                     moves[column][at], style=here) + '\n'
+            rows += tables.table(views[column], line, at + 1,
+                                 style=here) + '\n'
+    return (tag('div', drawn, class_='pairs pictures')
+            + tag('div', rows, class_='pairs'))
 
 
 def told_list(rows):

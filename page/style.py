@@ -60,6 +60,7 @@ DARK = '''
 PAGE = '''
 :root { color-scheme: light dark; --page: #f3f0e8; --panel: #fdfcf9;
   --text: #1b1a18; --dim: #57544e; --rule: #d5d0c4; --link: #0b4bb3; }
+html { scroll-padding-top: 7rem; }
 * { box-sizing: border-box; }
 body { margin: 0; background: var(--page); color: var(--text);
   font: 16px/1.5 system-ui, "Helvetica Neue", Arial, sans-serif; }
@@ -130,9 +131,12 @@ td small { display: block; color: var(--dim); font-size: .95em; }
 .sheet .fault { background: #f9d4d0; color: #1b1a18; font-weight: 700; }
 .pairs { display: grid; grid-template-columns: repeat(2, minmax(0, 1fr));
   gap: .9rem; }
-.pairs .head { margin: 0; }
-.pairs figure, .pairs .account, .pairs .head, .pairs .none {
-  grid-row: var(--row); grid-column: var(--column); order: 0; }
+.pairs > * { grid-row: var(--row); grid-column: var(--column);
+  margin: 0; }
+.vertical .pictures { direction: rtl; grid-template-columns: none;
+  grid-auto-columns: max-content; overflow-x: auto; }
+.vertical .pictures > * { direction: ltr; grid-row: var(--column);
+  grid-column: var(--row); }
 .pairs .none { color: var(--dim); font-size: .85rem; padding: .5rem .7rem; }
 .pairs table { font-size: .82rem; table-layout: fixed; }
 .pairs th, .pairs td { padding: .2rem .4rem; overflow-wrap: anywhere; }
@@ -142,7 +146,7 @@ td small { display: block; color: var(--dim); font-size: .95em; }
 footer { padding-top: 1.5rem; padding-bottom: 2rem;
   overflow-wrap: anywhere; }
 @media (max-width: 46rem) {
-  .pairs { display: flex; flex-direction: column; }
+  .horizontal .pairs { display: flex; flex-direction: column; }
   header, main, footer { padding-left: .7rem; padding-right: .7rem; }
   th, td, .pairs th, .pairs td { padding: .2rem .3rem; }
   table, .pairs table { font-size: .8rem; }
@@ -185,7 +189,9 @@ PRINT = '''
   tr, .key, .rules { break-inside: avoid; }
   h2 { break-after: avoid; }
   .key { grid-template-columns: repeat(3, 1fr); }
-  .pairs { gap: 4mm; }
+  .pairs { gap: 4mm; margin-bottom: 4mm; }
+  .vertical .pictures { overflow: visible; }
+  .vertical .pictures .picture { max-height: 100mm; width: auto; }
   .base, .ruby, .blank, .gap, .depth, .badge, .ground, .over, .verdict b {
     print-color-adjust: exact; -webkit-print-color-adjust: exact; }
   a { color: inherit; text-decoration: none; }

@@ -24,7 +24,6 @@ sys.path.insert(0, HERE)
 from trouble import Trouble     # noqa: E402  (finds compare/ for the others)
 
 import answers      # noqa: E402
-import compare      # noqa: E402
 import letters      # noqa: E402
 import page         # noqa: E402
 import readback     # noqa: E402
@@ -489,9 +488,7 @@ def manual_rows():
 
 class Refused(Case):
 
-    # Where the fault of each example is, counted on the sheet by hand.
-    LINES = {1: 2, 2: 4, 3: None, 4: None, 5: None, 6: None, 7: None, 8: None,
-             9: None, 10: None, 11: 7, 13: 5}
+    NUMBERS = (1, 2, 3, 4, 5, 6, 7, 8, 9, 10, 11, 13)
 
     def page(self, sheet, **given):
         status, told = made(sheet, **given)
@@ -507,7 +504,7 @@ class Refused(Case):
 
     def test_each_number(self):
         manual = manual_rows()
-        for number in self.LINES:
+        for number in self.NUMBERS:
             sheet = example('refusals/%d.sheet' % number)
             for vertical in (False, True):
                 told = self.page(sheet, vertical=vertical)
@@ -526,7 +523,7 @@ class Refused(Case):
                 (13, 'Place 5: line 5 of the sheet.')):
             told = self.page(example('refusals/%d.sheet' % number))
             self.assertIn(words, told)
-        for number in self.LINES:
+        for number in self.NUMBERS:
             sheet = example('refusals/%d.sheet' % number)
             told = self.page(sheet)
             line = int(re.search('line ([0-9]+) of the sheet', told).group(1))
