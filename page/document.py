@@ -109,7 +109,8 @@ def lines_section(view, lines):
                         aria_label=view.line_name(at)) + '\n'
                     for at, line in enumerate(lines, 1))
     return tag('div', '\n' + parts + tag(
-        'section', key.key(view.vertical, view.left), class_='explained'),
+        'section', key.key(view.vertical, view.left, view.prefix + 'key'),
+        class_='explained'),
         class_='lines')
 
 
@@ -117,7 +118,8 @@ def set_page(source, vertical):
     page = source.page
     view = lanes.View(page.sheet, page.lines, source.text, vertical)
     head = (tag('h1', html.escape(source.name)) + verdict(page)
-            + facts(page.sheet))
+            + facts(page.sheet) + tag('p', tag('a', key.HEADING, href='#key'),
+                                      class_='facts'))
     main = with_said(
         tag('h2', 'The lines, and why each gap is as wide as it is')
         + lines_section(view, page.lines))

@@ -5,6 +5,7 @@ import html
 import words
 from plane import Plane, tag
 
+HEADING = 'How to read the picture'
 LONG, THICK = 68, 46    # of a sample, along and across, in its own units
 
 
@@ -48,15 +49,15 @@ def samples(plane, left):
         'where the line starts, and where the measure ends')
 
 
-def key(vertical, left):
-    """The key as HTML, with the four rules."""
+def key(vertical, left, name='key'):
+    """The key as HTML, with the four rules; name is that of its heading."""
     signs = ''.join(tag('li', sample(vertical, drawn)
                         + tag('span', html.escape(told)))
                     for drawn, told in samples(Plane(vertical, THICK), left))
     told = {**words.RULES, **({3: words.ONE_SIDE} if left else {})}
     rules = ''.join(tag('li', html.escape(told[rule]), value=rule)
                     for rule in sorted(told))
-    return (tag('h2', 'How to read the picture')
+    return (tag('h2', HEADING, id=name)
             + tag('ul', signs, class_='key')
             + tag('h2', 'The four rules of clearance')
             + tag('ol', rules, class_='rules'))
