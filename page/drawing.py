@@ -280,16 +280,16 @@ def svg(view, line, at, moves=None):
     drawn, thick = line_parts(view, line, at, moves or {})
     margin = 0.5 * view.em
     along = view.span + margin + (2.5 * view.em if view.short else margin)
-    scale = PIXELS / view.em
+    scale = PIXELS / view.unit
     if view.vertical:
         # A column is held to the height of a window where it can be.
-        scale = max(min(scale, TALL / along), LEAST / view.em)
+        scale = max(min(scale, TALL / along), LEAST / view.unit)
         box, size = (0, -margin, thick, along), (thick, along)
     else:
         box, size = (-margin, 0, along, thick), (along, thick)
     scale = min(scale, WIDEST / along)
     least = None if view.vertical else 'min-width:%spx' % number(
-        min(LEAST / view.em * along, scale * along))
+        min(LEAST / view.unit * along, scale * along))
     return tag('svg', drawn, class_='picture', viewBox=' '.join(
         map(number, box)), width=number(size[0] * scale),
         height=number(size[1] * scale), style=least, role='group',

@@ -38,6 +38,7 @@ class View:
         self.sheet, self.text, self.vertical = sheet, text, vertical
         self.prefix, self.alone, self.still = prefix, None, False
         self.em, self.measure = sheets.em(sheet), sheets.measure(sheet)
+        self.unit = self.em     # by which a screen's scale goes
         longest = max([line.extent for line in lines] + [self.em])
         # A measure that is far away would leave nothing of the line to see.
         self.far = self.measure > longest + FAR * self.em

@@ -103,10 +103,10 @@ class Asked:
 # The files and the programs
 # ---------------------------------------------------------------------------
 
-def read(file, most):
-    """The first bytes of a file, or of standard input."""
+def read(file, most, closed):
+    """The first bytes of a file, or of standard input unless it is closed."""
     what = 'standard input' if file == '-' else printable(file)
-    if file == '-' and compare.is_closed(0):
+    if file == '-' and closed:
         raise Trouble('cannot read standard input: it is closed, or a folder')
     if file == '-' and os.isatty(0):
         compare.write(2, 'page: a sheet is awaited on standard input, ended '
@@ -193,13 +193,14 @@ def page_of(files, contents, texts, vertical, ask):
     return (1 if refused else 0), told
 
 
-def given(asked):
+def given(asked, closed=False):
     """The bytes of each sheet, and for each (bytes, name) of its text.
 
-    One text is for both sheets; where there is none it is None.
+    One text is for both sheets; where there is none it is None.  closed is
+    whether standard input is.
     """
-    contents = [read(file, compare.LONGEST) for file in asked.sheets]
-    texts = [(read(file, LONGEST_TEXT), file) for file in asked.texts]
+    contents = [read(file, compare.LONGEST, closed) for file in asked.sheets]
+    texts = [(read(file, LONGEST_TEXT, closed), file) for file in asked.texts]
     for text, file in texts:
         if len(text) == LONGEST_TEXT:
             raise Trouble('the text %s has too many characters: it is over '
@@ -208,18 +209,30 @@ def given(asked):
     return contents, texts[:len(contents)]
 
 
-def made(asked, ask):
+def made(asked, ask, closed=False):
     """(status, HTML) of what is asked for."""
-    return page_of(asked.sheets, *given(asked), asked.vertical, ask)
+    return page_of(asked.sheets, *given(asked, closed), asked.vertical, ask)
 
 
-def answer(arguments):
+def fill():
+    """Which standard descriptors are closed; they are filled.
+
+    Otherwise a file or a pipe of ours would get the number of one.
+    """
+    closed = [compare.is_closed(number) for number in range(3)]
+    for gone in closed:
+        if gone:
+            os.open(os.devnull, os.O_RDWR)
+    return closed
+
+
+def answer(arguments, closed):
     """The exit status, with the page written."""
-    if compare.is_closed(1):
+    if closed[1]:
         raise Trouble('standard output is closed')
     asked = Asked(arguments)
     status, told = ((0, USAGE) if asked.help
-                    else made(asked, asking(SETTING, ACCOUNT)))
+                    else made(asked, asking(SETTING, ACCOUNT), closed[0]))
     try:
         compare.write(1, told)
     except OSError as error:
@@ -230,14 +243,19 @@ def answer(arguments):
 
 def main(arguments):
     """The exit status."""
+    closed = fill()
     try:
-        return answer(arguments)
+        return answer(arguments, closed)
     except Trouble as trouble:
-        try:
-            compare.write(2, 'page: %s\n' % trouble)
-        except OSError:
-            pass    # nobody hears it; the status tells
-        return 2
+        told = str(trouble)
+    except Exception as error:  # status 1 is a refusal, and this is none
+        told = 'the page cannot be made: %s: %s' % (
+            type(error).__name__, printable(str(error)))
+    try:
+        compare.write(2, 'page: %s\n' % told)
+    except OSError:
+        pass    # nobody hears it; the status tells
+    return 2
 
 
 if __name__ == '__main__':

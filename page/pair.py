@@ -10,6 +10,7 @@ import lanes
 import sheets
 import tables
 from plane import tag
+from trouble import Trouble
 
 SIDES = ('old', 'new')
 
@@ -53,14 +54,19 @@ def told_list(rows):
 def set_parts(sources, vertical):
     """Two sheets that are set."""
     pages = [source.page for source in sources]
-    told = changes.changes(*((source.content, source.result)
-                             for source in sources))
+    try:
+        told = changes.changes(*((source.content, source.result)
+                                 for source in sources))
+    except (ValueError, IndexError, KeyError, TypeError):
+        raise Trouble('%s and %s cannot be compared: bin/compare does not '
+                      'read them' % tuple(source.name for source in sources))
     views = [lanes.View(page.sheet, page.lines, source.text, vertical, side)
              for page, source, side in zip(pages, sources, SIDES)]
     # Both to one scale along the line, so that what moved is seen.
-    span = max(view.span for view in views)
+    span, unit = (max(view.span for view in views),
+                  max(view.em for view in views))
     for view in views:
-        view.span = span
+        view.span, view.unit = span, unit
     left = any(sheets.has(page.sheet, sheets.LEFT) for page in pages)
     return (tag('h2', 'What moved') + told_list(told.rows)
             + tag('p', 'Amounts are half units: +5 is away from the line’s '

@@ -63,6 +63,21 @@ class Command(unittest.TestCase):
             with self.assertRaisesRegex(Trouble, 'do not agree'):
                 made(example('k9.sheet'), ask=lambda sheet: told)
 
+    def test_a_fault_of_our_own_is_no_refusal(self):
+        kept, compare_write, said = page.made, page.compare.write, []
+
+        def fault(*_):
+            raise KeyError('x\ny')
+        page.made = fault
+        page.compare.write = lambda number, text: said.append((number, text))
+        try:
+            status = page.main(['job.sheet'])
+        finally:
+            page.made, page.compare.write = kept, compare_write
+        self.assertEqual(status, 2)
+        self.assertEqual([number for number, _ in said], [2])
+        self.assertEqual(said[0][1].count('\n'), 1)
+
     def test_names(self):
         self.assertEqual(page.names_of(['a/x.sheet']), ['x.sheet'])
         self.assertEqual(page.names_of(['a/x', 'b/y']), ['x', 'y'])

@@ -2,7 +2,8 @@
 
 import unittest
 
-from tried import ASK, Case, PLAIN, example, made
+from tried import ASK, Case, PLAIN, example, made, sample
+from trouble import Trouble
 
 import readback
 import sheets
@@ -88,6 +89,20 @@ class Pairs(Case):
                 self.assertEqual(label, 'from line %d' % was[0])
                 count += 1
         self.assertGreater(count, 20)
+
+    def test_one_scale(self):
+        # The em differs, and one half unit is as long in both pictures.
+        old = example('k12.sheet')
+        told = self.pair(old, old.replace(b'\n10\n', b'\n20\n', 1))
+        scales = {float(one.tree.get('width'))
+                  / float(one.tree.get('viewBox').split(' ')[2])
+                  for one in readback.pictures(told)}
+        self.assertEqual(len({round(scale, 3) for scale in scales}), 1)
+
+    def test_sheets_that_cannot_be_compared(self):
+        sheet, ask, _ = sample('bilingual')
+        with self.assertRaisesRegex(Trouble, 'cannot be compared'):
+            made(sheet, sheet, ask=ask)
 
     def test_one_is_refused(self):
         good, bad = example('k12.sheet'), example('refusals/11.sheet')
