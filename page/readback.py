@@ -236,6 +236,31 @@ def span(boxes):
     return boxes[0][1], boxes[-1][1] + boxes[-1][2]
 
 
+def due_contact(row, drawn):
+    """Where a row with a gap is held: the end of a reading."""
+    what, _, touched = row.split(' rule ')[1][2:].partition(' touches ')
+    if what != 'block':
+        own = drawn[row_numbers(row)[0]]
+        return span(own['l' if what.startswith('left') else 'r'])[0]
+    other = drawn[int(touched.split(' of ')[1].split(' ')[0])]
+    return span(other['l' if touched.startswith('left') else 'r'])[1]
+
+
+def check_contacts(tree, rows, vertical):
+    """What holds each gap is marked where it is."""
+    groups = {int(group.get('data-element')): group
+              for group in tree.iter('g') if group.get('data-element')}
+    drawn = {element: boxes(group, vertical)
+             for element, group in groups.items()}
+    for element, group in groups.items():
+        found = [float(path.get('d')[1:].split('L')[0].split(' ')[
+            1 if vertical else 0]) for path in group.iter('path')
+            if path.get('class') == 'contact']
+        want(found, [due_contact(row, drawn) for row in rows
+                     if row_numbers(row)[0] == element
+                     and row_numbers(row)[2]], 'contacts')
+
+
 def check_depths(tree, rows, vertical):
     """Each depth of the account is drawn, and nothing lies elsewhere."""
     drawn = sorted(int(rect.get('data-depth')) for rect in tree.iter('rect')
@@ -316,6 +341,7 @@ def check_page(text, sheet, result, account, vertical=False, of=''):
         check_boxes(one.tree, due[at], vertical)
         check_blanks(one.tree, due[at], rows['base'], vertical)
         check_gaps(one.tree, told[at], vertical)
+        check_contacts(one.tree, told[at], vertical)
         check_depths(one.tree, told[at], vertical)
         check_edges(one.tree, 2 * rows['set'][1][0], vertical)
         check_table(tables[at][2], told[at])

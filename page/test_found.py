@@ -31,6 +31,7 @@ class WrongPages(Case):
         self.wrong('class="gap"', 'class="gape"', 'gaps')
         self.wrong('>rule 3<', '>rule 2<', 'words at the gaps')
         self.wrong('class="rule">3<', 'class="rule">2<', 'signs of the rules')
+        self.wrong('d="M80 ', 'd="M81 ', 'contacts')
         self.wrong('data-depth="12"', 'data-depth="11"', 'depth')
         self.wrong('d="M0 0L0', 'd="M1 0L1', 'the start')
         self.wrong('d="M360 0L360', 'd="M350 0L350', 'the measure')

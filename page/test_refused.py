@@ -189,9 +189,11 @@ class TooLong(Case):
         sheet = example('refusals/11.sheet')
         alone = toolong.alone(sheets.read_sheet(sheet), answers.read_page(
             sheet, *ASK(sheet)))[0]
-        for other in (alone.replace(b'G 3 6', b'G 3 5').replace(
-                b'ruby 6\n15 5\n', b'ruby 5\n').replace(b'19 10', b'19 9'),
-                sheet):
+        longer = alone.replace(b'\n30\n', b'\n36\n').replace(b'19 10',
+                                                             b'19 12')
+        self.assertIn(b'lines 2\n', ASK(longer)[0])
+        self.assertIn(b'line 72\n', ASK(longer)[0])
+        for other in (longer, sheet):
             status, told = made(sheet, ask=lambda given: ASK(
                 other if given == alone else given))
             self.assertEqual(status, 1)
