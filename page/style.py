@@ -168,23 +168,26 @@ PRINT = '''
   :root { --page: #fff; --panel: #fff; --text: #000; --dim: #333;
     --rule: #999; }
   body { font-size: 9.5pt; }
-  header, main, footer { max-width: none; padding-left: 0; padding-right: 0; }
+  header, main, footer { max-width: none; padding-left: 0;
+    padding-right: 1px; }
   .said { display: none; }
   figure { border: 0; padding: 0; overflow: visible; break-inside: avoid; }
   .lines, .vertical .lines { display: block; }
-  .lines .line { display: grid; gap: 6mm; align-items: start; margin: 0 0 5mm;
-    grid-template-columns: minmax(0, 6fr) minmax(0, 7fr); }
+  .lines .line { display: grid; gap: 6mm; align-items: start;
+    margin: 0 0 5mm; break-inside: avoid;
+    grid-template-columns: minmax(0, 5fr) minmax(0, 8fr); }
   .vertical .lines .line { grid-template-columns: auto minmax(0, 1fr); }
   .vertical .lines .picture { max-height: 225mm; width: auto; }
   .picture { min-width: 0 !important; }
   .lines caption { display: none; }
   .account { overflow: visible; }
-  table, .pairs table { font-size: 8pt; }
+  table, .pairs table { font-size: 7.5pt; line-height: 1.3; }
   th, td { padding: .4mm 1mm; }
   th.of-element, .pairs th.of-element { width: 15mm; }
   th.of-at, th.of-gap, th.of-rule, .pairs th.of-at, .pairs th.of-gap,
   .pairs th.of-rule { width: 9mm; }
-  th.of-characters, .pairs th.of-characters { width: 24mm; }
+  th.of-characters { width: 32mm; }
+  .pairs th.of-characters { width: 24mm; }
   thead { display: table-header-group; }
   tr, .key, .rules { break-inside: avoid; }
   h2 { break-after: avoid; }
