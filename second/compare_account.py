@@ -78,17 +78,26 @@ NEEDS = form(b'needs N measure N')
 LINE = form(b'line N')
 ELEMENT = b'element N at N gap N '
 
-# The six reasons: rule, what touches, what is touched, and the line.
+# The ten reasons in the order in which one is named, four of them of left
+# readings (R-5): rule, what touches, what is touched, and the line.
 REASONS = (
     (4, 'block', 'start', form(ELEMENT + b'rule 4 block touches start')),
     (1, 'block', 'block',
      form(ELEMENT + b'rule 1 block touches block of N')),
     (2, 'block', 'ruby',
      form(ELEMENT + b'rule 2 block touches ruby of N at depth N')),
+    (2, 'block', 'left ruby',
+     form(ELEMENT + b'rule 2 block touches left ruby of N at depth N')),
     (2, 'ruby', 'block',
      form(ELEMENT + b'rule 2 ruby touches block of N at depth N')),
+    (2, 'left ruby', 'block',
+     form(ELEMENT + b'rule 2 left ruby touches block of N at depth N')),
     (3, 'ruby', 'ruby', form(ELEMENT + b'rule 3 ruby touches ruby of N')),
+    (3, 'left ruby', 'left ruby',
+     form(ELEMENT + b'rule 3 left ruby touches left ruby of N')),
     (4, 'ruby', 'start', form(ELEMENT + b'rule 4 ruby touches start')),
+    (4, 'left ruby', 'start',
+     form(ELEMENT + b'rule 4 left ruby touches start')),
 )
 
 
@@ -227,10 +236,11 @@ def wrong_reason(place, reason, broken, earlier, drawn):
     if not touches(reason, earlier, drawn):
         yield ('%s: %s does not hold'
                % (place, account.reason_words(reason)))
-    first = ahead_of(reason, earlier, drawn)
-    if first is not None and touches(first, earlier, drawn):
-        yield '%s: %s, not %s' % (place, account.reason_words(reason),
-                                  account.reason_words(first))
+    for first in ahead_of(reason, earlier, drawn):
+        if touches(first, earlier, drawn):
+            yield '%s: %s, not %s' % (place, account.reason_words(reason),
+                                      account.reason_words(first))
+            return
 
 
 def first_rule(broken, drawn):
@@ -250,7 +260,8 @@ def wrong_depth(place, reason, before, drawn):
 
 
 def span(drawn, name):
-    return drawn.block if name == 'block' else drawn.ruby
+    return {'block': drawn.block, 'ruby': drawn.ruby,
+            'left ruby': drawn.left}[name]
 
 
 def touches(reason, earlier, drawn):
@@ -260,24 +271,34 @@ def touches(reason, earlier, drawn):
         return False
     if reason.its == 'start':
         return mine[0] == 0
-    its = [span(before, reason.its) for before in earlier
+    # Several characters of a J with a mono left reading have one index.
+    others = earlier if reason.rule == 3 else earlier[-1:]
+    its = [span(before, reason.its) for before in others
            if before.element == reason.other]
-    return (len(its) == 1 and its[0] is not None
-            and its[0][1] == mine[0] + (reason.depth or 0))
+    return any(other is not None
+               and other[1] == mine[0] + (reason.depth or 0) for other in its)
 
 
 def ahead_of(reason, earlier, drawn):
-    """The reason of the same rule that would be named ahead of this one.
+    """The reasons of the same rule that come ahead of this one.
 
-    Of rule 3 there is none: rubies are at least 1 wide and don't overlap, so
-    no two of a line end at one place.
+    Of one side's rule 3 there is one at most: rubies are at least 1 wide and
+    don't overlap, so no two of a side and a line end at one place.
     """
-    if (reason.rule, reason.mine) == (4, 'ruby'):
-        return Reason(4, 'block', 'start', None, None)
-    if (reason.rule, reason.mine) == (2, 'ruby'):
-        return Reason(2, 'block', 'ruby', earlier[-1].element,
-                      drawn.depth_before)
-    return None
+    for rule, mine, its, _ in REASONS:
+        if (mine, its) == (reason.mine, reason.its):
+            return
+        if rule != reason.rule:
+            continue
+        if rule == 4:
+            yield Reason(4, mine, its, None, None)
+        elif rule == 2:
+            yield Reason(2, mine, its, earlier[-1].element,
+                         drawn.depth_before if mine == 'block'
+                         else earlier[-1].depth_after)
+        else:
+            for before in earlier:
+                yield Reason(rule, mine, its, before.element, None)
 
 
 # ---------------------------------------------------------------------------
@@ -311,7 +332,8 @@ class Seen:
         refused = ', '.join('%d by %d' % (count, number) for number, count
                             in sorted(self.refused.items()))
         kinds = ', '.join('%s %d' % (name, self.kinds[name])
-                          for name in KINDS)
+                          for name in KINDS + LEFT_KINDS
+                          if name in KINDS or self.kinds[name])
         return ('seen: %d accepted; refused %s; %d lines, %d of them dense; '
                 'reasons %s' % (self.accepted, refused or 'none', self.lines,
                                 self.dense, kinds))
@@ -319,12 +341,15 @@ class Seen:
 
 KINDS = ('block-start', 'block-block', 'block-ruby', 'block-ruby-deep',
          'ruby-block', 'ruby-block-deep', 'ruby-ruby', 'ruby-start')
+LEFT_KINDS = ('block-left', 'block-left-deep', 'left-block',
+              'left-block-deep', 'left-left', 'left-start')
 
 
 def kind(reason):
     """What touches and what is touched; deep where the depth is not 0."""
-    return '%s-%s%s' % (reason.mine, reason.its,
-                        '-deep' if reason.depth else '')
+    words = '%s-%s%s' % (reason.mine, reason.its,
+                         '-deep' if reason.depth else '')
+    return words.replace('left ruby', 'left')
 
 
 # ---------------------------------------------------------------------------

@@ -149,9 +149,9 @@ class Lists:
         self.base_out = [77] * base
         self.ruby_out = [77] * ruby
         self.line_out = [77] * line
-        self.result = set_job(em, measure, ratios, profile,
+        self.result = set_job(em, measure, ratios, profile, left=None,
                               base_out=self.base_out, ruby_out=self.ruby_out,
-                              line_out=self.line_out, **arguments)
+                              left_out=[], line_out=self.line_out, **arguments)
         outs = self.base_out + self.ruby_out + self.line_out
         self.untouched = all(entry == 77 for entry in outs)
 
@@ -1360,7 +1360,7 @@ class Refusals(Case):
         # Nothing to set: empty lists are enough.
         for profile in (0, 1):
             result = set_job(10, 10, ONE_TWO_ONE, profile, [], [], [], [], [],
-                             [], [], [], [], [], [], [], [], [])
+                             [], [], [], [], [], [], None, [], [], [], [])
             self.assertEqual(result, ('set', 0))
 
     def test_3_class(self):
@@ -2110,8 +2110,17 @@ def keeps_the_rules(job, words, origins):
     """The four rules over intervals, without saying who stands where."""
     blocks = [(at + word.block_start, at + word.block_end)
               for word, at in zip(words, origins)]
-    rubies = [(at + word.ruby_start, at + word.ruby_end) if word.has_ruby
-              else None for word, at in zip(words, origins)]
+    if any(blocks[k][0] < blocks[k - 1][1] for k in range(1, len(words))):
+        return False
+    return all(keep_the_rules(job, words, blocks, [
+        None if word.rubies[side] is None else
+        (at + word.rubies[side].start, at + word.rubies[side].end)
+        for word, at in zip(words, origins)])
+        for side in (second.RIGHT, second.LEFT))
+
+
+def keep_the_rules(job, words, blocks, rubies):
+    """Rules 2 to 4 for the rubies of one side and all blocks."""
     everything = blocks + [ruby for ruby in rubies if ruby]
     if min(start for start, _ in everything) < 0:
         return False
@@ -2119,8 +2128,6 @@ def keeps_the_rules(job, words, origins):
         return False
     for i, ruby in enumerate(rubies):
         for k in range(len(words)):
-            if k > 0 and blocks[k][0] < blocks[k - 1][1]:
-                return False
             if k == i or ruby is None:
                 continue
             start, end = blocks[k]
