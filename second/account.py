@@ -1,6 +1,6 @@
 """Why each element of a set line stands no nearer the line's start.
 
-    python3 account.py < sheet    the account of a sheet as a text
+    python3 account.py [--forms] < sheet    the account of a sheet as a text
 
 account(sheet) gives a list for each line of the sheet's result.  It has a row
 for each element of the line, in order:
@@ -37,7 +37,8 @@ import sys
 
 sys.path.insert(0, os.path.dirname(os.path.abspath(__file__)))
 
-import second       # noqa: E402  (found through the path set above)
+import ahead        # noqa: E402  (found through the path set above)
+import second       # noqa: E402
 from second import sound_job    # noqa: E402
 
 
@@ -176,9 +177,9 @@ def drawn_parts(job, owner, ends):
             yield (number, [index], *map(second.indices, readings))
 
 
-def drawn_lines(sheet):
+def drawn_lines(sheet, form_two=ahead.FORM_TWO):
     """The elements of each line, as the result of the sheet places them."""
-    return drawn_lines_of(second.read_sheet(sheet))
+    return drawn_lines_of(second.read_sheet(sheet, form_two))
 
 
 def drawn_lines_of(arguments):
@@ -211,8 +212,8 @@ def line_account(line):
     return rows
 
 
-def account(sheet):
-    return [line_account(line) for line in drawn_lines(sheet)]
+def account(sheet, form_two=ahead.FORM_TWO):
+    return [line_account(line) for line in drawn_lines(sheet, form_two)]
 
 
 # ---------------------------------------------------------------------------
@@ -227,10 +228,10 @@ Clear = collections.namedtuple('Clear', 'lines elements readings')
 Refusal = collections.namedtuple('Refusal', 'number place needs')
 
 
-def verdict(sheet):
+def verdict(sheet, form_two=ahead.FORM_TWO):
     """Clear or Refusal."""
     try:
-        arguments = second.read_sheet(sheet)
+        arguments = second.read_sheet(sheet, form_two)
     except second.Refused as refusal:
         return Refusal(refusal.number, refusal.place, None)
     return verdict_of(arguments)
@@ -419,9 +420,9 @@ def told_rows(line):
 # The text
 # ---------------------------------------------------------------------------
 
-def text(sheet):
+def text(sheet, form_two=ahead.FORM_TWO):
     """The account of a sheet, as bytes."""
-    return text_of(verdict(sheet))
+    return text_of(verdict(sheet, form_two))
 
 
 def text_of(found):
@@ -463,11 +464,13 @@ def reason_words(reason):
 
 def main(arguments):
     """The exit status."""
-    if arguments != []:
-        sys.exit('usage: account.py < sheet')
-    written = text(sys.stdin.buffer.read())
-    sys.stdout.buffer.write(written)
-    return second.status_of(written)
+    form_two = ahead.FORM_TWO
+    if arguments[:1] == ['--forms']:
+        form_two, arguments = True, arguments[1:]
+    if arguments not in ([], ['--framed']):
+        sys.exit('usage: account.py [--forms] [--framed] < sheet')
+    return second.answer_input(arguments,
+                               lambda sheet: text(sheet, form_two))
 
 
 if __name__ == '__main__':

@@ -8,3 +8,6 @@ nothing else (README.md, "Ahead of the engine").
 
 # jobs in lists have left lists, in calls and in the generated jobs.
 LEFT_READINGS = False
+
+# sheets of form two are read, and generated among the others.
+FORM_TWO = False

@@ -568,14 +568,20 @@ def with_left_readings(rng, em, measure, given):
     return (em, *put_left(rng, em, measure, given))
 
 
-def put_left(rng, em, measure, given):
-    """(measure, lists, Left) for a job in lists, which may be altered."""
+def sound_left(rng, em, measure, given):
+    """(words, measure, Left): left readings as the words take them."""
     words = words_of(given)
     readings = some_readings(rng, clip(em, 2, WIDEST), words)
     left = lists_of(rng, words, readings)
     if 1 <= measure <= WIDEST_MEASURE and rng.randrange(5) > 0:
         measure = some_measure(rng, clip(em, 2, WIDEST),
                                stretches(words, readings))
+    return words, measure, left
+
+
+def put_left(rng, em, measure, given):
+    """(measure, lists, Left) for a job in lists, which may be altered."""
+    words, measure, left = sound_left(rng, em, measure, given)
     way = pick(rng, (18, 'sound'), (3, 'not read'), (5, 'spoilt'),
                (2, 'both'))
     if way == 'not read':

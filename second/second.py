@@ -4,17 +4,25 @@ It reads a job sheet on standard input and writes what the setting program
 writes.  It states the rules of document 01 one by one and looks for nothing
 clever; it exists to be compared, byte for byte, with the proved engine.  A
 change of document 02 is in the place of the rule that it changes, under its
-number (R-1, R-4, R-5, R-8).
+number (R-1, R-4, R-5, R-6, R-8).
 
     python3 second.py < sheet              one sheet, one answer
     python3 second.py --framed < sheets    many sheets (see README.md)
+
+With --forms before that it reads sheets of form two too (R-6; README.md,
+"Ahead of the engine").
 
 Widths are whole units.  Positions are in half units.
 Section names in comments are those of document 01.
 """
 
 import collections
+import os
 import sys
+
+sys.path.insert(0, os.path.dirname(os.path.abspath(__file__)))
+
+import ahead        # noqa: E402  (found through the path set above)
 
 LARGEST_NUMBER = 4294967295
 LARGEST_SHEET = 65535
@@ -1180,32 +1188,58 @@ class Reader:
             raise self.fault()
 
 
-def read_sheet(sheet):
+def read_sheet(sheet, form_two=ahead.FORM_TWO):
     """The sixteen arguments of a job (em to left), or Refused.
 
-    A sheet of this form has no ratios: they are document 01's.  Nor has it a
-    profile: "Profile 0 is document 01 with R-1" (R-8).  Nor left lists: None.
+    form_two: sheets of form two are read as well.
     """
     # "over-length comes before both"; place "0 if over 65,535 bytes".
     if len(sheet) > LARGEST_SHEET:
         raise Refused(13, 0)
     reader = Reader(sheet)
-    em, measure = read_set(reader)
+    # The first line tells the form: "`set 2`" (document 01), or "Form two
+    # begins with `set 9`" (R-6).
+    form = reader.fields()
+    if form == [b'set', b'2']:
+        arguments = read_form_one(reader)
+    elif form == [b'set', b'9'] and form_two:
+        arguments = read_form_two(reader)
+    else:
+        raise reader.fault()
+    reader.nothing_after()
+    return arguments
+
+
+def read_form_one(reader):
+    # A sheet of form one has no ratios: they are document 01's.  Nor has it a
+    # profile: "Profile 0 is document 01 with R-1" (R-8).  Nor left lists.
+    em, measure = read_set(reader, 2)
     base = read_base(reader)
     ruby = read_ruby(reader)
     kind, elem_base, elem_ruby, runs = read_elem(reader)
-    reader.nothing_after()
     return ([em, measure, ONE_TWO_ONE, 0] + base + ruby
             + [kind, elem_base, elem_ruby, runs, None])
 
 
-def read_set(reader):
+def read_form_two(reader):
+    # R-6: "`set 9` (form one's two numbers, the six ratio numbers, and one
+    # number for the profile, 0 until another is named)", which R-8 does.  The
+    # ruby ratio comes first, as in 15's places.  "and has a `left` section
+    # after `ruby`".
+    em, measure, *six, profile = read_set(reader, 9)
+    ratios = (tuple(six[:3]), tuple(six[3:]))
+    base = read_base(reader)
+    ruby = read_ruby(reader)
+    left_class, left_width = read_left(reader)
+    elements = read_elem_two(reader)
+    left = Left(left_class, left_width, *elements[4:])
+    return ([em, measure, ratios, profile] + base + ruby + elements[:4]
+            + [left])
+
+
+def read_set(reader, count):
     # "`set 2` with em and measure, one a line"
-    if reader.fields() != [b'set', b'2']:
-        raise reader.fault()
-    em = reader.numbers(reader.fields(), 1)[0]
-    measure = reader.numbers(reader.fields(), 1)[0]
-    return em, measure
+    return [reader.numbers(reader.fields(), 1)[0] for _ in range(count)]
 
 
 def read_base(reader):
@@ -1226,6 +1260,16 @@ def read_ruby(reader):
     return lists
 
 
+def read_left(reader):
+    # R-6: the `left` section, in the form of `ruby`.  R-5: "2 ... as for
+    # right ones, ... with places 3 for the count".
+    lists = [[], []]
+    for _ in range(reader.count(b'left', MOST_LEFT, 3)):
+        for values, value in zip(lists, reader.numbers(reader.fields(), 2)):
+            values.append(value)
+    return lists
+
+
 def read_elem(reader):
     # "`elem` (`P`, `M r`, `G b r`, `J b` and b run lengths, b from 1 to 32)"
     # Counts that a kind doesn't show are not read; they are given as 0.
@@ -1240,7 +1284,10 @@ def read_elem(reader):
 
 
 def read_element(reader):
-    fields = reader.fields()
+    return read_right(reader, reader.fields())
+
+
+def read_right(reader, fields):
     letter, texts = fields[0], fields[1:]
     if letter == b'P':
         reader.numbers(texts, 0)
@@ -1261,15 +1308,69 @@ def read_element(reader):
     raise reader.fault()
 
 
+def read_elem_two(reader):
+    """kind, base count, ruby count, runs; left kind, left count, left runs."""
+    lists = [[], [], [], [], [], [], []]
+    for _ in range(reader.count(b'elem', MOST_ELEMENTS, 2)):
+        values = read_element_two(reader)
+        for place in (0, 1, 2, 4, 5):
+            lists[place].append(values[place])
+        for place in (3, 6):
+            lists[place] += values[place]
+    return lists
+
+
+def read_element_two(reader):
+    # R-6: "each M, G and J line ends in a letter for the left kind (M, G, J;
+    # N for none) and its counts".  A P line has no letter.
+    fields = reader.fields()
+    at = place_of_left_letter(fields)
+    kind, base, ruby, runs = read_right(reader, fields[:at])
+    if kind == P and at == len(fields):
+        return P, base, ruby, runs, N, 0, []
+    if kind == P or at == len(fields):
+        raise reader.fault()
+    return (kind, base, ruby, runs, *read_left_counts(
+        reader, kind, base, fields[at], fields[at + 1:]))
+
+
+def place_of_left_letter(fields):
+    """Where it has to be: behind the letter and all that are numbers."""
+    at = 1
+    while at < len(fields) and fields[at].isdigit():
+        at += 1
+    return at
+
+
+def read_left_counts(reader, kind, base, letter, texts):
+    # A left G has one count; a left M or J one for each base character of the
+    # element, without a count before them, also where the element doesn't take
+    # the kind (16).  The one of a left M on M is the left count, the others
+    # are left runs.  An M has one base character.
+    if letter == b'N':
+        reader.numbers(texts, 0)
+        return N, 0, []
+    if letter == b'G':
+        count, = reader.numbers(texts, 1)
+        return G, count, []
+    if letter == b'M' and kind == M:
+        count, = reader.numbers(texts, 1)
+        return M, count, []
+    if letter not in (b'M', b'J'):
+        raise reader.fault()
+    runs = reader.numbers(texts, 1 if kind == M else base)
+    return ord(letter), 0, runs
+
+
 # ---------------------------------------------------------------------------
 # The setting program
 # ---------------------------------------------------------------------------
 
-def answer(sheet):
+def answer(sheet, form_two=ahead.FORM_TWO):
     # "The setting program reads a sheet on standard input and writes
     # `refused N P`, or a result."
     try:
-        arguments = read_sheet(sheet)
+        arguments = read_sheet(sheet, form_two)
     except Refused as refusal:
         return refused_text(refusal.number, refusal.place)
     base_out = [0] * MOST_BASE
@@ -1389,20 +1490,27 @@ def status_of(text):
     return 1 if text.startswith(b'refused ') else 0
 
 
-def main(arguments):
-    """The exit status."""
+def answer_input(arguments, answered):
+    """Answers one sheet, or with --framed many; the exit status."""
     if arguments == []:
-        text = answer(sys.stdin.buffer.read())
+        text = answered(sys.stdin.buffer.read())
         sys.stdout.buffer.write(text)
         return status_of(text)
-    elif arguments == ['--framed']:
+    sheet = read_frame(sys.stdin.buffer, b'sheet')
+    while sheet is not None:
+        write_frame(sys.stdout.buffer, b'answer', answered(sheet))
         sheet = read_frame(sys.stdin.buffer, b'sheet')
-        while sheet is not None:
-            write_frame(sys.stdout.buffer, b'answer', answer(sheet))
-            sheet = read_frame(sys.stdin.buffer, b'sheet')
-    else:
-        sys.exit('usage: second.py [--framed]')
     return 0
+
+
+def main(arguments):
+    """The exit status."""
+    form_two = ahead.FORM_TWO
+    if arguments[:1] == ['--forms']:
+        form_two, arguments = True, arguments[1:]
+    if arguments not in ([], ['--framed']):
+        sys.exit('usage: second.py [--forms] [--framed]')
+    return answer_input(arguments, lambda sheet: answer(sheet, form_two))
 
 
 if __name__ == '__main__':

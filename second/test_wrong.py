@@ -10,7 +10,10 @@ what sheets cannot show, readings of R-4 and of R-8 that are not ours and slips
 in them; some of the first 1,000 jobs in lists of seed 1 have to show each of
 those.  WRONG_BY_LEFT has the same of R-5, and some of the first 2,000 jobs
 with left readings have to show it; WRONG_ACCOUNTS replaces functions of
-account.py, and the accounts of such jobs show it.
+account.py, and the accounts of such jobs show it.  WRONG_BY_FORM has what is
+wrong in reading sheets of form two (R-6), and WRONG_CONVERTERS replaces
+functions of convert.py; some of the first 2,500 sheets of both forms have to
+show each of them.
 """
 
 import copy
@@ -23,8 +26,10 @@ HERE = os.path.dirname(os.path.abspath(__file__))
 sys.path.insert(0, HERE)
 
 import account      # noqa: E402  (found through the path set above)
+import convert      # noqa: E402
 import generate     # noqa: E402
 import generate_lists   # noqa: E402
+import generate_two     # noqa: E402
 import second       # noqa: E402
 from second import G, J, LEFT, M, N, P, RIGHT, Refused  # noqa: E402
 
@@ -35,6 +40,8 @@ WRONG_BY_RATIOS = {}
 WRONG_BY_PROFILE = {}
 WRONG_BY_LEFT = {}
 WRONG_ACCOUNTS = {}
+WRONG_BY_FORM = {}
+WRONG_CONVERTERS = {}
 
 
 def wrong(name, among=WRONG):
@@ -60,6 +67,14 @@ def wrong_by_left(name):
 
 def wrong_account(name):
     return wrong(name, WRONG_ACCOUNTS)
+
+
+def wrong_by_form(name):
+    return wrong(name, WRONG_BY_FORM)
+
+
+def wrong_converter(name):
+    return wrong(name, WRONG_CONVERTERS)
 
 
 # ---------------------------------------------------------------------------
@@ -593,15 +608,15 @@ def _():
 
 @wrong('a count judged after the whole sheet')
 def _():
-    def read_sheet(sheet):
+    def read_sheet(sheet, form_two):
         try:
-            return right['read_sheet'](sheet)
+            return right['read_sheet'](sheet, form_two)
         except Refused as refusal:
             if refusal.number == 2:
                 with mock.patch.multiple(second, MOST_BASE=10 ** 10,
                                          MOST_RUBY=10 ** 10,
                                          MOST_ELEMENTS=10 ** 10):
-                    right['read_sheet'](sheet)
+                    right['read_sheet'](sheet, form_two)
             raise
     return {'read_sheet': read_sheet}
 
@@ -2467,6 +2482,620 @@ def _():
 
 
 # ---------------------------------------------------------------------------
+# R-6: sheets of form two
+# ---------------------------------------------------------------------------
+
+def reordered(change):
+    """`change(the nine numbers)` in the place of them."""
+    def read_set(reader, count):
+        numbers = right['read_set'](reader, count)
+        return change(*numbers) if count == 9 else numbers
+    return {'read_set': read_set}
+
+
+@wrong_by_form('the base ratio ahead of the ruby ratio')
+def _():
+    return reordered(lambda em, measure, a, b, c, d, e, f, profile:
+                     [em, measure, d, e, f, a, b, c, profile])
+
+
+@wrong_by_form('ratio numbers from behind')
+def _():
+    return reordered(lambda em, measure, a, b, c, d, e, f, profile:
+                     [em, measure, c, b, a, f, e, d, profile])
+
+
+@wrong_by_form('ratio numbers of ruby and base in turn')
+def _():
+    return reordered(lambda em, measure, a, b, c, d, e, f, profile:
+                     [em, measure, a, c, e, b, d, f, profile])
+
+
+@wrong_by_form('the profile ahead of the ratios')
+def _():
+    return reordered(lambda em, measure, profile, *six:
+                     [em, measure, *six, profile])
+
+
+@wrong_by_form('the measure ahead of the em')
+def _():
+    return reordered(lambda em, measure, *rest: [measure, em, *rest])
+
+
+@wrong_by_form('the ratios not read')
+def _():
+    return reordered(lambda em, measure, *rest:
+                     [em, measure, 1, 2, 1, 1, 2, 1, rest[-1]])
+
+
+@wrong_by_form('the profile not read')
+def _():
+    return reordered(lambda *numbers: [*numbers[:-1], 0])
+
+
+def judged_in_form(is_bad):
+    """`is_bad(place, number)` of the nine as a fault of form."""
+    def read_set(reader, count):
+        numbers = []
+        for place in range(count):
+            numbers += reader.numbers(reader.fields(), 1)
+            if count == 9 and is_bad(place, numbers[-1]):
+                raise reader.fault()
+        return numbers
+    return {'read_set': read_set}
+
+
+@wrong_by_form('a ratio number over 7 as a fault of form')
+def _():
+    return judged_in_form(lambda place, number: 2 <= place < 8 and number > 7)
+
+
+@wrong_by_form('a profile other than 0 as a fault of form')
+def _():
+    return judged_in_form(lambda place, number: place == 8 and number > 0)
+
+
+@wrong_by_form('a profile over 1 as a fault of form')
+def _():
+    return judged_in_form(lambda place, number: place == 8 and number > 1)
+
+
+def first_lines(one, two):
+    """Which first lines are read as which form."""
+    def read_sheet(sheet, form_two):
+        line, _, rest = sheet.partition(b'\n')
+        if line in one:
+            line = b'set 2'
+        elif line in two:
+            line = b'set 9'
+        else:
+            line = b'set 0'
+        if b'\n' not in sheet or len(sheet) > 65535:
+            return right['read_sheet'](sheet, form_two)
+        return right['read_sheet'](line + b'\n' + rest, form_two)
+    return {'read_sheet': read_sheet}
+
+
+@wrong_by_form('form two alone')
+def _():
+    return first_lines((), (b'set 9',))
+
+
+@wrong_by_form('form one alone')
+def _():
+    return first_lines((b'set 2',), ())
+
+
+@wrong_by_form('any other number of the set section as form two')
+def _():
+    return first_lines((b'set 2',), (b'set 9', b'set 8', b'set 10', b'set 3'))
+
+
+@wrong_by_form('the left section ahead of the ruby section')
+def _():
+    def read_ruby(reader):
+        if reader.sheet.startswith(b'set 9'):
+            reader.ahead = right['read_left'](reader)
+        return right['read_ruby'](reader)
+    return {'read_ruby': read_ruby, 'read_left': lambda reader: reader.ahead}
+
+
+@wrong_by_form('no left section where it would be empty')
+def _():
+    def read_left(reader):
+        if reader.sheet[reader.place:reader.place + 5] == b'elem ':
+            return [[], []]
+        return right['read_left'](reader)
+    return {'read_left': read_left}
+
+
+def left_section(name=b'left', most=2048, place=3):
+    def read_left(reader):
+        lists = [[], []]
+        for _ in range(reader.count(name, most, place)):
+            for values, value in zip(lists,
+                                     reader.numbers(reader.fields(), 2)):
+                values.append(value)
+        return lists
+    return {'read_left': read_left}
+
+
+@wrong_by_form('a second ruby section')
+def _():
+    return left_section(name=b'ruby')
+
+
+@wrong_by_form('2 with place 1 for the left count of a sheet')
+def _():
+    return left_section(place=1)
+
+
+@wrong_by_form('2 with place 2 for the left count of a sheet')
+def _():
+    return left_section(place=2)
+
+
+@wrong_by_form('1,024 left characters on a sheet')
+def _():
+    return left_section(most=1024)
+
+
+@wrong_by_form('the left count of a sheet not held to its maximum')
+def _():
+    return left_section(most=10 ** 10)
+
+
+@wrong_by_form('the left count judged after the element count')
+def _():
+    def read_left(reader):
+        try:
+            return right['read_left'](reader)
+        except Refused as refusal:
+            if refusal.number == 2:
+                reader.count(b'elem', 1024, 2)
+            raise
+    return {'read_left': read_left}
+
+
+def element_line(change):
+    """`change(fields)` of each element line of form two before it is read."""
+    def read_element_two(reader):
+        start = reader.place
+        fields = change(reader.fields())
+        line = b' '.join(fields) + b'\n'
+        rest = reader.sheet[reader.place:]
+        reader.sheet = reader.sheet[:start] + line + rest
+        reader.place = start
+        reader.line_number -= 1
+        return right['read_element_two'](reader)
+    return {'read_element_two': read_element_two}
+
+
+def has_letter(fields):
+    return any(field.isalpha() for field in fields[1:])
+
+
+@wrong_by_form('no letter for none')
+def _():
+    return element_line(lambda fields: fields if has_letter(fields)
+                        or fields[0] == b'P' else fields + [b'N'])
+
+
+@wrong_by_form('a letter for none on P')
+def _():
+    return element_line(lambda fields: [b'P'] if fields == [b'P', b'N']
+                        else fields)
+
+
+@wrong_by_form('a letter asked for on P')
+def _():
+    return element_line(lambda fields: [b'P', b'P'] if fields == [b'P']
+                        else fields[:1] if fields == [b'P', b'N'] else fields)
+
+
+@wrong_by_form('small letters')
+def _():
+    return element_line(lambda fields: fields[:1] + [
+        field.upper() for field in fields[1:]])
+
+
+@wrong_by_form('P as a letter for none')
+def _():
+    return element_line(lambda fields: fields[:1] + [
+        b'N' if field == b'P' else field for field in fields[1:]])
+
+
+@wrong_by_form('counts behind N passed over')
+def _():
+    return element_line(lambda fields: fields[:fields.index(b'N') + 1]
+                        if b'N' in fields[1:] else fields)
+
+
+def left_counts_as(count_of):
+    """`count_of(kind, base, letter)` counts behind the letter M or J."""
+    def read_left_counts(reader, kind, base, letter, texts):
+        if letter in (b'M', b'J') and not (letter == b'M' and kind == M):
+            runs = reader.numbers(texts, count_of(kind, base, letter))
+            return ord(letter), 0, runs
+        return right['read_left_counts'](reader, kind, base, letter, texts)
+    return {'read_left_counts': read_left_counts}
+
+
+@wrong_by_form('one count for a left kind that is not taken')
+def _():
+    return left_counts_as(lambda kind, base, letter: 1 if kind != J else base)
+
+
+@wrong_by_form('one count for a mono left reading on J')
+def _():
+    return left_counts_as(lambda kind, base, letter: 1 if letter == b'M' or (
+        kind == M) else base)
+
+
+@wrong_by_form('a count ahead of the runs of a left J')
+def _():
+    def read_left_counts(reader, kind, base, letter, texts):
+        if letter == b'J' and len(texts) > 0:
+            if texts[0] != b'%d' % base:
+                raise reader.fault()
+            texts = texts[1:]
+        return right['read_left_counts'](reader, kind, base, letter, texts)
+    return {'read_left_counts': read_left_counts}
+
+
+@wrong_by_form('a left kind that is not taken as a fault of form')
+def _():
+    def read_left_counts(reader, kind, base, letter, texts):
+        found = right['read_left_counts'](reader, kind, base, letter, texts)
+        if found[0] not in second.TAKEN[kind]:
+            raise reader.fault()
+        return found
+    return {'read_left_counts': read_left_counts}
+
+
+@wrong_by_form('left counts out of range as a fault of form')
+def _():
+    def read_left_counts(reader, kind, base, letter, texts):
+        found = right['read_left_counts'](reader, kind, base, letter, texts)
+        if found[0] in (M, G) and not found[2] and not 1 <= found[1] <= 64:
+            raise reader.fault()
+        return found
+    return {'read_left_counts': read_left_counts}
+
+
+@wrong_by_form('no left positions in the result')
+def _():
+    def result_text(*arguments):
+        text = right['result_text'](*arguments)
+        return b''.join(line for line in text.splitlines(True)
+                        if not line.startswith(b'l '))
+    return {'result_text': result_text}
+
+
+@wrong_by_form('left positions ahead of the right ones')
+def _():
+    def result_text(arguments, base_out, ruby_outs, ends):
+        text = right['result_text'](arguments, base_out, ruby_outs, ends)
+        rows, lefts = [], []
+        for line in text.splitlines(True):
+            if line.startswith(b'l '):
+                at = len(rows)
+                while at > 0 and rows[at - 1].startswith(b'r '):
+                    at -= 1
+                rows.insert(at, line)
+            else:
+                rows.append(line)
+        return b''.join(rows)
+    return {'result_text': result_text}
+
+
+@wrong_by_form('a J with a mono left reading printed character by character')
+def _():
+    def cut_by_lines(element, ends):
+        if (element.kind, element.left_kind) == (J, M):
+            return [(index, index + 1) for index
+                    in range(element.base_first, element.base_end)]
+        return right['cut_by_lines'](element, ends)
+    return {'cut_by_lines': cut_by_lines}
+
+
+@wrong_by_form('the extent without left readings')
+def _():
+    def line_extent(job, parts, base_out, ruby_outs):
+        return right['line_extent'](job, [(*part[:2], []) for part in parts],
+                                    base_out, ruby_outs)
+    return {'line_extent': line_extent}
+
+
+# ---------------------------------------------------------------------------
+# R-6: the converter
+# ---------------------------------------------------------------------------
+
+right_converter = {name: value for name, value in vars(convert).items()
+                   if callable(value)}
+
+
+def writes(line, other):
+    """One line of form two that is written another way."""
+    def to_form_two(arguments, lines):
+        found = right_converter['to_form_two'](arguments, lines).split(b'\n')
+        found[line - 1] = other
+        return b'\n'.join(found)
+    return {'to_form_two': to_form_two}
+
+
+@wrong_converter('another ruby ratio')
+def _():
+    return writes(5, b'3')
+
+
+@wrong_converter('another base ratio')
+def _():
+    return writes(7, b'2')
+
+
+@wrong_converter('ratios of the same proportion')
+def _():
+    def to_form_two(arguments, lines):
+        found = right_converter['to_form_two'](arguments, lines).split(b'\n')
+        found[3:9] = [b'2', b'4', b'2'] * 2
+        return b'\n'.join(found)
+    return {'to_form_two': to_form_two}
+
+
+@wrong_converter('profile 1')
+def _():
+    return writes(10, b'1')
+
+
+@wrong_converter('the left section left out when empty')
+def _():
+    def to_form_two(arguments, lines):
+        found = right_converter['to_form_two'](arguments, lines)
+        return found.replace(b'left 0\n', b'')
+    return {'to_form_two': to_form_two}
+
+
+@wrong_converter('the left section behind the elements')
+def _():
+    def to_form_two(arguments, lines):
+        found = right_converter['to_form_two'](arguments, lines)
+        return found.replace(b'left 0\n', b'') + b'left 0\n'
+    return {'to_form_two': to_form_two}
+
+
+@wrong_converter('a letter on P')
+def _():
+    return {'with_letter': lambda line: line + b' N'}
+
+
+@wrong_converter('no letters')
+def _():
+    return {'with_letter': lambda line: line}
+
+
+@wrong_converter('a count behind N')
+def _():
+    return {'with_letter': lambda line: line if line == b'P'
+            else line + b' N 0'}
+
+
+@wrong_converter('letters kept in form one')
+def _():
+    return {'without_letter': lambda line: line}
+
+
+@wrong_converter('no LF at the end')
+def _():
+    def text_of(lines):
+        return right_converter['text_of'](lines)[:-1]
+    return {'text_of': text_of}
+
+
+@wrong_converter('jobs that are refused converted')
+def _():
+    return {'check_accepted': lambda arguments: None}
+
+
+@wrong_converter('jobs with refusal 11 converted')
+def _():
+    def check_accepted(arguments):
+        try:
+            right_converter['check_accepted'](arguments)
+        except Refused as refusal:
+            if refusal.number != 11:
+                raise
+    return {'check_accepted': check_accepted}
+
+
+@wrong_converter('form two not taken back')
+def _():
+    def to_form_one(arguments, lines):
+        right_converter['to_form_one'](arguments, lines)
+        return b''.join(line + b'\n' for line in lines)
+    return {'to_form_one': to_form_one}
+
+
+def held(check):
+    return {'check_form_one_can_hold': check}
+
+
+@wrong_converter('ratios not looked at')
+def _():
+    def check(arguments, lines):
+        right_converter['check_form_one_can_hold'](
+            arguments, lines[:3] + convert.PLAIN[:6] + lines[9:])
+    return held(check)
+
+
+@wrong_converter('the base ratio not looked at')
+def _():
+    def check(arguments, lines):
+        right_converter['check_form_one_can_hold'](
+            arguments, lines[:6] + convert.PLAIN[3:6] + lines[9:])
+    return held(check)
+
+
+@wrong_converter('ratios by their proportion')
+def _():
+    def check(arguments, lines):
+        lines = list(lines)
+        for first in (3, 6):
+            numbers = [int(line) for line in lines[first:first + 3]]
+            if numbers[0] > 0 and numbers == [
+                    numbers[0], 2 * numbers[0], numbers[0]]:
+                lines[first:first + 3] = [b'1', b'2', b'1']
+        right_converter['check_form_one_can_hold'](arguments, lines)
+    return held(check)
+
+
+@wrong_converter('the profile not looked at')
+def _():
+    def check(arguments, lines):
+        right_converter['check_form_one_can_hold'](
+            arguments, lines[:9] + [b'0'] + lines[10:])
+    return held(check)
+
+
+@wrong_converter('left characters without a letter passed over')
+def _():
+    return {'has_left_reading': lambda left: any(
+        kind != N for kind in left.left_kind)}
+
+
+@wrong_converter('letters without left characters passed over')
+def _():
+    return {'has_left_reading': lambda left: len(left.left_class) > 0}
+
+
+def place_of_17(change):
+    """`change(place, arguments, lines)` in the place of 17's."""
+    def check(arguments, lines):
+        try:
+            right_converter['check_form_one_can_hold'](arguments, lines)
+        except Refused as refusal:
+            raise Refused(17, change(refusal.place, arguments, lines))
+    return held(check)
+
+
+@wrong_converter('17 with lines from 0')
+def _():
+    return place_of_17(lambda place, arguments, lines: place - 1)
+
+
+@wrong_converter('17 with the first line of the ratio')
+def _():
+    return place_of_17(lambda place, arguments, lines:
+                       4 if place < 7 else 7 if place < 10 else place)
+
+
+@wrong_converter('17 with the places of 15')
+def _():
+    return place_of_17(lambda place, arguments, lines:
+                       0 if place < 7 else 1 if place < 10 else place)
+
+
+@wrong_converter('17 with the first left character')
+def _():
+    return place_of_17(lambda place, arguments, lines:
+                       place + 1 if place > 10 else place)
+
+
+@wrong_converter('17 with the line of the element')
+def _():
+    def change(place, arguments, lines):
+        if place <= 10:
+            return place
+        for number, line in enumerate(lines[place:], place + 1):
+            if line[:1] in b'MGJ' and not line.endswith(b' N'):
+                return number
+        return place
+    return place_of_17(change)
+
+
+@wrong_converter('17 with the last line at fault')
+def _():
+    def change(place, arguments, lines):
+        if convert.has_left_reading(arguments[15]):
+            return convert.left_line(lines) + 1
+        return max(number for number, (line, plain) in enumerate(
+            zip(lines[3:10], convert.PLAIN), 4) if line != plain)
+    return place_of_17(change)
+
+
+@wrong_converter('17 for a reading ahead of 17 for a ratio')
+def _():
+    def change(place, arguments, lines):
+        if convert.has_left_reading(arguments[15]):
+            return convert.left_line(lines) + 1
+        return place
+    return place_of_17(change)
+
+
+@wrong_converter('17 after the job\'s own refusals')
+def _():
+    def check(arguments, lines):
+        right_converter['check_accepted'](arguments)
+        right_converter['check_form_one_can_hold'](arguments, lines)
+    return held(check)
+
+
+@wrong_converter('17 after 15 and 20')
+def _():
+    def check(arguments, lines):
+        job = second.Job(*arguments)
+        second.check_ratios(job)
+        second.check_profile(job)
+        right_converter['check_form_one_can_hold'](arguments, lines)
+    return held(check)
+
+
+@wrong_converter('17 after 1')
+def _():
+    def check(arguments, lines):
+        second.check_sizes(second.Job(*arguments))
+        right_converter['check_form_one_can_hold'](arguments, lines)
+    return held(check)
+
+
+def early_17(but_for):
+    """17 for a line of the set section ahead of this number."""
+    def converted(sheet):
+        found = right_converter['converted'](sheet)
+        lines = sheet.split(b'\n')
+        if found.startswith(b'refused %d ' % but_for) and (
+                lines[0] == b'set 9' and len(lines) > 10
+                and len(sheet) <= 65535):
+            for number, (line, plain) in enumerate(
+                    zip(lines[3:10], convert.PLAIN), 4):
+                if not line.isdigit():
+                    break
+                if line != plain:
+                    return b'refused 17 %d\n' % number
+        return found
+    return {'converted': converted}
+
+
+@wrong_converter('17 ahead of 13')
+def _():
+    return early_17(13)
+
+
+@wrong_converter('17 ahead of 2')
+def _():
+    return early_17(2)
+
+
+@wrong_converter('form one alone converted')
+def _():
+    def converted(sheet):
+        if sheet.startswith(b'set 9\n'):
+            return b'refused 13 1\n'
+        return right_converter['converted'](sheet)
+    return {'converted': converted}
+
+
+# ---------------------------------------------------------------------------
 
 class Found(unittest.TestCase):
 
@@ -2548,6 +3177,32 @@ class FoundByLeft(unittest.TestCase):
         self.assertIsNone(first_shown(
             {'set_two_groups': set_two_groups},
             lambda call: call.answered(), calls, self.results))
+
+
+class FoundByForms(unittest.TestCase):
+
+    @classmethod
+    def setUpClass(cls):
+        # Without the longest, which take long and show nothing else.
+        cls.sheets = [sheet for sheet in generate_two.sheets(1, 2500)
+                      if len(sheet) <= 6000]
+
+    def test_every_wrong_reading_of_form_two_is_found(self):
+        def answered(sheet):
+            return second.answer(sheet, True)
+        answers = list(map(answered, self.sheets))
+        for name, replacements in WRONG_BY_FORM.items():
+            with self.subTest(name):
+                self.assertIsNotNone(first_shown(
+                    replacements, answered, self.sheets, answers), name)
+
+    def test_every_wrong_converter_is_found(self):
+        expected = list(map(convert.converted, self.sheets))
+        for name, replacements in WRONG_CONVERTERS.items():
+            with self.subTest(name):
+                self.assertIsNotNone(first_shown(
+                    replacements, lambda sheet: convert.converted(sheet),
+                    self.sheets, expected, convert), name)
 
 
 def first_shown(replacements, answered, given, expected, module=second):
