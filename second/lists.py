@@ -1,11 +1,12 @@
 """Calls on jobs in lists, as bytes: to a program and back.
 
-    python3 lists.py [--left] < calls   answers them by the second program
+    python3 lists.py < calls    answers them by the second program
 
 What sheets cannot show goes to an engine this way: ratios, profiles, lists of
 unequal lengths, spare runs, short result lists (README.md, "Jobs in lists").
 lists.c answers the same calls by bv_set_job and bv_account_job.  With --left
-the calls have the left lists of R-5 (README.md, "Ahead of the engine").
+the calls have the left lists of R-5, with --no-left they don't (README.md,
+"Ahead of the engine").
 """
 
 import os
@@ -173,9 +174,10 @@ def read_call(stream, left=ahead.LEFT_READINGS):
 
 
 def main(arguments):
-    if arguments not in ([], ['--left']):
-        sys.exit('usage: lists.py [--left] < calls')
-    left = ahead.LEFT_READINGS or arguments == ['--left']
+    if arguments not in ([], ['--left'], ['--no-left']):
+        sys.exit('usage: lists.py [--left | --no-left] < calls')
+    left = ahead.LEFT_READINGS if arguments == [] else (
+        arguments == ['--left'])
     call = read_call(sys.stdin.buffer, left)
     while call is not None:
         sys.stdout.buffer.write(answer_bytes(*call.answered()))

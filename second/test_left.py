@@ -723,8 +723,7 @@ class Refusals(Case):
         self.refused(6, 0, [], left_class=[15], left_width=[5])
 
     def test_7_and_8_are_as_before(self):
-        self.refused(7, 0, [w((m(1)[0][:0] + [(1, 10, 1, 0, 1)], *m(1)[1:]),
-                              'M', 1)])
+        self.refused(7, 0, [w(m(1, cls=1), 'M', 1)], blank_before=[1])
         self.refused(8, 0, [w(j([1, 1]), 'M', [1, 1])],
                      base_width=[10, 11])
 

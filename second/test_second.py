@@ -18,7 +18,8 @@ import unittest
 HERE = os.path.dirname(os.path.abspath(__file__))
 sys.path.insert(0, HERE)
 
-import compare      # noqa: E402  (found through the path set above)
+import ahead        # noqa: E402  (found through the path set above)
+import compare      # noqa: E402
 import generate     # noqa: E402
 import second       # noqa: E402
 from second import G, ONE_TWO_ONE, P, answer, set_job  # noqa: E402
@@ -1910,6 +1911,11 @@ def own_program(*arguments):
     return [sys.executable, '-B', os.path.join(HERE, 'second.py'), *arguments]
 
 
+def compared(seed, count):
+    """The sheets that compare.py takes by default."""
+    return compare.all_sheets('', seed, count, ahead.FORM_TWO)
+
+
 class Programs(Case):
 
     def test_one_sheet(self):
@@ -1971,7 +1977,7 @@ class Programs(Case):
             'import sys; sys.path.insert(0, %r); import second\n'
             'second.main([])' % HERE)]
         refused = sum(answer(text).startswith(b'refused')
-                      for text in generate.sheets(5, 12))
+                      for text in compared(5, 12))
         self.assertGreater(refused, 0)
         with tempfile.TemporaryDirectory() as folder, quiet():
             self.assertEqual(compare.compare(careless, folder, 5, 12,
@@ -1994,7 +2000,7 @@ class Programs(Case):
             ' second.write_frame(sys.stdout.buffer, b"answer",'
             ' b"refused 13 1\\n")' % HERE)]
         expected = sum(answer(text) != b'refused 13 1\n'
-                       for text in generate.sheets(5, 10))
+                       for text in compared(5, 10))
         with tempfile.TemporaryDirectory() as folder, quiet():
             self.assertEqual(compare.compare(wrong, folder, 5, 10),
                              (10, expected))

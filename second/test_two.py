@@ -388,6 +388,19 @@ class Converting(Case):
         self.converts(b'refused 2 3\n', changed(23, b'left 2049', bad))
         self.converts(b'refused 2 0\n', changed(11, b'base 1025', bad))
 
+    def test_a_long_sheet(self):
+        # The greatest counts with the longest rows: 992 P of class 5 and 32 M
+        # with 64 characters. Form two has 14 bytes more in its set section,
+        # the 7 of `left 0`, and 2 for each M.
+        one = (b'set 2\n4096\n4000000\nbase 1024\n'
+               + b'5 4096 2048 2048 1\n' * 992 + b'19 4096 0 0 1\n' * 32
+               + b'ruby 2048\n' + b'15 4096\n' * 2048
+               + b'elem 1024\n' + b'P\n' * 992 + b'M 64\n' * 32)
+        two = converted(one)
+        self.assertEqual(len(two), len(one) + 14 + 7 + 64)
+        self.assertLess(len(two), 45000)
+        self.converts(one, two)
+
     def test_the_job_is_the_same(self):
         for one, two in ((EXAMPLE, EXAMPLE_TWO),):
             first, other = read_sheet(one, True), read_sheet(two, True)
@@ -401,7 +414,9 @@ class Generated(unittest.TestCase):
 
     @classmethod
     def setUpClass(cls):
-        cls.sheets = list(generate_two.sheets(2, 900))
+        # Without the longest, which take long.
+        cls.sheets = [sheet for sheet in generate_two.sheets(2, 900)
+                      if len(sheet) <= 6000]
         cls.answers = [answer(sheet, True) for sheet in cls.sheets]
         cls.converted = list(map(converted, cls.sheets))
 
@@ -492,7 +507,10 @@ class Generated(unittest.TestCase):
                                  in second.TAKEN.items() for left in taken})
 
     def test_repeats_itself(self):
-        self.assertEqual(self.sheets[:50], list(generate_two.sheets(2, 50)))
+        first = list(generate_two.sheets(2, 50))
+        self.assertEqual(first, list(generate_two.sheets(2, 50)))
+        self.assertEqual(first[:20], list(generate_two.sheets(2, 20)))
+        self.assertNotEqual(first, list(generate_two.sheets(3, 50)))
 
 
 class Accounts(unittest.TestCase):

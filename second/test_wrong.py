@@ -3103,7 +3103,7 @@ class Found(unittest.TestCase):
     def setUpClass(cls):
         cls.sheets = list(generate.sheets(1, 1500))
         cls.answers = [second.answer(text) for text in cls.sheets]
-        cls.calls = [call for call, _ in generate_lists.calls(1, 1000)]
+        cls.calls = [call for call, _ in generate_lists.calls(1, 1000, False)]
         cls.results = [call.answered() for call in cls.calls]
 
     def shown_by(self, replacements):
