@@ -106,7 +106,8 @@ class Bytes(unittest.TestCase):
         calls = [call_of(SET, [[1], [2], [3]]),
                  call_of(SET, [[1, 2], [3] * 7, [4, 5]])]
         done = subprocess.run(
-            OWN + ['--no-left'], input=b''.join(call.to_bytes() for call in calls),
+            OWN + ['--no-left'],
+            input=b''.join(call.to_bytes() for call in calls),
             stdout=subprocess.PIPE, check=True)
         words = [12, 0] + words_of(calls[0], calls[0].results)
         words += [0, 1] + words_of(calls[1], [
