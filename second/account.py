@@ -1,6 +1,6 @@
 """Why each element of a set line stands no nearer the line's start.
 
-    python3 account.py < sheet    the account of a sheet as a text
+    python3 account.py [--forms] < sheet    the account of a sheet as a text
 
 account(sheet) gives a list for each line of the sheet's result.  It has a row
 for each element of the line, in order:
@@ -8,7 +8,9 @@ for each element of the line, in order:
     (element, block start, gap before the block, [(rule, other), ...])
 
 The element is its index in the job; one that is cut by a line end is an
-element of each of its lines.  The block start is its position in half units,
+element of each of its lines, and a J with a mono left reading has a row for
+each of its characters, each of them "an element to the clearance rules" (R-5).
+The block start is its position in half units,
 and the gap reaches back to the block before it, or to the line's start.  The
 list has every rule of clearance (document 01, level two) that breaks when the
 element is moved one half unit nearer the line's start and all elements before
@@ -35,27 +37,37 @@ import sys
 
 sys.path.insert(0, os.path.dirname(os.path.abspath(__file__)))
 
-import second       # noqa: E402  (found through the path set above)
+import ahead        # noqa: E402  (found through the path set above)
+import second       # noqa: E402
+from second import sound_job    # noqa: E402
 
 
 class Drawn:
-    """An element, or a part of a J, as it stands in a line.
+    """An element, a part or a character of a J, as it stands in a line.
 
-    Spans are (start, end) in half units.  The ruby is None for a P, and the
-    depths are those to which ruby may lie on it, 0 but for a P.
+    Spans are (start, end) in half units.  The ruby is the right reading; it
+    is None for a P, as left is where there is no left reading.  The depths
+    are those to which ruby may lie on it, 0 but for a P.
     """
 
-    def __init__(self, element, block, ruby, depth_before, depth_after):
+    def __init__(self, element, block, ruby, depth_before, depth_after,
+                 left=None):
         self.element = element
         self.block = block
         self.ruby = ruby
+        self.left = left
         self.depth_before = depth_before
         self.depth_after = depth_after
+
+    def rubies(self):
+        """The rubies that it has: (name, span), right before left."""
+        both = (('ruby', self.ruby), ('left ruby', self.left))
+        return [(name, span) for name, span in both if span is not None]
 
     def nearer(self):
         """The same, one half unit nearer the line's start."""
         return Drawn(self.element, moved(self.block), moved(self.ruby),
-                     self.depth_before, self.depth_after)
+                     self.depth_before, self.depth_after, moved(self.left))
 
 
 def moved(span):
@@ -79,30 +91,33 @@ def breaks_2(before, drawn, neighbours):
     # "2. Ruby keeps off every other element's block, except that it may lie
     # on the blank after the P element just before it ... or the blank before
     # the P element just after it", and in profile 1 "on a P element of class
-    # 15 or 16 just before or just after" (R-8).
+    # 15 or 16 just before or just after" (R-8).  "Clearance rule 2 holds for
+    # each ruby" (R-5).
     if not neighbours:
-        return ((drawn.ruby is not None
-                 and overlap(drawn.ruby, before.block))
-                or (before.ruby is not None
-                    and overlap(before.ruby, drawn.block)))
+        return (any(overlap(ruby, before.block)
+                    for _, ruby in drawn.rubies())
+                or any(overlap(ruby, drawn.block)
+                       for _, ruby in before.rubies()))
     # The depth is how far ruby reaches past the near edge of its neighbour.
-    return ((drawn.ruby is not None
-             and before.block[1] - drawn.ruby[0] > before.depth_after)
-            or (before.ruby is not None
-                and before.ruby[1] - drawn.block[0] > drawn.depth_before))
+    return (any(before.block[1] - ruby[0] > before.depth_after
+                for _, ruby in drawn.rubies())
+            or any(ruby[1] - drawn.block[0] > drawn.depth_before
+                   for _, ruby in before.rubies()))
 
 
 def breaks_3(before, drawn):
-    # "3. No two rubies overlap. Touching is allowed."
-    return (before.ruby is not None and drawn.ruby is not None
-            and overlap(before.ruby, drawn.ruby))
+    # "3. No two rubies overlap. Touching is allowed."  It holds "for rubies
+    # of one side" (R-5).
+    return any(name == other and overlap(one, two)
+               for name, one in before.rubies()
+               for other, two in drawn.rubies())
 
 
 def breaks_4(drawn):
     # "4. Nothing starts before the line's start ..."  What moves nearer ends
     # no later than it did, so the measure needs no look.
-    return drawn.block[0] < 0 or (drawn.ruby is not None
-                                  and drawn.ruby[0] < 0)
+    return drawn.block[0] < 0 or any(ruby[0] < 0
+                                     for _, ruby in drawn.rubies())
 
 
 def broken_rules(earlier, drawn):
@@ -126,50 +141,63 @@ def broken_rules(earlier, drawn):
 # What is drawn, and its account
 # ---------------------------------------------------------------------------
 
-def drawn_element(job, element, bases, rubies, base_out, ruby_out):
+def span_of(indices, positions, widths):
+    """From the start of the first character to the end of the last."""
+    if len(indices) == 0:
+        return None
+    first, last = indices[0], indices[-1]
+    return positions[first], positions[last] + 2 * widths[last]
+
+
+def drawn_element(job, number, bases, rubies, lefts, base_out, ruby_outs):
     """One element of a line from the positions of its characters."""
-    first, last = bases[0], bases[-1]
-    block = (base_out[first], base_out[last] + 2 * job.base_width[last])
-    if len(rubies) == 0:
-        return Drawn(element, block, None, second.depth_before(job, first),
-                     second.depth_after(job, first))
-    first, last = rubies[0], rubies[-1]
-    ruby = (ruby_out[first], ruby_out[last] + 2 * job.ruby_width[last])
-    return Drawn(element, block, ruby, 0, 0)
+    block = span_of(bases, base_out, job.base_width)
+    ruby = span_of(rubies, ruby_outs[second.RIGHT], job.ruby_width)
+    left = span_of(lefts, ruby_outs[second.LEFT], job.left_width)
+    if job.elements[number].kind != second.P:
+        return Drawn(number, block, ruby, 0, 0, left)
+    return Drawn(number, block, None, second.depth_before(job, bases[0]),
+                 second.depth_after(job, bases[0]))
 
 
-def sound_job(arguments):
-    """The job with its elements.
+def drawn_parts(job, owner, ends):
+    """(element, base, ruby, left indices) of what the rules see as elements.
 
-    Asked of jobs that are accepted or refused by number 11: their elements
-    have passed every check.
+    They are what is printed, but for a J with a mono left reading: "each [of
+    its characters] an element to the clearance rules" (R-5).
     """
-    job = second.Job(*arguments)
-    second.take_elements(job)
-    return job
+    for bases, rubies, lefts in second.printed_parts(job, ends):
+        number = owner[bases[0]]
+        element = job.elements[number]
+        if (element.kind, element.left_kind) != (second.J, second.M):
+            yield number, bases, rubies, lefts
+            continue
+        for index in bases:
+            readings = second.readings_of_part(job, element, index, index + 1)
+            yield (number, [index], *map(second.indices, readings))
 
 
-def drawn_lines(sheet):
+def drawn_lines(sheet, form_two=ahead.FORM_TWO):
     """The elements of each line, as the result of the sheet places them."""
-    return drawn_lines_of(second.read_sheet(sheet))
+    return drawn_lines_of(second.read_sheet(sheet, form_two))
 
 
 def drawn_lines_of(arguments):
-    """The same for a job that is given by its fifteen arguments."""
+    """The same for a job that is given by its sixteen arguments."""
     base_out = [0] * second.MOST_BASE
-    ruby_out = [0] * second.MOST_RUBY
+    ruby_outs = [0] * second.MOST_RUBY, [0] * second.MOST_LEFT
     line_out = [0] * second.MOST_BASE
-    result = second.set_job(*arguments, base_out, ruby_out, line_out)
+    result = second.set_job(*arguments, base_out, *ruby_outs, line_out)
     if result[0] == 'refused':
         raise second.Refused(result[1], result[2])
     job = sound_job(arguments)
-    owner = second.owners(job)
     ends = line_out[:result[1]]
     lines = [[] for _ in ends]
-    for bases, rubies in second.printed_parts(*arguments[11:], ends):
+    for number, bases, rubies, lefts in drawn_parts(job, second.owners(job),
+                                                    ends):
         line = sum(end <= bases[0] for end in ends)
-        lines[line].append(drawn_element(job, owner[bases[0]], bases, rubies,
-                                         base_out, ruby_out))
+        lines[line].append(drawn_element(job, number, bases, rubies, lefts,
+                                         base_out, ruby_outs))
     return lines
 
 
@@ -184,8 +212,8 @@ def line_account(line):
     return rows
 
 
-def account(sheet):
-    return [line_account(line) for line in drawn_lines(sheet)]
+def account(sheet, form_two=ahead.FORM_TWO):
+    return [line_account(line) for line in drawn_lines(sheet, form_two)]
 
 
 # ---------------------------------------------------------------------------
@@ -193,30 +221,43 @@ def account(sheet):
 # ---------------------------------------------------------------------------
 
 # lines has a list of Drawn for each line; elements counts those of the job,
-# and readings those of them that have ruby (M, G and J).
+# and readings the right ones (of M, G and J) and the left ones together.
 Clear = collections.namedtuple('Clear', 'lines elements readings')
 
 # needs is (extent, measure) in half units with number 11, else None.
 Refusal = collections.namedtuple('Refusal', 'number place needs')
 
 
-def verdict(sheet):
+def verdict(sheet, form_two=ahead.FORM_TWO):
     """Clear or Refusal."""
     try:
-        lines = drawn_lines(sheet)
+        arguments = second.read_sheet(sheet, form_two)
+    except second.Refused as refusal:
+        return Refusal(refusal.number, refusal.place, None)
+    return verdict_of(arguments)
+
+
+def verdict_of(arguments):
+    """The same for a job that is given by its sixteen arguments."""
+    try:
+        lines = drawn_lines_of(arguments)
     except second.Refused as refusal:
         needs = None
         if refusal.number == 11:
-            needs = needs_of_line(sheet, refusal.place)
+            needs = needs_of_line(arguments, refusal.place)
         return Refusal(refusal.number, refusal.place, needs)
-    elements = sound_job(second.read_sheet(sheet)).elements
-    readings = [element for element in elements if element.kind != second.P]
-    return Clear(lines, len(elements), len(readings))
+    elements = sound_job(arguments).elements
+    return Clear(lines, len(elements), sum(map(readings_of, elements)))
 
 
-def needs_of_line(sheet, first):
+def readings_of(element):
+    """How many readings an element has: 0, 1 or 2."""
+    return (element.kind != second.P) + (element.left_kind != second.N)
+
+
+def needs_of_line(arguments, first):
     """(least extent of a line that begins with first, the measure)"""
-    job = sound_job(second.read_sheet(sheet))
+    job = sound_job(arguments)
     return needed_extent(job, first), 2 * job.measure
 
 
@@ -224,15 +265,16 @@ def needed_extent(job, first):
     """The least extent of any line from base character first to a break.
 
     Every permitted break ahead counts.  A line is at least as long as its
-    base widths together (rule 1) and as its ruby widths together (rule 3),
-    and only a line that is shorter than the least so far matters; so it is
-    set within a measure that is one half unit less, and not at all if its
-    widths pass that already.
+    base widths together (rule 1) and as its ruby widths of one side together
+    (rule 3), and only a line that is shorter than the least so far matters;
+    so it is set within a measure that is one half unit less, and not at all
+    if its widths pass that already.
     """
     owner = second.owners(job)
     least = second.LARGEST_NUMBER + 1   # more than any extent
     for end in second.permitted_breaks(job):
-        if end <= first or least_by_widths(job, owner, first, end) >= least:
+        if end <= first or (
+                2 * second.least_by_widths(job, owner, first, end) >= least):
             continue
         words = second.words_of_line(job, owner, first, end)
         origins = second.least_setting(words, least - 1)
@@ -242,32 +284,25 @@ def needed_extent(job, first):
     return least
 
 
-def least_by_widths(job, owner, first, end):
-    ruby_first = second.ruby_before(job, owner, first)
-    ruby_end = second.ruby_before(job, owner, end)
-    return 2 * max(sum(job.base_width[first:end]),
-                   sum(job.ruby_width[ruby_first:ruby_end]))
-
-
 def extent(line):
     # "The line's extent is the furthest end of any block or ruby in it."
     return max([drawn.block[1] for drawn in line]
-               + [drawn.ruby[1] for drawn in line if drawn.ruby is not None])
+               + [ruby[1] for drawn in line for _, ruby in drawn.rubies()])
 
 
 # ---------------------------------------------------------------------------
 # The reasons: what an element touches where it stands
 # ---------------------------------------------------------------------------
 
-# mine is what touches, 'block' or 'ruby'; its is what is touched, 'start',
-# 'block' or 'ruby'.  other is the element whose block or ruby that is, None
-# with 'start'; depth is None but for rule 2.
+# mine is what touches, 'block', 'ruby' or 'left ruby'; its is what is touched,
+# 'start', 'block', 'ruby' or 'left ruby'.  other is the element whose block or
+# ruby that is, None with 'start'; depth is None but for rule 2.
 Reason = collections.namedtuple('Reason', 'rule mine its other depth')
 
 
 def reasons(earlier, drawn):
     """Every reason that holds, in the order in which one is named."""
-    block, ruby = drawn.block, drawn.ruby
+    block = drawn.block
     # The block stands at the line's start.
     if block[0] == 0:
         yield Reason(4, 'block', 'start', None, None)
@@ -276,21 +311,27 @@ def reasons(earlier, drawn):
         # The block touches the end of the block before.
         if before.block[1] == block[0]:
             yield Reason(1, 'block', 'block', before.element, None)
-        # The ruby before lies on the block as deep as it may.
-        if before.ruby and before.ruby[1] == block[0] + drawn.depth_before:
-            yield Reason(2, 'block', 'ruby', before.element,
-                         drawn.depth_before)
-        # The ruby lies on the block before as deep as it may.
-        if ruby and before.block[1] == ruby[0] + before.depth_after:
-            yield Reason(2, 'ruby', 'block', before.element,
-                         before.depth_after)
-    # The ruby touches the end of an earlier ruby; the nearest comes first.
-    for before in reversed(earlier):
-        if ruby and before.ruby and before.ruby[1] == ruby[0]:
-            yield Reason(3, 'ruby', 'ruby', before.element, None)
-    # The ruby stands at the line's start.
-    if ruby and ruby[0] == 0:
-        yield Reason(4, 'ruby', 'start', None, None)
+        # A ruby before lies on the block as deep as it may.
+        for its, ruby in before.rubies():
+            if ruby[1] == block[0] + drawn.depth_before:
+                yield Reason(2, 'block', its, before.element,
+                             drawn.depth_before)
+        # A ruby lies on the block before as deep as it may.
+        for mine, ruby in drawn.rubies():
+            if before.block[1] == ruby[0] + before.depth_after:
+                yield Reason(2, mine, 'block', before.element,
+                             before.depth_after)
+    # A ruby touches the end of an earlier ruby of its side; the nearest comes
+    # first.
+    for mine, ruby in drawn.rubies():
+        for before in reversed(earlier):
+            for its, other in before.rubies():
+                if its == mine and other[1] == ruby[0]:
+                    yield Reason(3, mine, its, before.element, None)
+    # A ruby stands at the line's start.
+    for mine, ruby in drawn.rubies():
+        if ruby[0] == 0:
+            yield Reason(4, mine, 'start', None, None)
 
 
 def line_reasons(line):
@@ -305,22 +346,25 @@ def line_reasons(line):
 
 ROW = 6     # numbers in a row
 
-# How a reason is told: BV_BY_START to BV_BY_EDGE.
+# How a reason is told: BV_BY_START to BV_BY_EDGE, and 4 more where the ruby is
+# a left one (R-5).
 TOLD = {(4, 'block', 'start'): 1, (1, 'block', 'block'): 2,
         (2, 'block', 'ruby'): 3, (2, 'ruby', 'block'): 4,
-        (3, 'ruby', 'ruby'): 5, (4, 'ruby', 'start'): 6}
+        (3, 'ruby', 'ruby'): 5, (4, 'ruby', 'start'): 6,
+        (2, 'block', 'left ruby'): 7, (2, 'left ruby', 'block'): 8,
+        (3, 'left ruby', 'left ruby'): 9, (4, 'left ruby', 'start'): 10}
 
 
 def account_job(em, measure, ratios, profile, base_class, base_width,
                 blank_before, blank_after, flag, ruby_class, ruby_width, kind,
-                elem_base, elem_ruby, runs, rows, told, extents):
+                elem_base, elem_ruby, runs, left, rows, told, extents):
     """('set', number of lines) or ('refused', number, place).
 
     The three result lists are written on success only.
     """
     arguments = (em, measure, ratios, profile, base_class, base_width,
                  blank_before, blank_after, flag, ruby_class, ruby_width, kind,
-                 elem_base, elem_ruby, runs)
+                 elem_base, elem_ruby, runs, left)
     job = second.Job(*arguments)
     try:
         # "The job is given, checked and refused as in bv_set_job", but for
@@ -376,9 +420,13 @@ def told_rows(line):
 # The text
 # ---------------------------------------------------------------------------
 
-def text(sheet):
+def text(sheet, form_two=ahead.FORM_TWO):
     """The account of a sheet, as bytes."""
-    found = verdict(sheet)
+    return text_of(verdict(sheet, form_two))
+
+
+def text_of(found):
+    """The account of a verdict, as bytes."""
     if isinstance(found, Refusal):
         rows = refusal_rows(found)
     else:
@@ -416,11 +464,13 @@ def reason_words(reason):
 
 def main(arguments):
     """The exit status."""
-    if arguments != []:
-        sys.exit('usage: account.py < sheet')
-    written = text(sys.stdin.buffer.read())
-    sys.stdout.buffer.write(written)
-    return second.status_of(written)
+    form_two = ahead.FORM_TWO
+    if arguments[:1] == ['--forms']:
+        form_two, arguments = True, arguments[1:]
+    if arguments not in ([], ['--framed']):
+        sys.exit('usage: account.py [--forms] [--framed] < sheet')
+    return second.answer_input(arguments,
+                               lambda sheet: text(sheet, form_two))
 
 
 if __name__ == '__main__':

@@ -1,11 +1,14 @@
 """Compares an engine with the second program, byte for byte.
 
     python3 compare.py --engine CMD --seed S --count N [--single]
+                       [--forms] [--convert]
 
 CMD reads framed sheets on standard input (`sheet LENGTH`, then the bytes) and
 writes for each of them `answer LENGTH` and the answer's bytes.  With --single
 CMD is run once for each sheet: the sheet's bytes in, the answer's bytes out,
 status 0, or 1 where the answer is a refusal.
+With --forms half of the sheets are of form two (R-6), and with --convert CMD
+is a converter, which gets sheets of both forms.
 Every sheet in kept/ is compared first, then the first N sheets of the seed.
 A sheet that shows a difference is printed with both answers and put into
 kept/, up to twenty of them in one run; the rest are counted.
@@ -25,7 +28,10 @@ import sys
 HERE = os.path.dirname(os.path.abspath(__file__))
 sys.path.insert(0, HERE)
 
-import generate     # noqa: E402  (found through the path set above)
+import ahead        # noqa: E402  (found through the path set above)
+import convert      # noqa: E402
+import generate     # noqa: E402
+import generate_two     # noqa: E402
 import second       # noqa: E402
 
 BATCH = 200     # sheets for one run of the engine
@@ -53,9 +59,14 @@ def keep(folder, sheet):
     return path
 
 
-def all_sheets(folder, seed, count):
+def all_sheets(folder, seed, count, form_two):
     yield from kept_sheets(folder)
-    yield from generate.sheets(seed, count)
+    yield from (generate_two if form_two else generate).sheets(seed, count)
+
+
+def setter(form_two):
+    """What the setting program is compared with."""
+    return lambda sheet: second.answer(sheet, form_two)
 
 
 def batches(sheets):
@@ -151,12 +162,17 @@ def show_difference(path, sheet, engine, expected):
           % (readable(sheet), readable(engine), readable(expected)))
 
 
-def compare(command, folder, seed, count, answers=engine_answers):
-    """(sheets compared, differences)"""
+def compare(command, folder, seed, count, answers=engine_answers,
+            form_two=ahead.FORM_TWO, answered=None):
+    """(sheets compared, differences)
+
+    answered gives the answer that is expected; None: the setting program's.
+    """
+    answered = answered or setter(form_two)
     compared = differences = 0
-    for batch in batches(all_sheets(folder, seed, count)):
+    for batch in batches(all_sheets(folder, seed, count, form_two)):
         for sheet, engine in zip(batch, answers(command, batch)):
-            expected = second.answer(sheet)
+            expected = answered(sheet)
             compared += 1
             if engine != expected:
                 differences += 1
@@ -172,11 +188,18 @@ def main():
     parser.add_argument('--seed', type=int, required=True)
     parser.add_argument('--count', type=int, required=True)
     parser.add_argument('--single', action='store_true')
+    parser.add_argument('--forms', action='store_true',
+                        default=ahead.FORM_TWO,
+                        help='sheets of form two among the others')
+    parser.add_argument('--convert', action='store_true',
+                        help='CMD is a converter')
     chosen = parser.parse_args()
     compared, differences = compare(
         shlex.split(chosen.engine), os.path.join(HERE, 'kept'),
         chosen.seed, chosen.count,
-        single_answers if chosen.single else engine_answers)
+        single_answers if chosen.single else engine_answers,
+        chosen.forms or chosen.convert,
+        convert.converted if chosen.convert else None)
     print('compared %d sheets, %d differences' % (compared, differences))
     sys.exit(0 if differences == 0 else 1)
 

@@ -1,12 +1,14 @@
 """Compares an account program with the second program's own account.
 
     python3 compare_account.py [--sheets N] [--seed S] [--program PATH]
-                               [--framed]
+                               [--framed] [--forms]
 
 The program reads a sheet on standard input and writes its account; it is run
 once for each sheet, and ends with status 0, or 1 where the sheet is refused.
-With --framed it takes many sheets in one run, as compare.py has it.  PATH is an executable (bin/account where none is given)
-or a command such as 'python3 second/account.py'.  Every sheet in kept/ goes
+With --framed it takes many sheets in one run, as compare.py has it.  With
+--forms half of the sheets are of form two (R-6).  PATH is an executable
+(bin/account where none is given) or a command such as 'python3
+second/account.py'.  Every sheet in kept/ goes
 through it first, then the first N sheets of the seed.  What it writes is read
 by the form of README.md, "The account", and every word of it is checked:
 
@@ -44,8 +46,10 @@ HERE = os.path.dirname(os.path.abspath(__file__))
 sys.path.insert(0, HERE)
 
 import account      # noqa: E402  (found through the path set above)
+import ahead        # noqa: E402
 import compare      # noqa: E402
 import generate     # noqa: E402
+import generate_two     # noqa: E402
 from account import Reason, Refusal  # noqa: E402
 
 PROGRAM = os.path.join(os.path.dirname(HERE), 'bin', 'account')
@@ -78,17 +82,26 @@ NEEDS = form(b'needs N measure N')
 LINE = form(b'line N')
 ELEMENT = b'element N at N gap N '
 
-# The six reasons: rule, what touches, what is touched, and the line.
+# The ten reasons in the order in which one is named, four of them of left
+# readings (R-5): rule, what touches, what is touched, and the line.
 REASONS = (
     (4, 'block', 'start', form(ELEMENT + b'rule 4 block touches start')),
     (1, 'block', 'block',
      form(ELEMENT + b'rule 1 block touches block of N')),
     (2, 'block', 'ruby',
      form(ELEMENT + b'rule 2 block touches ruby of N at depth N')),
+    (2, 'block', 'left ruby',
+     form(ELEMENT + b'rule 2 block touches left ruby of N at depth N')),
     (2, 'ruby', 'block',
      form(ELEMENT + b'rule 2 ruby touches block of N at depth N')),
+    (2, 'left ruby', 'block',
+     form(ELEMENT + b'rule 2 left ruby touches block of N at depth N')),
     (3, 'ruby', 'ruby', form(ELEMENT + b'rule 3 ruby touches ruby of N')),
+    (3, 'left ruby', 'left ruby',
+     form(ELEMENT + b'rule 3 left ruby touches left ruby of N')),
     (4, 'ruby', 'start', form(ELEMENT + b'rule 4 ruby touches start')),
+    (4, 'left ruby', 'start',
+     form(ELEMENT + b'rule 4 left ruby touches start')),
 )
 
 
@@ -227,10 +240,11 @@ def wrong_reason(place, reason, broken, earlier, drawn):
     if not touches(reason, earlier, drawn):
         yield ('%s: %s does not hold'
                % (place, account.reason_words(reason)))
-    first = ahead_of(reason, earlier, drawn)
-    if first is not None and touches(first, earlier, drawn):
-        yield '%s: %s, not %s' % (place, account.reason_words(reason),
-                                  account.reason_words(first))
+    for first in ahead_of(reason, earlier, drawn):
+        if touches(first, earlier, drawn):
+            yield '%s: %s, not %s' % (place, account.reason_words(reason),
+                                      account.reason_words(first))
+            return
 
 
 def first_rule(broken, drawn):
@@ -250,7 +264,8 @@ def wrong_depth(place, reason, before, drawn):
 
 
 def span(drawn, name):
-    return drawn.block if name == 'block' else drawn.ruby
+    return {'block': drawn.block, 'ruby': drawn.ruby,
+            'left ruby': drawn.left}[name]
 
 
 def touches(reason, earlier, drawn):
@@ -260,24 +275,34 @@ def touches(reason, earlier, drawn):
         return False
     if reason.its == 'start':
         return mine[0] == 0
-    its = [span(before, reason.its) for before in earlier
+    # Several characters of a J with a mono left reading have one index.
+    others = earlier if reason.rule == 3 else earlier[-1:]
+    its = [span(before, reason.its) for before in others
            if before.element == reason.other]
-    return (len(its) == 1 and its[0] is not None
-            and its[0][1] == mine[0] + (reason.depth or 0))
+    return any(other is not None
+               and other[1] == mine[0] + (reason.depth or 0) for other in its)
 
 
 def ahead_of(reason, earlier, drawn):
-    """The reason of the same rule that would be named ahead of this one.
+    """The reasons of the same rule that come ahead of this one.
 
-    Of rule 3 there is none: rubies are at least 1 wide and don't overlap, so
-    no two of a line end at one place.
+    Of one side's rule 3 there is one at most: rubies are at least 1 wide and
+    don't overlap, so no two of a side and a line end at one place.
     """
-    if (reason.rule, reason.mine) == (4, 'ruby'):
-        return Reason(4, 'block', 'start', None, None)
-    if (reason.rule, reason.mine) == (2, 'ruby'):
-        return Reason(2, 'block', 'ruby', earlier[-1].element,
-                      drawn.depth_before)
-    return None
+    for rule, mine, its, _ in REASONS:
+        if (mine, its) == (reason.mine, reason.its):
+            return
+        if rule != reason.rule:
+            continue
+        if rule == 4:
+            yield Reason(4, mine, its, None, None)
+        elif rule == 2:
+            yield Reason(2, mine, its, earlier[-1].element,
+                         drawn.depth_before if mine == 'block'
+                         else earlier[-1].depth_after)
+        else:
+            for before in earlier:
+                yield Reason(rule, mine, its, before.element, None)
 
 
 # ---------------------------------------------------------------------------
@@ -311,7 +336,8 @@ class Seen:
         refused = ', '.join('%d by %d' % (count, number) for number, count
                             in sorted(self.refused.items()))
         kinds = ', '.join('%s %d' % (name, self.kinds[name])
-                          for name in KINDS)
+                          for name in KINDS + LEFT_KINDS
+                          if name in KINDS or self.kinds[name])
         return ('seen: %d accepted; refused %s; %d lines, %d of them dense; '
                 'reasons %s' % (self.accepted, refused or 'none', self.lines,
                                 self.dense, kinds))
@@ -319,28 +345,32 @@ class Seen:
 
 KINDS = ('block-start', 'block-block', 'block-ruby', 'block-ruby-deep',
          'ruby-block', 'ruby-block-deep', 'ruby-ruby', 'ruby-start')
+LEFT_KINDS = ('block-left', 'block-left-deep', 'left-block',
+              'left-block-deep', 'left-left', 'left-start')
 
 
 def kind(reason):
     """What touches and what is touched; deep where the depth is not 0."""
-    return '%s-%s%s' % (reason.mine, reason.its,
-                        '-deep' if reason.depth else '')
+    words = '%s-%s%s' % (reason.mine, reason.its,
+                         '-deep' if reason.depth else '')
+    return words.replace('left ruby', 'left')
 
 
 # ---------------------------------------------------------------------------
 # The comparison
 # ---------------------------------------------------------------------------
 
-def all_sheets(folder, seed, count):
+def all_sheets(folder, seed, count, form_two):
     yield from compare.kept_sheets(folder)
-    yield from generate.account_sheets(seed, count)
+    yield from (generate_two if form_two else generate).account_sheets(
+        seed, count)
 
 
-def wrong_with_run(sheet, found, written, odd):
+def wrong_with_run(found, written, odd):
     """What is wrong with one run of the program."""
     wrong = ['the run: %s' % odd] if odd else []
     wrong += wrong_things(found, written)
-    if not wrong and written != account.text(sheet):
+    if not wrong and written != account.text_of(found):
         wrong.append('not the text that account.py writes')
     return wrong
 
@@ -368,13 +398,15 @@ def in_frames(command, sheets):
                 sheet, written, '')
 
 
-def compare_all(command, folder, seed, count, runs=one_by_one):
+def compare_all(command, folder, seed, count, runs=one_by_one,
+                form_two=ahead.FORM_TWO):
     """(what was seen, differences)"""
     seen, differences = Seen(), 0
-    for sheet, written, odd in runs(command, all_sheets(folder, seed, count)):
-        found = account.verdict(sheet)
+    for sheet, written, odd in runs(command, all_sheets(folder, seed, count,
+                                                        form_two)):
+        found = account.verdict(sheet, form_two)
         seen.add(found)
-        wrong = wrong_with_run(sheet, found, written, odd)
+        wrong = wrong_with_run(found, written, odd)
         if wrong:
             differences += 1
             if differences <= SHOWN:
@@ -393,6 +425,9 @@ def main():
     parser.add_argument('--seed', type=int, default=3)
     parser.add_argument('--program', default=PROGRAM)
     parser.add_argument('--framed', action='store_true')
+    parser.add_argument('--forms', action='store_true',
+                        default=ahead.FORM_TWO,
+                        help='sheets of form two among the others')
     parser.add_argument('--kept', default=os.path.join(HERE, 'kept'),
                         help='the folder of sheets that showed a difference')
     chosen = parser.parse_args()
@@ -401,7 +436,7 @@ def main():
         sys.exit('%s cannot be run' % chosen.program)
     seen, differences = compare_all(
         command, chosen.kept, chosen.seed, chosen.sheets,
-        in_frames if chosen.framed else one_by_one)
+        in_frames if chosen.framed else one_by_one, chosen.forms)
     print(seen.words())
     print('compared %d sheets, %d elements, %d differences'
           % (seen.sheets, seen.elements, differences))

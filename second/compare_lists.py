@@ -1,14 +1,16 @@
 """Compares calls on jobs in lists with the second program, list by list.
 
     python3 compare_lists.py --engine CMD --seed S --count N [--setting-only]
+                             [--left]
 
 CMD reads calls on standard input and answers them (README.md, "Jobs in
 lists"), as lists.c does, linked with an engine, and lists.py.  Each of the N
 jobs goes through bv_set_job and bv_account_job, with --setting-only through
-the first alone.  Compared are the answer and every word of the memory after
-the call: the result lists, which hold fresh numbers before it, in full; that a
-refusal alters none of them; that the lists which are read, and what stands
-around all of them, are as they were.
+the first alone.  With --left the jobs have the left lists of R-5.  Compared
+are the answer and every word of the memory after the call: the result lists,
+which hold fresh numbers before it, in full; that a refusal alters none of
+them; that the lists which are read, and what stands around all of them, are as
+they were.
 
 The last line is `compared N jobs, D differences`, and the line before says
 what was seen.  The exit status is 0 only if D is 0 and, with 4,000 jobs and
@@ -25,21 +27,22 @@ import sys
 HERE = os.path.dirname(os.path.abspath(__file__))
 sys.path.insert(0, HERE)
 
-import compare          # noqa: E402  (found through the path set above)
+import ahead            # noqa: E402  (found through the path set above)
+import compare          # noqa: E402
 import generate_lists   # noqa: E402
 import lists            # noqa: E402
+import second           # noqa: E402
 
 SHOWN = 5       # jobs with a difference that are printed
 WRONG = 8       # things that are printed of one such job
 ENOUGH = 4000   # jobs that have to show every refusal and every ratio
 
-# Every number of the refusal list that a job in lists can get.
+# Every number of the refusal list that a job in lists can get, and the one
+# that left lists add.
 REFUSALS = (1, 2, 3, 4, 5, 6, 7, 8, 9, 10, 11, 12, 15, 20)
+REFUSALS_WITH_LEFT = REFUSALS + (16,)
 PROFILES = (0, 1)
 NAMES = ('bv_set_job', 'bv_account_job')
-GIVEN = ('class', 'width', 'before', 'after', 'flag', 'rclass', 'rwidth',
-         'kind', 'ebase', 'eruby', 'runs')
-RESULTS = (('base', 'ruby', 'lines'), ('rows', 'told', 'extents'))
 
 
 # ---------------------------------------------------------------------------
@@ -91,9 +94,16 @@ def verdict_words(answer):
     return ' '.join(map(str, answer))
 
 
+def names_of(call):
+    """(names of the lists that are read, of the result lists)"""
+    given, results = lists.names(lists.has_left(call.given))
+    return given, results[call.which]
+
+
 def labels(call):
     """What each word of the memory is."""
-    names = ('ruby ratio', 'base ratio') + GIVEN + RESULTS[call.which]
+    given, results = names_of(call)
+    names = ('ruby ratio', 'base ratio') + given + results
     for name, length in zip(names, [3, 3] + call.lengths()):
         yield 'the word before %s' % name
         for place in range(length):
@@ -124,16 +134,31 @@ def show_difference(number, call, wrong):
     print('    em %d, measure %d, ratios %s and %s, profile %d' % (
         call.em, call.measure, *(':'.join(map(str, ratio))
                                  for ratio in call.ratios), call.profile))
-    for name, values in zip(GIVEN, call.given):
+    given, results = names_of(call)
+    for name, values in zip(given, call.given):
         print('    %s %r' % (name, values))
     print('    lengths of %s: %s' % (
-        ', '.join(RESULTS[call.which]),
+        ', '.join(results),
         ', '.join(str(len(values)) for values in call.results)))
 
 
 # ---------------------------------------------------------------------------
 # What was seen
 # ---------------------------------------------------------------------------
+
+# Every left kind that an element takes (R-5), by the element's kind.
+LEFT_KINDS = tuple((kind, left) for kind, taken in second.TAKEN.items()
+                   for left in taken if left != second.N)
+
+
+def left_kinds_of(call):
+    """(kind, left kind) of each element of an accepted job with a left one."""
+    *_, kinds, _, _, _, left = lists.job_lists(call.given)
+    if left is None:
+        return []
+    return [(kind, other) for kind, other in zip(kinds, left.left_kind)
+            if kind != second.P and other != second.N]
+
 
 class Seen:
     """Counts over the jobs and the second program's answers."""
@@ -142,11 +167,18 @@ class Seen:
         self.answers = collections.Counter()    # by number, 0 if accepted
         self.ratios = (set(), set())            # of ruby and of base
         self.profiles = collections.Counter()   # of accepted jobs
+        self.lefts = collections.Counter()      # left kinds in accepted jobs
+        self.refusals = REFUSALS                # those that have to be seen
+        self.left_kinds = ()                    # the same, (kind, left kind)
 
     def add(self, call, answer):
         self.answers[0 if answer[0] == 'set' else answer[1]] += 1
+        if lists.has_left(call.given):
+            self.refusals = REFUSALS_WITH_LEFT
+            self.left_kinds = LEFT_KINDS
         if answer[0] == 'set':
             self.profiles[call.profile] += 1
+            self.lefts.update(left_kinds_of(call))
         for side, ratio in zip(self.ratios, call.ratios):
             side.add(tuple(ratio))
 
@@ -156,16 +188,23 @@ class Seen:
     def words(self):
         refused = ', '.join('%d by %d' % (count, number) for number, count
                             in sorted(self.answers.items()) if number != 0)
+        lefts = ''.join(', %d %s on %s' % (self.lefts[both], chr(both[1]),
+                                           chr(both[0]))
+                        for both in self.left_kinds)
         return ('seen: %d accepted, %d of them by profile 1; refused %s; '
-                '%d ratios of ruby, %d of base'
+                '%d ratios of ruby, %d of base%s'
                 % (self.answers[0], self.profiles[1], refused or 'none',
-                   *map(len, self.ratios)))
+                   *map(len, self.ratios), lefts and '; left' + lefts[1:]))
 
     def missing(self):
         """What some thousands of jobs should have shown and did not."""
-        for number in REFUSALS:
+        for number in self.refusals:
             if self.answers[number] == 0:
                 yield 'no job refused by %d' % number
+        for kind, left in self.left_kinds:
+            if self.lefts[kind, left] == 0:
+                yield ('no accepted job with a left %s on %s'
+                       % (chr(left), chr(kind)))
         if self.answers[0] < self.jobs() // 4:
             yield '%d accepted of %d jobs' % (self.answers[0], self.jobs())
         for profile in PROFILES:
@@ -182,9 +221,9 @@ class Seen:
 # The comparison
 # ---------------------------------------------------------------------------
 
-def answered_jobs(command, seed, count, functions):
+def answered_jobs(command, seed, count, functions, left):
     """For each job its calls, each as (call, expected, what was found)."""
-    for batch in compare.batches(generate_lists.calls(seed, count)):
+    for batch in compare.batches(generate_lists.calls(seed, count, left)):
         batch = [both[:functions] for both in batch]
         found = iter(engine_answers(command, [call for calls in batch
                                               for call in calls]))
@@ -192,10 +231,11 @@ def answered_jobs(command, seed, count, functions):
             yield [(call, call.answered(), next(found)) for call in calls]
 
 
-def compare_all(command, seed, count, functions=len(NAMES)):
+def compare_all(command, seed, count, functions=len(NAMES),
+                left=ahead.LEFT_READINGS):
     """(what was seen, jobs with a difference)"""
     seen, differences = Seen(), 0
-    for job in answered_jobs(command, seed, count, functions):
+    for job in answered_jobs(command, seed, count, functions, left):
         call, (answer, _), _ = job[0]
         seen.add(call, answer)
         wrong = [each for each in job if each[1] != each[2]]
@@ -215,10 +255,13 @@ def main():
     parser.add_argument('--count', type=int, required=True)
     parser.add_argument('--setting-only', action='store_true',
                         help='an engine that has no bv_account_job')
+    parser.add_argument('--left', action='store_true',
+                        default=ahead.LEFT_READINGS,
+                        help='jobs with left readings')
     chosen = parser.parse_args()
     seen, differences = compare_all(
         shlex.split(chosen.engine), chosen.seed, chosen.count,
-        1 if chosen.setting_only else len(NAMES))
+        1 if chosen.setting_only else len(NAMES), chosen.left)
     missing = list(seen.missing()) if chosen.count >= ENOUGH else []
     for words in missing:
         print('missing: %s' % words)

@@ -4,6 +4,8 @@ The jobs are those of generated sheets, by ratios of every sort and by both
 profiles.  Some of them are altered: lists of unequal lengths, spare runs,
 counts that are not read, unknown kinds, counts over their maximum, result
 lists that are too short.  As in generate.py only randrange and choice are used.
+With left readings (R-5) every job goes through generate_left.py, which has
+what those bring.
 """
 
 import os
@@ -12,11 +14,13 @@ import sys
 
 sys.path.insert(0, os.path.dirname(os.path.abspath(__file__)))
 
-import generate     # noqa: E402  (found through the path set above)
+import ahead        # noqa: E402  (found through the path set above)
+import generate     # noqa: E402
+import generate_left    # noqa: E402
 import second       # noqa: E402
 from account import ROW  # noqa: E402
 from generate import TOO_BIG, clip, pick  # noqa: E402
-from lists import ACCOUNT, GIVEN, RESULTS, SET, Call  # noqa: E402
+from lists import ACCOUNT, SET, Call, with_left  # noqa: E402
 
 FRESH = 32768   # numbers from which the result lists are filled
 
@@ -207,7 +211,7 @@ def read_job(rng):
     """(em, measure, lists) of the next sheet that is a job."""
     while True:
         try:
-            em, measure, _, _, *given = second.read_sheet(some_sheet(rng))
+            em, measure, _, _, *given, _ = second.read_sheet(some_sheet(rng))
         except second.Refused:
             continue
         return em, measure, given
@@ -266,13 +270,13 @@ def count_of(given, group):
 
 
 def rooms(rng, needs, most, short):
-    """Lengths of three result lists; short: too little for one or more."""
+    """Lengths of the result lists; short: too little for one or more."""
     lengths = [clip(rng.choice((need, need, need + 1, need + 5, top)),
                     need, max(need, top))
                for need, top in zip(needs, most)]
     if short:
         for _ in range(rng.choice((1, 1, 1, 3))):
-            which = rng.randrange(RESULTS)
+            which = rng.randrange(len(needs))
             lengths[which] = max(0, rng.choice((
                 needs[which] - 1, needs[which] - 1, needs[which] // 2, 0)))
     return lengths
@@ -308,8 +312,23 @@ def some_job(rng, sides):
     return em, measure, ratios, profile, given, short
 
 
-def calls(seed, count):
-    """The first count jobs of a seed: (call of set_job, of account_job)."""
+def rooms_needed(given, left):
+    """What each function's result lists need at least, and what is most."""
+    base, ruby = count_of(given, 0), count_of(given, 1)
+    if left is None:
+        return ((SET, (base, ruby, base), (1024, 2048, 1024)),
+                (ACCOUNT, (ROW * base, base, base), (ROW * 1024, 1024, 1024)))
+    lefts = min(len(left.left_class), len(left.left_width))
+    return ((SET, (base, ruby, lefts, base), (1024, 2048, 2048, 1024)),
+            (ACCOUNT, (ROW * base, base, base, 0),
+             (ROW * 1024, 1024, 1024, 0)))
+
+
+def calls(seed, count, left=ahead.LEFT_READINGS):
+    """The first count jobs of a seed: (call of set_job, of account_job).
+
+    left: with the left lists of R-5.
+    """
     rng = random.Random(seed)
     sides = Ratios(rng), Ratios(rng)
     fresh = [rng.randrange(TOO_BIG + 1) for _ in range(FRESH)]
@@ -320,14 +339,17 @@ def calls(seed, count):
 
     for _ in range(count):
         em, measure, ratios, profile, given, short = some_job(rng, sides)
-        base, ruby = count_of(given, 0), count_of(given, 1)
+        lefts = None
+        if left:
+            em, measure, given, lefts = generate_left.with_left_readings(
+                rng, em, measure, given)
+            ratios = generate_left.some_ratios(rng, ratios)
         both = []
-        for which, needs, most in (
-                (SET, (base, ruby, base), (1024, 2048, 1024)),
-                (ACCOUNT, (ROW * base, base, base), (ROW * 1024, 1024, 1024))):
+        for which, needs, most in rooms_needed(given, lefts):
             results = [numbers(length)
                        for length in rooms(rng, needs, most, short)]
-            around = numbers(2 + GIVEN + RESULTS + 1)
-            both.append(Call(which, em, measure, ratios, profile, given,
+            read = with_left(given, lefts) if left else given
+            around = numbers(2 + len(read) + len(results) + 1)
+            both.append(Call(which, em, measure, ratios, profile, read,
                              results, around))
         yield tuple(both)

@@ -4,16 +4,25 @@ It reads a job sheet on standard input and writes what the setting program
 writes.  It states the rules of document 01 one by one and looks for nothing
 clever; it exists to be compared, byte for byte, with the proved engine.  A
 change of document 02 is in the place of the rule that it changes, under its
-number (R-1, R-4, R-8).
+number (R-1, R-4, R-5, R-6, R-8).
 
     python3 second.py < sheet              one sheet, one answer
     python3 second.py --framed < sheets    many sheets (see README.md)
+
+With --forms before that it reads sheets of form two too (R-6; README.md,
+"Ahead of the engine").
 
 Widths are whole units.  Positions are in half units.
 Section names in comments are those of document 01.
 """
 
+import collections
+import os
 import sys
+
+sys.path.insert(0, os.path.dirname(os.path.abspath(__file__)))
+
+import ahead        # noqa: E402  (found through the path set above)
 
 LARGEST_NUMBER = 4294967295
 LARGEST_SHEET = 65535
@@ -21,9 +30,16 @@ LARGEST_SHEET = 65535
 MOST_BASE = 1024
 MOST_RUBY = 2048
 MOST_ELEMENTS = 1024
+MOST_LEFT = 2048    # R-5: left characters "as for right ones"
 
 # How a kind is written in a list: the byte of the sheet's letter.
 P, M, G, J = 80, 77, 71, 74
+
+# R-5: a left kind is M, G or J, or N for none, written in the same way.
+N = 78
+
+# R-5: the two sides on which an element may have a reading.
+RIGHT, LEFT = 0, 1
 
 # R-4: "A job carries two ratios, one for spread ruby and one for spread base,
 # each of three numbers a, m, c".  This is the ratio of document 01, in both.
@@ -73,24 +89,39 @@ def may_have_blank_after(cls):
 # The job, as lists
 # ---------------------------------------------------------------------------
 
+# The lists of R-5: class and width of the left characters, left kind and left
+# count of the elements, left runs one after the other.
+Left = collections.namedtuple(
+    'Left', 'left_class left_width left_kind elem_left left_runs')
+
+
 class Element:
     """One element with the characters it takes, by index in the job."""
 
-    def __init__(self, kind, base_first, base_end, ruby_first, ruby_end, runs):
+    def __init__(self, kind, base_first, base_end, ruby_first, ruby_end, runs,
+                 left_kind, left_first, left_end, left_runs):
         self.kind = kind
         self.base_first = base_first    # its first base character
         self.base_end = base_end        # one past its last base character
         self.ruby_first = ruby_first
         self.ruby_end = ruby_end
         self.runs = runs                # J: ruby count of each base character
+        self.left_kind = left_kind
+        self.left_first = left_first
+        self.left_end = left_end
+        self.left_runs = left_runs      # left M or J on J: the same
 
 
 class Job:
-    """The lists of a job and, once they are known, its elements."""
+    """The lists of a job and, once they are known, its elements.
+
+    left is a Left; None where the job has no left lists at all, and then no
+    element has a left reading.
+    """
 
     def __init__(self, em, measure, ratios, profile, base_class, base_width,
                  blank_before, blank_after, flag, ruby_class, ruby_width,
-                 kind, elem_base, elem_ruby, runs):
+                 kind, elem_base, elem_ruby, runs, left=None):
         self.em = em
         self.measure = measure
         self.ratios = ratios        # (a, m, c) of the ruby and of the base
@@ -112,6 +143,18 @@ class Job:
                               len(blank_before), len(blank_after), len(flag))
         self.ruby_count = min(len(ruby_class), len(ruby_width))
         self.element_count = min(len(kind), len(elem_base), len(elem_ruby))
+        if left is None:
+            left = Left([], [], [N] * self.element_count,
+                        [0] * self.element_count, [])
+        self.left_class = left.left_class
+        self.left_width = left.left_width
+        self.left_kind = left.left_kind
+        self.elem_left = left.elem_left
+        self.left_runs = left.left_runs
+        # R-5: the left kind and the left count are fields of the element.
+        self.left_count = min(len(left.left_class), len(left.left_width))
+        self.element_count = min(self.element_count, len(left.left_kind),
+                                 len(left.elem_left))
         self.elements = []
         self.words = {}     # level one's answers, by element part
 
@@ -146,23 +189,29 @@ def check_profile(job):
 
 
 def check_counts(job):
-    # Refusal 2: "a count over its maximum"; 0 base, 1 ruby, 2 elements.
+    # Refusal 2: "a count over its maximum"; 0 base, 1 ruby, 2 elements; by
+    # R-5 "places 3 for the count" of left characters.
     if job.base_count > MOST_BASE:
         raise Refused(2, 0)
     if job.ruby_count > MOST_RUBY:
         raise Refused(2, 1)
     if job.element_count > MOST_ELEMENTS:
         raise Refused(2, 2)
+    if job.left_count > MOST_LEFT:
+        raise Refused(2, 3)
 
 
-def check_room(job, base_out, ruby_out, line_out):
+def check_room(job, base_out, ruby_out, left_out, line_out):
     # Refusal 12: "a result list too short: base list or line list below the
-    # base count, ruby list below the ruby count"; place 0.
+    # base count, ruby list below the ruby count"; place 0.  R-5: 12 holds
+    # "for left characters as for right ones".
     if len(base_out) < job.base_count:
         raise Refused(12, 0)
     if len(line_out) < job.base_count:
         raise Refused(12, 0)
     if len(ruby_out) < job.ruby_count:
+        raise Refused(12, 0)
+    if len(left_out) < job.left_count:
         raise Refused(12, 0)
 
 
@@ -178,6 +227,9 @@ def check_characters(job):
         check_blanks(job, index)
     for index in range(job.ruby_count):
         check_ruby_character(job, index)
+    # R-5: "as for right ones, right first".
+    for index in range(job.left_count):
+        check_left_character(job, index)
 
 
 def check_base_character(job, index):
@@ -198,6 +250,14 @@ def check_ruby_character(job, index):
         raise Refused(3, 1024 + index)
 
 
+def check_left_character(job, index):
+    # R-5: 3 for a left character, place "3,072 + index".
+    if not is_accepted(job.left_class[index]):
+        raise Refused(3, 3072 + index)
+    if not 1 <= job.left_width[index] <= 4096:
+        raise Refused(3, 3072 + index)
+
+
 def check_blanks(job, index):
     # Refusal 4: "blanks against the class or over the width".
     cls = job.base_class[index]
@@ -213,22 +273,29 @@ def check_blanks(job, index):
 
 
 # ---------------------------------------------------------------------------
-# Refusals 5 to 10
+# Refusals 5 to 10, and 16
 # ---------------------------------------------------------------------------
 
 def take_elements(job):
     # Order: "then elements in turn, in the table's order from 5; then
-    # leftover characters".
-    base_taken = ruby_taken = runs_taken = 0
+    # leftover characters".  R-5: 5 "for left characters as for right ones,
+    # right first", and 16 "after 5".
+    base_taken = ruby_taken = runs_taken = left_taken = left_runs_taken = 0
     for place in range(job.element_count):
         base, ruby, runs = element_counts(job, place, runs_taken)
+        left, left_runs = left_counts(job, place, base, left_runs_taken)
+        check_left_kind(job, place)
         # Refusal 6: "characters run out"; place the element.
         if base_taken + base > job.base_count:
             raise Refused(6, place)
         if ruby_taken + ruby > job.ruby_count:
             raise Refused(6, place)
+        if left_taken + left > job.left_count:
+            raise Refused(6, place)
         element = Element(job.kind[place], base_taken, base_taken + base,
-                          ruby_taken, ruby_taken + ruby, runs)
+                          ruby_taken, ruby_taken + ruby, runs,
+                          job.left_kind[place], left_taken, left_taken + left,
+                          left_runs)
         check_blanks_inside(job, element, place)
         check_jukugo_base(job, element, place)
         check_mixture(job, element, place)
@@ -237,8 +304,12 @@ def take_elements(job):
         base_taken = element.base_end
         ruby_taken = element.ruby_end
         runs_taken += len(runs)
+        left_taken = element.left_end
+        left_runs_taken += len(left_runs)
     # Refusal 6: "or some are left over"; place "the element count".
     if base_taken < job.base_count or ruby_taken < job.ruby_count:
+        raise Refused(6, job.element_count)
+    if left_taken < job.left_count:
         raise Refused(6, job.element_count)
 
 
@@ -267,7 +338,7 @@ def element_counts(job, place, runs_taken):
         # ruby character, 64 in all at most."
         if not 1 <= job.elem_base[place] <= 32:
             raise Refused(5, place)
-        runs = [run_at(job, runs_taken + i)
+        runs = [run_at(job.runs, runs_taken + i)
                 for i in range(job.elem_base[place])]
         if 0 in runs or sum(runs) > 64:
             raise Refused(5, place)
@@ -275,9 +346,42 @@ def element_counts(job, place, runs_taken):
     raise Refused(5, place)
 
 
-def run_at(job, index):
+def run_at(runs, index):
     # The job: "a J run past the end of its list reads as 0".
-    return job.runs[index] if index < len(job.runs) else 0
+    return runs[index] if index < len(runs) else 0
+
+
+def left_counts(job, place, base, runs_taken):
+    # R-5: 5 holds "for left characters as for right ones": an unknown left
+    # kind, or left counts out of range, whether or not the element takes the
+    # kind.  A G has one count, and an M on an M; an M or a J on any other
+    # element has a run for each base character, read as J runs are.  With N,
+    # and on a P, nothing is read.
+    kind = job.left_kind[place]
+    if kind not in (M, G, J, N):
+        raise Refused(5, place)
+    if kind == N or job.kind[place] == P:
+        return 0, []
+    if kind == G or (kind == M and job.kind[place] == M):
+        if not 1 <= job.elem_left[place] <= 64:
+            raise Refused(5, place)
+        return job.elem_left[place], []
+    runs = [run_at(job.left_runs, runs_taken + i) for i in range(base)]
+    if 0 in runs or sum(runs) > 64:
+        raise Refused(5, place)
+    return sum(runs), runs
+
+
+# R-5: "A left reading is mono on M, group on G, and mono, jukugo or group on
+# J."
+TAKEN = {P: (N,), M: (N, M), G: (N, G), J: (N, M, J, G)}
+
+
+def check_left_kind(job, place):
+    # R-5: "16, a left kind its element doesn't take, place the element, after
+    # 5".
+    if job.left_kind[place] not in TAKEN[job.kind[place]]:
+        raise Refused(16, place)
 
 
 def check_blanks_inside(job, element, place):
@@ -303,12 +407,14 @@ def check_jukugo_base(job, element, place):
 
 def check_mixture(job, element, place):
     # Refusal 9: "class 26, or Western and kana-like mixed, within the base
-    # or the ruby of G or J".
+    # or the ruby of G or J".  R-5: "9 and 10 likewise", so within the left
+    # characters of G or J too, whatever the left kind.
     if element.kind not in (G, J):
         return
     base = job.base_class[element.base_first:element.base_end]
     ruby = job.ruby_class[element.ruby_first:element.ruby_end]
-    for classes in (base, ruby):
+    left = job.left_class[element.left_first:element.left_end]
+    for classes in (base, ruby, left):
         if 26 in classes:
             raise Refused(9, place)
         if any(map(is_western, classes)) and any(map(is_kana_like, classes)):
@@ -317,11 +423,16 @@ def check_mixture(job, element, place):
 
 def check_western_over_western(job, element, place):
     # Refusal 10: "Western ruby over Western base in G, at any lengths".
-    # Neither string is mixed here, so its first character speaks for it.
+    # No string is mixed here, so its first character speaks for it.  R-5: "9
+    # and 10 likewise".
     if element.kind != G:
         return
     if (is_western(job.base_class[element.base_first])
             and is_western(job.ruby_class[element.ruby_first])):
+        raise Refused(10, place)
+    if (element.left_kind != N
+            and is_western(job.base_class[element.base_first])
+            and is_western(job.left_class[element.left_first])):
         raise Refused(10, place)
 
 
@@ -329,7 +440,8 @@ def check_western_over_western(job, element, place):
 # Level one: the word alone
 # ---------------------------------------------------------------------------
 # Every function here gives (base positions, ruby positions) in half units,
-# counted from the start of the longer string.
+# counted from the start of the longer string; with two readings (base, right,
+# left), counted from the start of the longest.
 
 def one_after_another(start, widths):
     # No space within the string: each starts where the one before it ends.
@@ -463,28 +575,111 @@ def cut_into_runs(runs, ruby_widths):
     return pieces
 
 
-class Word:
-    """An element, or a part of a J, set within itself; only whole words move.
+def set_mono_with_mono(base_widths, right_widths, left_widths):
+    # R-5: "Mono with mono is solid and centred on both sides": each of the
+    # three strings is centred on the longest, and starts at the difference in
+    # half units, as the shorter of two does.
+    strings = base_widths, right_widths, left_widths
+    longest = max(map(sum, strings))
+    return tuple(one_after_another(longest - sum(widths), widths)
+                 for widths in strings)
 
-    Everything is counted from the word's origin, the start of its longer
-    string.  A P has no ruby and tells how deep ruby may lie on it.
+
+def set_two_groups(em, ratios, base_western, base_widths, right, left):
+    """right and left are Readings."""
+    def group(widths, reading):
+        return set_group(em, ratios, base_western, widths,
+                         reading.western, reading.widths)
+
+    right_sum, left_sum = sum(right.widths), sum(left.widths)
+    if max(right_sum, left_sum) <= sum(base_widths):
+        # R-5: "if neither reading is longer than the base, each is set as a
+        # group alone."  Positions count from the base in both.
+        base_positions, right_positions = group(base_widths, right)
+        _, left_positions = group(base_widths, left)
+    elif right_sum >= left_sum:
+        # "Otherwise the longer reading (right, if equal) is set with the base
+        # by document 01, and the other is then set as a shorter or equal ruby
+        # over a base of the longer one's length and the base's own kind."
+        base_positions, right_positions = group(base_widths, right)
+        _, left_positions = group([right_sum], left)
+    else:
+        base_positions, left_positions = group(base_widths, left)
+        _, right_positions = group([left_sum], right)
+    return base_positions, right_positions, left_positions
+
+
+class Reading:
+    """The reading of a word on one side, before it is set."""
+
+    def __init__(self, first, widths, runs, western):
+        self.first = first      # its first character, by index in the job
+        self.widths = widths
+        self.runs = runs        # how many of them each base character has
+        self.western = western  # of its first character, if it is not mixed
+
+
+def reading_of_part(classes, widths, first, end, runs, skipped, count):
+    """What a part of an element has of the element's reading on one side.
+
+    The reading has characters first..end-1.  The part has `count` base
+    characters, behind `skipped` others of its element.
+    """
+    if runs:
+        first += sum(runs[:skipped])
+        runs = runs[skipped:skipped + count]
+        end = first + sum(runs)
+    return Reading(first, widths[first:end], runs, is_western(classes[first]))
+
+
+def readings_of_part(job, element, first, end):
+    """(right, left) of base characters first..end-1; None where there is none.
+    """
+    part = first - element.base_first, end - first
+    right = left = None
+    if element.kind != P:
+        right = reading_of_part(job.ruby_class, job.ruby_width,
+                                element.ruby_first, element.ruby_end,
+                                element.runs, *part)
+    if element.left_kind != N:
+        left = reading_of_part(job.left_class, job.left_width,
+                               element.left_first, element.left_end,
+                               element.left_runs, *part)
+    return right, left
+
+
+class Ruby:
+    """A reading that is set: its span and its characters in the word."""
+
+    def __init__(self, reading, positions):
+        self.first = reading.first
+        self.positions = positions
+        self.start = positions[0]
+        self.end = positions[-1] + 2 * reading.widths[-1]
+
+
+class Word:
+    """What moves as a whole, set within itself.
+
+    It is an element, a part of a J that is cut, or one character of a J with
+    a mono left reading.  Everything is counted from the word's origin, the
+    start of its longest string.  A P has no ruby and tells how deep ruby may
+    lie on it.
     """
 
-    def __init__(self, base_first, base_positions, block_end,
-                 ruby_first, ruby_positions, ruby_end):
+    def __init__(self, base_first, base_positions, block_end, right, left):
         self.base_first = base_first
         self.base_positions = base_positions
         # "The base block runs from the start of the first base character to
         # the end of the last."
         self.block_start = base_positions[0]
         self.block_end = block_end
-        self.ruby_first = ruby_first
-        self.ruby_positions = ruby_positions
-        self.has_ruby = len(ruby_positions) > 0
-        self.ruby_start = ruby_positions[0] if self.has_ruby else None
-        self.ruby_end = ruby_end
-        # The furthest end of its block or ruby.
-        self.end = max(block_end, ruby_end) if self.has_ruby else block_end
+        self.rubies = right, left       # by side; None where there is none
+        self.sides = [side for side in (RIGHT, LEFT)
+                      if self.rubies[side] is not None]
+        # The furthest end of its block or its rubies.
+        self.end = max([block_end] + [self.rubies[side].end
+                                      for side in self.sides])
         # Only a P lets ruby onto itself; see plain_word.
         self.depth_before = 0
         self.depth_after = 0
@@ -508,7 +703,7 @@ def word_of_part(job, number, first, end):
 def plain_word(job, index):
     # Level two: "A P element is its own block."
     width = job.base_width[index]
-    word = Word(index, [0], 2 * width, 0, [], None)
+    word = Word(index, [0], 2 * width, None, None)
     word.depth_before = depth_before(job, index)
     word.depth_after = depth_after(job, index)
     return word
@@ -516,30 +711,71 @@ def plain_word(job, index):
 
 def ruby_word(job, element, first, end):
     base_widths = job.base_width[first:end]
-    runs = element.runs[first - element.base_first:end - element.base_first]
-    ruby_first, ruby_end = element.ruby_first, element.ruby_end
-    if element.kind == J:
-        ruby_first += sum(element.runs[:first - element.base_first])
-        ruby_end = ruby_first + sum(runs)
-    ruby_widths = job.ruby_width[ruby_first:ruby_end]
-    ruby_western = is_western(job.ruby_class[ruby_first])
+    right, left = readings_of_part(job, element, first, end)
+    if left is None:
+        base, ruby = set_one_reading(job, element, first, end, right)
+        left_ruby = None
+    else:
+        base, ruby, positions = set_two_readings(job, element, first, end,
+                                                 right, left)
+        left_ruby = Ruby(left, positions)
+    return Word(first, base, base[-1] + 2 * base_widths[-1],
+                Ruby(right, ruby), left_ruby)
+
+
+def set_one_reading(job, element, first, end, right):
+    base_widths = job.base_width[first:end]
     if element.kind == M:
-        base, ruby = set_mono(base_widths, ruby_widths)
-    elif element.kind == G:
+        return set_mono(base_widths, right.widths)
+    if element.kind == G:
         base_western = is_western(job.base_class[first])
-        base, ruby = set_group(job.em, job.ratios, base_western, base_widths,
-                               ruby_western, ruby_widths)
-    elif is_cut(element, first, end) and end - first == 1:
+        return set_group(job.em, job.ratios, base_western, base_widths,
+                         right.western, right.widths)
+    if is_cut(element, first, end) and end - first == 1:
         # "A J cut by a line end is two words: a part of one character is
         # set as M, a part of more as J."  A J of one character that is not
         # cut is no part: with a run over one em it is set as G, and R-4's
         # base ratio decides.
-        base, ruby = set_mono(base_widths, ruby_widths)
-    else:
-        base, ruby = set_jukugo(job.em, job.ratios, base_widths, runs,
-                                ruby_western, ruby_widths)
-    return Word(first, base, base[-1] + 2 * base_widths[-1],
-                ruby_first, ruby, ruby[-1] + 2 * ruby_widths[-1])
+        return set_mono(base_widths, right.widths)
+    return set_jukugo(job.em, job.ratios, base_widths, right.runs,
+                      right.western, right.widths)
+
+
+def set_two_readings(job, element, first, end, right, left):
+    base_widths = job.base_width[first:end]
+    if element.left_kind == M:
+        # R-5: "Mono with mono"; "a J with a mono left reading is set as one
+        # such M for each character", and this is one of them.
+        return set_mono_with_mono(base_widths, right.widths, left.widths)
+    if is_group_on_both_sides(job, element):
+        base_western = is_western(job.base_class[first])
+        return set_two_groups(job.em, job.ratios, base_western, base_widths,
+                              right, left)
+    # A J with a left J and no run longer than one em on either side: "each
+    # run is solid over its own character".  So it is in a part of one
+    # character set as M.
+    base, ruby = set_jukugo(job.em, job.ratios, base_widths, right.runs,
+                            right.western, right.widths)
+    _, other = set_jukugo(job.em, job.ratios, base_widths, left.runs,
+                          left.western, left.widths)
+    return base, ruby, other
+
+
+def is_group_on_both_sides(job, element):
+    # R-5: "Two groups"; "A J with a left G, or with a left J and a run longer
+    # than one em on either side, is taken as group on both sides".  Judged on
+    # the whole J.
+    if element.left_kind == G:
+        return True
+    if element.left_kind != J:
+        return False
+    return any(has_long_run(job.em, reading) for reading in readings_of_part(
+        job, element, element.base_first, element.base_end))
+
+
+def has_long_run(em, reading):
+    return any(sum(widths) > em
+               for widths in cut_into_runs(reading.runs, reading.widths))
 
 
 def is_cut(element, first, end):
@@ -615,34 +851,37 @@ def depth_before(job, index):
 # The rules speak of two words of one line.  Each function below says how far
 # the later word has to be raised for the pair to keep the rule; 0 or less
 # means that the rule is kept.  earlier_at and later_at are their origins.
+# R-5: "Clearance rule 2 holds for each ruby, rule 3 for rubies of one side":
+# side is the side of the ruby, or of both rubies.
 
 def broken_1(earlier, earlier_at, later, later_at):
     # "1. Each block starts at or after the end of the block before it."
     return (earlier_at + earlier.block_end) - (later_at + later.block_start)
 
 
-def broken_2_forward(earlier, earlier_at, later, later_at, neighbours):
+def broken_2_forward(earlier, earlier_at, later, later_at, neighbours, side):
     # "2. Ruby keeps off every other element's block, except that it may lie
     # on ... the blank before the P element just after it", or on the kana just
     # after it (R-8).  Depth is how far the ruby reaches past the near edge of
     # the P.
     depth = later.depth_before if neighbours else 0
-    return ((earlier_at + earlier.ruby_end)
+    return ((earlier_at + earlier.rubies[side].end)
             - (later_at + later.block_start + depth))
 
 
-def broken_2_backward(earlier, earlier_at, later, later_at, neighbours):
+def broken_2_backward(earlier, earlier_at, later, later_at, neighbours, side):
     # "2. Ruby keeps off every other element's block, except that it may lie
     # on the blank after the P element just before it", or on the kana just
     # before it (R-8).
     depth = earlier.depth_after if neighbours else 0
     return ((earlier_at + earlier.block_end - depth)
-            - (later_at + later.ruby_start))
+            - (later_at + later.rubies[side].start))
 
 
-def broken_3(earlier, earlier_at, later, later_at):
+def broken_3(earlier, earlier_at, later, later_at, side):
     # "3. No two rubies overlap. Touching is allowed."
-    return (earlier_at + earlier.ruby_end) - (later_at + later.ruby_start)
+    return ((earlier_at + earlier.rubies[side].end)
+            - (later_at + later.rubies[side].start))
 
 
 def broken_4(word, at, limit):
@@ -654,16 +893,20 @@ def broken_4(word, at, limit):
 
 def broken_between(earlier, earlier_at, later, later_at, neighbours):
     """How far the later word has to be raised because of the earlier one."""
+    if earlier_at + earlier.end <= later_at:
+        # All of it ends before anything of the later word begins: no rule is
+        # broken.  This only answers early what the rules answer.
+        return 0
     amount = broken_1(earlier, earlier_at, later, later_at)
-    if earlier.has_ruby:
+    for side in earlier.sides:
         amount = max(amount, broken_2_forward(
-            earlier, earlier_at, later, later_at, neighbours))
-    if later.has_ruby:
+            earlier, earlier_at, later, later_at, neighbours, side))
+    for side in later.sides:
         amount = max(amount, broken_2_backward(
-            earlier, earlier_at, later, later_at, neighbours))
-    if earlier.has_ruby and later.has_ruby:
-        amount = max(amount, broken_3(
-            earlier, earlier_at, later, later_at))
+            earlier, earlier_at, later, later_at, neighbours, side))
+        if side in earlier.sides:
+            amount = max(amount, broken_3(
+                earlier, earlier_at, later, later_at, side))
     return amount
 
 
@@ -717,11 +960,17 @@ def permitted_breaks(job):
     # A break is given as the count of base characters before it.
     breaks = []
     for element in job.elements:
-        if element.kind == J:
+        if may_be_cut(job, element):
             breaks += range(element.base_first + 1, element.base_end)
         if job.flag[element.base_end - 1] == 1 or element is job.elements[-1]:
             breaks.append(element.base_end)
     return breaks
+
+
+def may_be_cut(job, element):
+    # R-5: a J "taken as group on both sides ... isn't cut; every other J is
+    # cut as in document 01."
+    return element.kind == J and not is_group_on_both_sides(job, element)
 
 
 def owners(job):
@@ -734,34 +983,53 @@ def words_of_line(job, owner, first, end):
     """The words of the line holding base characters first..end-1."""
     words = []
     while first < end:
-        part_end = min(end, job.elements[owner[first]].base_end)
+        part_end = min(end, end_of_word(job.elements[owner[first]], first))
         words.append(word_of_part(job, owner[first], first, part_end))
         first = part_end
     return words
 
 
-def ruby_before(job, owner, index):
-    """How many ruby characters belong to base characters before this one.
+def end_of_word(element, first):
+    """One past the last base character of the word that begins with first."""
+    # R-5: "a J with a mono left reading is set as one such M for each
+    # character, each an element to the clearance rules".
+    if element.kind == J and element.left_kind == M:
+        return first + 1
+    return element.base_end
+
+
+def readings_before(job, owner, index):
+    """How many ruby and left characters belong to earlier base characters.
 
     Asked only where a line may begin or end.
     """
     if index == job.base_count:
-        return job.ruby_count
+        return job.ruby_count, job.left_count
     element = job.elements[owner[index]]
-    return element.ruby_first + sum(element.runs[:index - element.base_first])
+    skipped = index - element.base_first
+    return (element.ruby_first + sum(element.runs[:skipped]),
+            element.left_first + sum(element.left_runs[:skipped]))
+
+
+def least_by_widths(job, owner, first, end):
+    """The greatest of the widths of base, ruby and left characters.
+
+    Blocks don't overlap (rule 1) and hold their characters side by side, nor
+    do rubies of one side overlap (rule 3); so no line is shorter.
+    """
+    ruby_first, left_first = readings_before(job, owner, first)
+    ruby_end, left_end = readings_before(job, owner, end)
+    return max(sum(job.base_width[first:end]),
+               sum(job.ruby_width[ruby_first:ruby_end]),
+               sum(job.left_width[left_first:left_end]))
 
 
 def plainly_too_long(job, owner, first, end):
-    # Blocks don't overlap (rule 1) and hold their characters side by side,
-    # nor do rubies overlap (rule 3); nothing starts before the line's start
-    # or ends after the measure (rule 4).  So a line with more base width, or
-    # more ruby width, than the measure cannot be set.  This only answers
-    # early what least_setting would answer late.
+    # Nothing starts before the line's start or ends after the measure (rule
+    # 4).  This only answers early what least_setting would answer late.
     if sum(job.base_width[first:end]) > job.measure:
         return True
-    ruby_first = ruby_before(job, owner, first)
-    ruby_end = ruby_before(job, owner, end)
-    return sum(job.ruby_width[ruby_first:ruby_end]) > job.measure
+    return least_by_widths(job, owner, first, end) > job.measure
 
 
 def try_line(job, owner, first, end):
@@ -809,14 +1077,16 @@ def fill_lines(job):
 
 def set_job(em, measure, ratios, profile, base_class, base_width,
             blank_before, blank_after, flag, ruby_class, ruby_width, kind,
-            elem_base, elem_ruby, runs, base_out, ruby_out, line_out):
+            elem_base, elem_ruby, runs, left, base_out, ruby_out, left_out,
+            line_out):
     """('set', number of lines) or ('refused', number, place).
 
-    The three result lists are written on success only.
+    left is a Left, or None in a job without left lists.  The four result lists
+    are written on success only.
     """
     job = Job(em, measure, ratios, profile, base_class, base_width,
               blank_before, blank_after, flag, ruby_class, ruby_width, kind,
-              elem_base, elem_ruby, runs)
+              elem_base, elem_ruby, runs, left)
     try:
         # Order: "1, 2 and 12, each by lowest place; then base characters and
         # then ruby characters in turn, 3 before 4; then elements in turn, in
@@ -826,29 +1096,32 @@ def set_job(em, measure, ratios, profile, base_class, base_width,
         check_ratios(job)
         check_profile(job)
         check_counts(job)
-        check_room(job, base_out, ruby_out, line_out)
+        check_room(job, base_out, ruby_out, left_out, line_out)
         check_characters(job)
         take_elements(job)
         lines = fill_lines(job)
     except Refused as refusal:
         # "None of them is altered by a refusal."
         return ('refused', refusal.number, refusal.place)
-    write_results(lines, base_out, ruby_out, line_out)
+    write_results(lines, base_out, (ruby_out, left_out), line_out)
     # "Success returns the number of lines."
     return ('set', len(lines))
 
 
-def write_results(lines, base_out, ruby_out, line_out):
+def write_results(lines, base_out, ruby_outs, line_out):
     # Refusal list: "a position for each base character, one for each ruby
     # character, and for each line the count of base characters up to its
-    # end. ... On success, entries past those used stay as they were."
+    # end. ... On success, entries past those used stay as they were."  R-5:
+    # "left positions a result list of their own"; ruby_outs is by side.
     for number, (end, words, origins) in enumerate(lines):
         line_out[number] = end
         for word, origin in zip(words, origins):
             for i, position in enumerate(word.base_positions):
                 base_out[word.base_first + i] = origin + position
-            for i, position in enumerate(word.ruby_positions):
-                ruby_out[word.ruby_first + i] = origin + position
+            for side in word.sides:
+                ruby = word.rubies[side]
+                for i, position in enumerate(ruby.positions):
+                    ruby_outs[side][ruby.first + i] = origin + position
 
 
 # ---------------------------------------------------------------------------
@@ -915,32 +1188,58 @@ class Reader:
             raise self.fault()
 
 
-def read_sheet(sheet):
-    """The fifteen arguments of a job (em to runs), or Refused.
+def read_sheet(sheet, form_two=ahead.FORM_TWO):
+    """The sixteen arguments of a job (em to left), or Refused.
 
-    A sheet of this form has no ratios: they are document 01's.  Nor has it a
-    profile: "Profile 0 is document 01 with R-1" (R-8).
+    form_two: sheets of form two are read as well.
     """
     # "over-length comes before both"; place "0 if over 65,535 bytes".
     if len(sheet) > LARGEST_SHEET:
         raise Refused(13, 0)
     reader = Reader(sheet)
-    em, measure = read_set(reader)
+    # The first line tells the form: "`set 2`" (document 01), or "Form two
+    # begins with `set 9`" (R-6).
+    form = reader.fields()
+    if form == [b'set', b'2']:
+        arguments = read_form_one(reader)
+    elif form == [b'set', b'9'] and form_two:
+        arguments = read_form_two(reader)
+    else:
+        raise reader.fault()
+    reader.nothing_after()
+    return arguments
+
+
+def read_form_one(reader):
+    # A sheet of form one has no ratios: they are document 01's.  Nor has it a
+    # profile: "Profile 0 is document 01 with R-1" (R-8).  Nor left lists.
+    em, measure = read_set(reader, 2)
     base = read_base(reader)
     ruby = read_ruby(reader)
     kind, elem_base, elem_ruby, runs = read_elem(reader)
-    reader.nothing_after()
     return ([em, measure, ONE_TWO_ONE, 0] + base + ruby
-            + [kind, elem_base, elem_ruby, runs])
+            + [kind, elem_base, elem_ruby, runs, None])
 
 
-def read_set(reader):
+def read_form_two(reader):
+    # R-6: "`set 9` (form one's two numbers, the six ratio numbers, and one
+    # number for the profile, 0 until another is named)", which R-8 does.  The
+    # ruby ratio comes first, as in 15's places.  "and has a `left` section
+    # after `ruby`".
+    em, measure, *six, profile = read_set(reader, 9)
+    ratios = (tuple(six[:3]), tuple(six[3:]))
+    base = read_base(reader)
+    ruby = read_ruby(reader)
+    left_class, left_width = read_left(reader)
+    elements = read_elem_two(reader)
+    left = Left(left_class, left_width, *elements[4:])
+    return ([em, measure, ratios, profile] + base + ruby + elements[:4]
+            + [left])
+
+
+def read_set(reader, count):
     # "`set 2` with em and measure, one a line"
-    if reader.fields() != [b'set', b'2']:
-        raise reader.fault()
-    em = reader.numbers(reader.fields(), 1)[0]
-    measure = reader.numbers(reader.fields(), 1)[0]
-    return em, measure
+    return [reader.numbers(reader.fields(), 1)[0] for _ in range(count)]
 
 
 def read_base(reader):
@@ -961,6 +1260,16 @@ def read_ruby(reader):
     return lists
 
 
+def read_left(reader):
+    # R-6: the `left` section, in the form of `ruby`.  R-5: "2 ... as for
+    # right ones, ... with places 3 for the count".
+    lists = [[], []]
+    for _ in range(reader.count(b'left', MOST_LEFT, 3)):
+        for values, value in zip(lists, reader.numbers(reader.fields(), 2)):
+            values.append(value)
+    return lists
+
+
 def read_elem(reader):
     # "`elem` (`P`, `M r`, `G b r`, `J b` and b run lengths, b from 1 to 32)"
     # Counts that a kind doesn't show are not read; they are given as 0.
@@ -975,7 +1284,10 @@ def read_elem(reader):
 
 
 def read_element(reader):
-    fields = reader.fields()
+    return read_right(reader, reader.fields())
+
+
+def read_right(reader, fields):
     letter, texts = fields[0], fields[1:]
     if letter == b'P':
         reader.numbers(texts, 0)
@@ -996,94 +1308,157 @@ def read_element(reader):
     raise reader.fault()
 
 
+def read_elem_two(reader):
+    """kind, base count, ruby count, runs; left kind, left count, left runs."""
+    lists = [[], [], [], [], [], [], []]
+    for _ in range(reader.count(b'elem', MOST_ELEMENTS, 2)):
+        values = read_element_two(reader)
+        for place in (0, 1, 2, 4, 5):
+            lists[place].append(values[place])
+        for place in (3, 6):
+            lists[place] += values[place]
+    return lists
+
+
+def read_element_two(reader):
+    # R-6: "each M, G and J line ends in a letter for the left kind (M, G, J;
+    # N for none) and its counts".  A P line has no letter.
+    fields = reader.fields()
+    at = place_of_left_letter(fields)
+    kind, base, ruby, runs = read_right(reader, fields[:at])
+    if kind == P and at == len(fields):
+        return P, base, ruby, runs, N, 0, []
+    if kind == P or at == len(fields):
+        raise reader.fault()
+    return (kind, base, ruby, runs, *read_left_counts(
+        reader, kind, base, fields[at], fields[at + 1:]))
+
+
+def place_of_left_letter(fields):
+    """Where it has to be: behind the letter and all that are numbers."""
+    at = 1
+    while at < len(fields) and fields[at].isdigit():
+        at += 1
+    return at
+
+
+def read_left_counts(reader, kind, base, letter, texts):
+    # A left G has one count; a left M or J one for each base character of the
+    # element, without a count before them, also where the element doesn't take
+    # the kind (16).  The one of a left M on M is the left count, the others
+    # are left runs.  An M has one base character.
+    if letter == b'N':
+        reader.numbers(texts, 0)
+        return N, 0, []
+    if letter == b'G':
+        count, = reader.numbers(texts, 1)
+        return G, count, []
+    if letter == b'M' and kind == M:
+        count, = reader.numbers(texts, 1)
+        return M, count, []
+    if letter not in (b'M', b'J'):
+        raise reader.fault()
+    runs = reader.numbers(texts, 1 if kind == M else base)
+    return ord(letter), 0, runs
+
+
 # ---------------------------------------------------------------------------
 # The setting program
 # ---------------------------------------------------------------------------
 
-def answer(sheet):
+def answer(sheet, form_two=ahead.FORM_TWO):
     # "The setting program reads a sheet on standard input and writes
     # `refused N P`, or a result."
     try:
-        arguments = read_sheet(sheet)
+        arguments = read_sheet(sheet, form_two)
     except Refused as refusal:
         return refused_text(refusal.number, refusal.place)
     base_out = [0] * MOST_BASE
     ruby_out = [0] * MOST_RUBY
+    left_out = [0] * MOST_LEFT
     line_out = [0] * MOST_BASE
-    result = set_job(*arguments, base_out, ruby_out, line_out)
+    result = set_job(*arguments, base_out, ruby_out, left_out, line_out)
     if result[0] == 'refused':
         return refused_text(result[1], result[2])
-    ends = line_out[:result[1]]
-    return result_text(arguments, base_out, ruby_out, ends)
+    return result_text(arguments, base_out, (ruby_out, left_out),
+                       line_out[:result[1]])
 
 
 def refused_text(number, place):
     return b'refused %d %d\n' % (number, place)
 
 
-def result_text(arguments, base_out, ruby_out, ends):
+def result_text(arguments, base_out, ruby_outs, ends):
     # "`lines` has the number of lines, `line` the extent; `b` and `r` have
-    # index and position, element by element, base before ruby."
-    base_width, ruby_width = arguments[5], arguments[10]
-    parts = printed_parts(*arguments[11:], ends)
+    # index and position, element by element, base before ruby."  R-5's left
+    # positions are `l`, after the `r` of the element.
+    job = sound_job(arguments)
+    parts = printed_parts(job, ends)
     text = [b'lines %d\n' % len(ends)]
     for end in ends:
         in_line = []
         while len(parts) > 0 and parts[0][0][-1] < end:
             in_line.append(parts.pop(0))
-        extent = line_extent(in_line, base_width, base_out,
-                             ruby_width, ruby_out)
+        extent = line_extent(job, in_line, base_out, ruby_outs)
         text.append(b'line %d\n' % extent)
-        for bases, rubies in in_line:
+        for bases, rubies, lefts in in_line:
             text += [b'b %d %d\n' % (i, base_out[i]) for i in bases]
-            text += [b'r %d %d\n' % (i, ruby_out[i]) for i in rubies]
+            text += [b'r %d %d\n' % (i, ruby_outs[RIGHT][i]) for i in rubies]
+            text += [b'l %d %d\n' % (i, ruby_outs[LEFT][i]) for i in lefts]
     return b''.join(text)
 
 
-def printed_parts(kind, elem_base, elem_ruby, runs, ends):
-    """(base indices, ruby indices) of every element, cut at the lines' ends.
+def sound_job(arguments):
+    """The job with its elements.
 
-    Asked of accepted jobs only.
+    Asked of jobs that are accepted or refused by number 11: their elements
+    have passed every check.
     """
-    parts, base_taken, ruby_taken, runs_taken = [], 0, 0, 0
-    for letter, base, ruby in zip(kind, elem_base, elem_ruby):
-        if letter == J:
-            own_runs = runs[runs_taken:runs_taken + base]
-            parts += jukugo_parts(base_taken, ruby_taken, own_runs, ends)
-            runs_taken += base
-            ruby = sum(own_runs)
-        else:
-            base = base if letter == G else 1
-            ruby = ruby if letter != P else 0
-            parts.append((list(range(base_taken, base_taken + base)),
-                          list(range(ruby_taken, ruby_taken + ruby))))
-        base_taken += base
-        ruby_taken += ruby
+    job = Job(*arguments)
+    take_elements(job)
+    return job
+
+
+def printed_parts(job, ends):
+    """(base, ruby, left indices) of every element, cut at the lines' ends.
+
+    Asked of accepted jobs only.  A J with a mono left reading is one element
+    here: "element by element, base before ruby".
+    """
+    parts = []
+    for element in job.elements:
+        for first, end in cut_by_lines(element, ends):
+            readings = readings_of_part(job, element, first, end)
+            parts.append((range(first, end), *map(indices, readings)))
     return parts
 
 
-def jukugo_parts(base_taken, ruby_taken, runs, ends):
+def cut_by_lines(element, ends):
     # Level one: "A J cut by a line end is two words"; each part is printed
-    # in its own line.
-    parts = [([], [])]
-    for run in runs:
-        if base_taken in ends and parts[-1] != ([], []):
-            parts.append(([], []))
-        parts[-1][0].append(base_taken)
-        parts[-1][1].extend(range(ruby_taken, ruby_taken + run))
-        base_taken += 1
-        ruby_taken += run
-    return parts
+    # in its own line.  No line ends within another element.
+    first, end = element.base_first, element.base_end
+    cuts = []
+    if end - first > 1:
+        cuts = [cut for cut in ends if first < cut < end]
+    return zip([first] + cuts, cuts + [end])
 
 
-def line_extent(parts, base_width, base_out, ruby_width, ruby_out):
+def indices(reading):
+    if reading is None:
+        return range(0)
+    return range(reading.first, reading.first + len(reading.widths))
+
+
+def line_extent(job, parts, base_out, ruby_outs):
     # Level two: "The line's extent is the furthest end of any block or ruby
     # in it."
-    base_ends = [base_out[i] + 2 * base_width[i]
-                 for bases, _ in parts for i in bases]
-    ruby_ends = [ruby_out[i] + 2 * ruby_width[i]
-                 for _, rubies in parts for i in rubies]
-    return max(base_ends + ruby_ends)
+    ends = []
+    for part in parts:
+        for numbers, positions, widths in zip(
+                part, (base_out, *ruby_outs),
+                (job.base_width, job.ruby_width, job.left_width)):
+            ends += [positions[i] + 2 * widths[i] for i in numbers]
+    return max(ends)
 
 
 # ---------------------------------------------------------------------------
@@ -1115,20 +1490,27 @@ def status_of(text):
     return 1 if text.startswith(b'refused ') else 0
 
 
-def main(arguments):
-    """The exit status."""
+def answer_input(arguments, answered):
+    """Answers one sheet, or with --framed many; the exit status."""
     if arguments == []:
-        text = answer(sys.stdin.buffer.read())
+        text = answered(sys.stdin.buffer.read())
         sys.stdout.buffer.write(text)
         return status_of(text)
-    elif arguments == ['--framed']:
+    sheet = read_frame(sys.stdin.buffer, b'sheet')
+    while sheet is not None:
+        write_frame(sys.stdout.buffer, b'answer', answered(sheet))
         sheet = read_frame(sys.stdin.buffer, b'sheet')
-        while sheet is not None:
-            write_frame(sys.stdout.buffer, b'answer', answer(sheet))
-            sheet = read_frame(sys.stdin.buffer, b'sheet')
-    else:
-        sys.exit('usage: second.py [--framed]')
     return 0
+
+
+def main(arguments):
+    """The exit status."""
+    form_two = ahead.FORM_TWO
+    if arguments[:1] == ['--forms']:
+        form_two, arguments = True, arguments[1:]
+    if arguments not in ([], ['--framed']):
+        sys.exit('usage: second.py [--forms] [--framed]')
+    return answer_input(arguments, lambda sheet: answer(sheet, form_two))
 
 
 if __name__ == '__main__':

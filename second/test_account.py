@@ -147,8 +147,8 @@ class InLists(unittest.TestCase):
         count = len(lists['flag'])
         rows, told, extents = ([77] * length for length in (
             room or (6 * count + 1, count + 1, count + 1)))
-        answer = account_job(em, measure, ratios, profile, rows=rows,
-                             told=told, extents=extents, **lists)
+        answer = account_job(em, measure, ratios, profile, left=None,
+                             rows=rows, told=told, extents=extents, **lists)
         return answer, rows, told, extents
 
     def test_k11(self):

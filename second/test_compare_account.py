@@ -470,6 +470,21 @@ def possible_words(line, place):
                                                                     depth)
             yield b'rule 2 ruby touches block of %d at depth %d' % (other,
                                                                     depth)
+    if any(drawn.left for drawn in line):
+        yield from possible_left_words(line, depths)
+
+
+def possible_left_words(line, depths):
+    yield b'rule 4 left ruby touches start'
+    for drawn in line:
+        other = drawn.element
+        yield b'rule 3 left ruby touches left ruby of %d' % other
+        yield b'rule 3 left ruby touches ruby of %d' % other
+        for depth in depths:
+            yield (b'rule 2 block touches left ruby of %d at depth %d'
+                   % (other, depth))
+            yield (b'rule 2 left ruby touches block of %d at depth %d'
+                   % (other, depth))
 
 
 class OnGeneratedSheets(unittest.TestCase):

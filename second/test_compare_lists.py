@@ -16,6 +16,7 @@ HERE = os.path.dirname(os.path.abspath(__file__))
 sys.path.insert(0, HERE)
 
 import account          # noqa: E402  (found through the path set above)
+import ahead            # noqa: E402
 import compare_lists    # noqa: E402
 import generate_lists   # noqa: E402
 import lists            # noqa: E402
@@ -83,29 +84,30 @@ class Bytes(unittest.TestCase):
                                            call.memory(call.results)))
 
     def test_there_and_back(self):
-        calls = [call for both in generate_lists.calls(3, 60)
+        calls = [call for both in generate_lists.calls(3, 60, False)
                  for call in both]
         stream = io.BytesIO(b''.join(call.to_bytes() for call in calls))
         for call in calls:
-            found = lists.read_call(stream)
+            found = lists.read_call(stream, False)
             self.assertEqual(found.to_bytes(), call.to_bytes())
             answer, memory = call.answered()
             content = lists.answer_bytes(answer, memory)
             self.assertEqual(lists.answer_of(lists.unpacked(content)),
                              (answer, memory))
-        self.assertIsNone(lists.read_call(stream))
+        self.assertIsNone(lists.read_call(stream, False))
 
     def test_cut_short(self):
         content = call_of(SET, [[1], [2], [3]]).to_bytes()
         for end in (1, 71, 72, 73, len(content) - 1):
             with self.assertRaises(ValueError):
-                lists.read_call(io.BytesIO(content[:end]))
+                lists.read_call(io.BytesIO(content[:end]), False)
 
     def test_the_program(self):
         calls = [call_of(SET, [[1], [2], [3]]),
                  call_of(SET, [[1, 2], [3] * 7, [4, 5]])]
         done = subprocess.run(
-            OWN, input=b''.join(call.to_bytes() for call in calls),
+            OWN + ['--no-left'],
+            input=b''.join(call.to_bytes() for call in calls),
             stdout=subprocess.PIPE, check=True)
         words = [12, 0] + words_of(calls[0], calls[0].results)
         words += [0, 1] + words_of(calls[1], [
@@ -113,9 +115,123 @@ class Bytes(unittest.TestCase):
         self.assertEqual(lists.unpacked(done.stdout), words)
 
 
+# The same word with a left G of two characters, 5 wide: 10 over 35, 2D 50.  By
+# the ruby ratio 1:2:1 the ends are 12, held at 10: 10 and 50.
+LEFT = second.Left([16, 16], [5, 5], [second.G], [2], [])
+
+
+def left_call_of(which, results):
+    return Call(which, 10, 4000, RATIOS, 1, lists.with_left(GROUP, LEFT),
+                results, list(range(91, 91 + 23)))
+
+
+def left_words_of(call, results):
+    """The memory, written down once more."""
+    words = [91, 1, 2, 1, 92, 1, 0, 2]
+    words += [93, 19, 19, 94, 10, 10, 95, 0, 0, 96, 0, 0, 97, 1, 1]
+    words += [98] + [15] * 7 + [99] + [5] * 7 + [100, 16, 16, 101, 5, 5]
+    words += [102, 71, 103, 2, 104, 7, 105, 71, 106, 2, 107, 108]
+    for before, values in zip((109, 110, 111, 112), results):
+        words += [before] + values
+    return words + [113]
+
+
+class BytesWithLeft(unittest.TestCase):
+    """Calls with the left lists of R-5."""
+
+    def test_a_call(self):
+        results = [[1, 2], [3] * 8, [6] * 3, [4, 5, 6]]
+        call = left_call_of(SET, results)
+        head = [0, 10, 4000, 1, 2, 2, 2, 2, 2, 7, 7, 2, 2, 1, 1, 1, 1, 1, 0, 0,
+                2, 8, 3, 3]
+        words = head + left_words_of(call, results)
+        self.assertEqual(call.to_bytes(),
+                         struct.pack('<%dI' % len(words), *words))
+        found = lists.read_call(io.BytesIO(call.to_bytes()), True)
+        self.assertEqual(found.to_bytes(), call.to_bytes())
+
+    def test_its_answer(self):
+        call = left_call_of(SET, [[1, 2], [3] * 8, [6] * 3, [4, 5, 6]])
+        self.assertEqual(call.answered(), (('set', 1), left_words_of(call, [
+            [10, 30], [0, 10, 20, 30, 40, 50, 60, 3], [10, 50, 6],
+            [2, 5, 6]])))
+        call = left_call_of(SET, [[1, 2], [3] * 8, [6], [4, 5, 6]])
+        self.assertEqual(call.answered(), (('refused', 12, 0),
+                                           call.memory(call.results)))
+
+    def test_its_account(self):
+        # The account has no left positions; its fourth list is empty.
+        call = left_call_of(ACCOUNT, [[8] * 13, [9, 9], [7, 7], []])
+        self.assertEqual(call.answered(), (('set', 1), left_words_of(call, [
+            [0, 10, 10, 6, 0, 0] + [8] * 7, [1, 9], [70, 7], []])))
+
+    def test_there_and_back(self):
+        calls = [call for both in generate_lists.calls(3, 60, True)
+                 for call in both]
+        stream = io.BytesIO(b''.join(call.to_bytes() for call in calls))
+        for call in calls:
+            self.assertEqual(lists.read_call(stream, True).to_bytes(),
+                             call.to_bytes())
+        self.assertIsNone(lists.read_call(stream, True))
+
+    def test_the_default_has_none(self):
+        # Until the landing of R-5 (ahead.py).
+        for call, _ in generate_lists.calls(3, 5):
+            self.assertEqual(lists.has_left(call.given), ahead.LEFT_READINGS)
+        for left in (False, True):
+            for call, _ in generate_lists.calls(3, 5, left):
+                self.assertEqual(lists.has_left(call.given), left)
+
+    def test_every_number_fits_its_bytes(self):
+        for both in generate_lists.calls(7, 300, True):
+            for call in both:
+                self.assertLessEqual(max(call.em, call.measure, call.profile,
+                                         *call.memory(call.results)),
+                                     second.LARGEST_NUMBER)
+
+    def test_comparison(self):
+        own = OWN + ['--left']
+        seen, differences = compare_all(own, 5, 60, left=True)
+        self.assertEqual((seen.jobs(), differences), (60, 0))
+        self.assertIn('; left ', seen.words())
+        # An engine with one left position off by one.
+        change = ENGINE.replace('read_call(sys.stdin.buffer)',
+                                'read_call(sys.stdin.buffer, True)') % (HERE, (
+            '    if call.which == lists.SET and call.results[2]:\n'
+            '        at = -2 - len(call.results[3]) - len(call.results[2])\n'
+            '        memory[at] ^= 1\n'
+            '        content = lists.answer_bytes(answer, memory)\n'))
+        has_left = sum(len(call.results[2]) > 0
+                       for call, _ in generate_lists.calls(5, 20, True))
+        self.assertGreater(has_left, 5)
+        with quiet():
+            self.assertEqual(compare_all(
+                [sys.executable, '-B', '-c', change], 5, 20, left=True)[1],
+                has_left)
+
+    def test_what_is_missing(self):
+        seen = Seen()
+        call = left_call_of(SET, [[1, 2], [3] * 8, [6] * 3, [4, 5, 6]])
+        seen.add(call, ('set', 1))
+        self.assertIn('1 G on G', seen.words())
+        missing = list(seen.missing())
+        self.assertIn('no job refused by 16', missing)
+        self.assertIn('no accepted job with a left M on J', missing)
+        self.assertNotIn('no accepted job with a left G on G', missing)
+
+    def test_what_is_told(self):
+        call = left_call_of(SET, [[1, 2], [3] * 7, [6] * 2, [4, 5]])
+        answer, memory = call.answered()
+        other = list(memory)
+        other[-5] = 8
+        self.assertEqual(wrong_things(call, (answer, memory),
+                                      (answer, other)),
+                         ['left[1]: 8, not 50'])
+
+
 def kana_edges(call):
     """Edges of R-8 that an accepted job of profile 1 shows."""
-    arguments = call.em, call.measure, call.ratios, 1, *call.given
+    arguments = call.em, call.measure, call.ratios, 1, *call.given, None
     job = account.sound_job(arguments)
     for number, line in enumerate(account.drawn_lines_of(arguments)):
         classes = [job.base_class[job.elements[drawn.element].base_first]
@@ -163,7 +279,7 @@ class Generated(unittest.TestCase):
 
     @classmethod
     def setUpClass(cls):
-        cls.calls = list(generate_lists.calls(1, 1000))
+        cls.calls = list(generate_lists.calls(1, 1000, False))
         cls.expected = [call.answered() for call, _ in cls.calls]
 
     def test_repeats_itself(self):
@@ -367,7 +483,7 @@ class Comparison(unittest.TestCase):
         self.assertRegex(rows[0], r'^seen: [1-9][0-9]* accepted, [1-9][0-9]* '
                          r'of them by profile 1; refused '
                          r'[0-9]+ by [0-9]+, .*; [0-9]+ ratios of ruby, '
-                         r'[0-9]+ of base$')
+                         r'[0-9]+ of base(; left .*)?$')
         self.assertEqual(rows[1], 'compared 25 jobs, 0 differences')
         status, rows = self.run_it([sys.executable, '-c', ''], 25)
         self.assertEqual((status, rows[-1]),

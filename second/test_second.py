@@ -18,7 +18,8 @@ import unittest
 HERE = os.path.dirname(os.path.abspath(__file__))
 sys.path.insert(0, HERE)
 
-import compare      # noqa: E402  (found through the path set above)
+import ahead        # noqa: E402  (found through the path set above)
+import compare      # noqa: E402
 import generate     # noqa: E402
 import second       # noqa: E402
 from second import G, ONE_TWO_ONE, P, answer, set_job  # noqa: E402
@@ -149,9 +150,9 @@ class Lists:
         self.base_out = [77] * base
         self.ruby_out = [77] * ruby
         self.line_out = [77] * line
-        self.result = set_job(em, measure, ratios, profile,
+        self.result = set_job(em, measure, ratios, profile, left=None,
                               base_out=self.base_out, ruby_out=self.ruby_out,
-                              line_out=self.line_out, **arguments)
+                              left_out=[], line_out=self.line_out, **arguments)
         outs = self.base_out + self.ruby_out + self.line_out
         self.untouched = all(entry == 77 for entry in outs)
 
@@ -1360,7 +1361,7 @@ class Refusals(Case):
         # Nothing to set: empty lists are enough.
         for profile in (0, 1):
             result = set_job(10, 10, ONE_TWO_ONE, profile, [], [], [], [], [],
-                             [], [], [], [], [], [], [], [], [])
+                             [], [], [], [], [], [], None, [], [], [], [])
             self.assertEqual(result, ('set', 0))
 
     def test_3_class(self):
@@ -1910,6 +1911,11 @@ def own_program(*arguments):
     return [sys.executable, '-B', os.path.join(HERE, 'second.py'), *arguments]
 
 
+def compared(seed, count):
+    """The sheets that compare.py takes by default."""
+    return compare.all_sheets('', seed, count, ahead.FORM_TWO)
+
+
 class Programs(Case):
 
     def test_one_sheet(self):
@@ -1971,7 +1977,7 @@ class Programs(Case):
             'import sys; sys.path.insert(0, %r); import second\n'
             'second.main([])' % HERE)]
         refused = sum(answer(text).startswith(b'refused')
-                      for text in generate.sheets(5, 12))
+                      for text in compared(5, 12))
         self.assertGreater(refused, 0)
         with tempfile.TemporaryDirectory() as folder, quiet():
             self.assertEqual(compare.compare(careless, folder, 5, 12,
@@ -1994,7 +2000,7 @@ class Programs(Case):
             ' second.write_frame(sys.stdout.buffer, b"answer",'
             ' b"refused 13 1\\n")' % HERE)]
         expected = sum(answer(text) != b'refused 13 1\n'
-                       for text in generate.sheets(5, 10))
+                       for text in compared(5, 10))
         with tempfile.TemporaryDirectory() as folder, quiet():
             self.assertEqual(compare.compare(wrong, folder, 5, 10),
                              (10, expected))
@@ -2110,8 +2116,17 @@ def keeps_the_rules(job, words, origins):
     """The four rules over intervals, without saying who stands where."""
     blocks = [(at + word.block_start, at + word.block_end)
               for word, at in zip(words, origins)]
-    rubies = [(at + word.ruby_start, at + word.ruby_end) if word.has_ruby
-              else None for word, at in zip(words, origins)]
+    if any(blocks[k][0] < blocks[k - 1][1] for k in range(1, len(words))):
+        return False
+    return all(keep_the_rules(job, words, blocks, [
+        None if word.rubies[side] is None else
+        (at + word.rubies[side].start, at + word.rubies[side].end)
+        for word, at in zip(words, origins)])
+        for side in (second.RIGHT, second.LEFT))
+
+
+def keep_the_rules(job, words, blocks, rubies):
+    """Rules 2 to 4 for the rubies of one side and all blocks."""
     everything = blocks + [ruby for ruby in rubies if ruby]
     if min(start for start, _ in everything) < 0:
         return False
@@ -2119,8 +2134,6 @@ def keeps_the_rules(job, words, origins):
         return False
     for i, ruby in enumerate(rubies):
         for k in range(len(words)):
-            if k > 0 and blocks[k][0] < blocks[k - 1][1]:
-                return False
             if k == i or ruby is None:
                 continue
             start, end = blocks[k]

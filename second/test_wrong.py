@@ -8,7 +8,12 @@ that are not ours, and slips at an edge.  Some of the first 1,500 sheets of
 seed 1 have to show each of them.  WRONG_BY_RATIOS and WRONG_BY_PROFILE have
 what sheets cannot show, readings of R-4 and of R-8 that are not ours and slips
 in them; some of the first 1,000 jobs in lists of seed 1 have to show each of
-those.
+those.  WRONG_BY_LEFT has the same of R-5, and some of the first 2,000 jobs
+with left readings have to show it; WRONG_ACCOUNTS replaces functions of
+account.py, and the accounts of such jobs show it.  WRONG_BY_FORM has what is
+wrong in reading sheets of form two (R-6), and WRONG_CONVERTERS replaces
+functions of convert.py; some of the first 2,500 sheets of both forms have to
+show each of them.
 """
 
 import copy
@@ -20,16 +25,23 @@ from unittest import mock
 HERE = os.path.dirname(os.path.abspath(__file__))
 sys.path.insert(0, HERE)
 
-import generate     # noqa: E402  (found through the path set above)
+import account      # noqa: E402  (found through the path set above)
+import convert      # noqa: E402
+import generate     # noqa: E402
 import generate_lists   # noqa: E402
+import generate_two     # noqa: E402
 import second       # noqa: E402
-from second import G, J, M, P, Refused  # noqa: E402
+from second import G, J, LEFT, M, N, P, RIGHT, Refused  # noqa: E402
 
 right = {name: value for name, value in vars(second).items()
          if callable(value)}
 WRONG = {}
 WRONG_BY_RATIOS = {}
 WRONG_BY_PROFILE = {}
+WRONG_BY_LEFT = {}
+WRONG_ACCOUNTS = {}
+WRONG_BY_FORM = {}
+WRONG_CONVERTERS = {}
 
 
 def wrong(name, among=WRONG):
@@ -47,6 +59,22 @@ def wrong_by_ratios(name):
 
 def wrong_by_profile(name):
     return wrong(name, WRONG_BY_PROFILE)
+
+
+def wrong_by_left(name):
+    return wrong(name, WRONG_BY_LEFT)
+
+
+def wrong_account(name):
+    return wrong(name, WRONG_ACCOUNTS)
+
+
+def wrong_by_form(name):
+    return wrong(name, WRONG_BY_FORM)
+
+
+def wrong_converter(name):
+    return wrong(name, WRONG_CONVERTERS)
 
 
 # ---------------------------------------------------------------------------
@@ -187,14 +215,11 @@ def _():
         if (element.kind == J and end - first > 1 and whole is not word
                 and any(sum(run) > job.em for run in runs)):
             base = job.base_width[first:end]
-            count = len(word.ruby_positions)
-            ruby = job.ruby_width[word.ruby_first:word.ruby_first + count]
-            kind = second.is_western(job.ruby_class[word.ruby_first])
-            places = second.set_group(job.em, job.ratios, False, base, kind,
-                                      ruby)
+            ruby, _ = second.readings_of_part(job, element, first, end)
+            places = second.set_group(job.em, job.ratios, False, base,
+                                      ruby.western, ruby.widths)
             return second.Word(first, places[0], places[0][-1] + 2 * base[-1],
-                               word.ruby_first, places[1],
-                               places[1][-1] + 2 * ruby[-1])
+                               second.Ruby(ruby, places[1]), None)
         return word
     return {'ruby_word': ruby_word}
 
@@ -229,11 +254,12 @@ def _():
 
 @wrong('ruby that comes out behind a narrow blank')
 def _():
-    def broken_2_forward(earlier, earlier_at, later, later_at, neighbours):
+    def broken_2_forward(earlier, earlier_at, later, later_at, neighbours,
+                         side):
         if neighbours and later.depth_before == later.block_end:
             return 0
         return right['broken_2_forward'](earlier, earlier_at, later, later_at,
-                                         neighbours)
+                                         neighbours, side)
     return {'broken_2_forward': broken_2_forward}
 
 
@@ -432,7 +458,7 @@ def _():
 def _():
     def element_counts(job, place, taken):
         if job.kind[place] == J:
-            runs = [second.run_at(job, taken + i)
+            runs = [second.run_at(job.runs, taken + i)
                     for i in range(job.elem_base[place])]
             if 0 not in runs and sum(runs) % 2 ** 32 <= 64:
                 return len(runs), sum(runs) % 2 ** 32, runs
@@ -582,15 +608,15 @@ def _():
 
 @wrong('a count judged after the whole sheet')
 def _():
-    def read_sheet(sheet):
+    def read_sheet(sheet, form_two):
         try:
-            return right['read_sheet'](sheet)
+            return right['read_sheet'](sheet, form_two)
         except Refused as refusal:
             if refusal.number == 2:
                 with mock.patch.multiple(second, MOST_BASE=10 ** 10,
                                          MOST_RUBY=10 ** 10,
                                          MOST_ELEMENTS=10 ** 10):
-                    right['read_sheet'](sheet)
+                    right['read_sheet'](sheet, form_two)
             raise
     return {'read_sheet': read_sheet}
 
@@ -621,22 +647,19 @@ def _():
 
 @wrong('a jukugo printed character by character')
 def _():
-    def jukugo_parts(base_taken, ruby_taken, runs, ends):
-        parts = []
-        for run in runs:
-            parts.append(([base_taken],
-                          list(range(ruby_taken, ruby_taken + run))))
-            base_taken += 1
-            ruby_taken += run
-        return parts
-    return {'jukugo_parts': jukugo_parts}
+    def cut_by_lines(element, ends):
+        if element.kind == J:
+            return [(index, index + 1) for index
+                    in range(element.base_first, element.base_end)]
+        return right['cut_by_lines'](element, ends)
+    return {'cut_by_lines': cut_by_lines}
 
 
 @wrong('the extent of base blocks alone')
 def _():
-    def line_extent(parts, base_width, base_out, ruby_width, ruby_out):
-        return max(base_out[i] + 2 * base_width[i]
-                   for bases, _ in parts for i in bases)
+    def line_extent(job, parts, base_out, ruby_outs):
+        return max(base_out[i] + 2 * job.base_width[i]
+                   for bases, *_ in parts for i in bases)
     return {'line_extent': line_extent}
 
 
@@ -960,10 +983,9 @@ def _():
 def _():
     def ruby_word(job, element, first, end):
         word = right['ruby_word'](job, element, first, end)
-        if word.ruby_start < word.block_start or (
-                word.ruby_end > word.block_end):
-            word.ruby_end = word.block_end + (word.block_start
-                                              - word.ruby_start)
+        ruby = word.rubies[second.RIGHT]
+        if ruby.start < word.block_start or ruby.end > word.block_end:
+            ruby.end = word.block_end + (word.block_start - ruby.start)
         return word
     return {'ruby_word': ruby_word}
 
@@ -972,10 +994,9 @@ def _():
 def _():
     def ruby_word(job, element, first, end):
         word = right['ruby_word'](job, element, first, end)
-        if word.ruby_start < word.block_start or (
-                word.ruby_end > word.block_end):
-            word.ruby_start = word.block_start - (word.ruby_end
-                                                  - word.block_end)
+        ruby = word.rubies[second.RIGHT]
+        if ruby.start < word.block_start or ruby.end > word.block_end:
+            ruby.start = word.block_start - (ruby.end - word.block_end)
         return word
     return {'ruby_word': ruby_word}
 
@@ -1239,7 +1260,7 @@ def changed_words(change):
         words = [copy.copy(word) for word in
                  right['words_of_line'](job, owner, first, end)]
         for place, word in enumerate(words):
-            if not word.has_ruby and (
+            if not word.sides and (
                     second.is_kana(job.base_class[word.base_first])):
                 change(job, words, place)
         return words
@@ -1256,8 +1277,8 @@ def _():
 
 def is_between(words, place):
     """Whether it stands between two words that have ruby."""
-    return (0 < place < len(words) - 1 and words[place - 1].has_ruby
-            and words[place + 1].has_ruby)
+    return (0 < place < len(words) - 1 and words[place - 1].sides
+            and words[place + 1].sides)
 
 
 @wrong_by_profile('one reading alone on a kana between two, the earlier')
@@ -1293,10 +1314,10 @@ def _():
         if is_between(words, place) and words[place].depth_after > 0:
             words[place - 1].across = words[place + 1].base_first
 
-    def broken_3(earlier, earlier_at, later, later_at):
+    def broken_3(earlier, earlier_at, later, later_at, side):
         if getattr(earlier, 'across', None) == later.base_first:
             return 0
-        return right['broken_3'](earlier, earlier_at, later, later_at)
+        return right['broken_3'](earlier, earlier_at, later, later_at, side)
     return {**changed_words(change), 'broken_3': broken_3}
 
 
@@ -1463,6 +1484,1618 @@ def _():
 
 
 # ---------------------------------------------------------------------------
+# R-5: readings on both sides
+# ---------------------------------------------------------------------------
+
+@wrong_by_left('rule 3 across sides')
+def _():
+    def broken_between(earlier, earlier_at, later, later_at, neighbours):
+        amount = right['broken_between'](earlier, earlier_at, later, later_at,
+                                         neighbours)
+        ends = [earlier.rubies[side].end for side in earlier.sides]
+        starts = [later.rubies[side].start for side in later.sides]
+        if ends and starts:
+            amount = max(amount, earlier_at + max(ends)
+                         - (later_at + min(starts)))
+        return amount
+    return {'broken_between': broken_between}
+
+
+@wrong_by_left('rule 3 not asked of left readings')
+def _():
+    def broken_3(earlier, earlier_at, later, later_at, side):
+        if side == LEFT:
+            return 0
+        return right['broken_3'](earlier, earlier_at, later, later_at, side)
+    return {'broken_3': broken_3}
+
+
+def rule_2(name, is_let_through):
+    """Rule 2 not asked where `is_let_through(earlier, later)`, on the left."""
+    def broken_2(earlier, earlier_at, later, later_at, neighbours, side):
+        if side == LEFT and is_let_through(earlier, later):
+            return 0
+        return right[name](earlier, earlier_at, later, later_at, neighbours,
+                           side)
+    return {name: broken_2}
+
+
+@wrong_by_left('a left reading let through the blocks behind it')
+def _():
+    return rule_2('broken_2_forward', lambda earlier, later: True)
+
+
+@wrong_by_left('a left reading let through the blocks before it')
+def _():
+    return rule_2('broken_2_backward', lambda earlier, later: True)
+
+
+@wrong_by_left('a left reading over words without one')
+def _():
+    return {**rule_2('broken_2_forward',
+                     lambda earlier, later: LEFT not in later.sides),
+            **rule_2('broken_2_backward',
+                     lambda earlier, later: LEFT not in earlier.sides)}
+
+
+def left_depth(depth_of):
+    """Rule 2 by `depth_of(earlier, later, depth)` for left readings."""
+    def forward(earlier, earlier_at, later, later_at, neighbours, side):
+        amount = right['broken_2_forward'](earlier, earlier_at, later,
+                                           later_at, neighbours, side)
+        if side == LEFT and neighbours:
+            depth = later.depth_before
+            amount += depth - depth_of(earlier, later, depth)
+        return amount
+
+    def backward(earlier, earlier_at, later, later_at, neighbours, side):
+        amount = right['broken_2_backward'](earlier, earlier_at, later,
+                                            later_at, neighbours, side)
+        if side == LEFT and neighbours:
+            depth = earlier.depth_after
+            amount += depth - depth_of(later, earlier, depth)
+        return amount
+    return {'broken_2_forward': forward, 'broken_2_backward': backward}
+
+
+@wrong_by_left('blanks for right readings alone')
+def _():
+    return left_depth(lambda word, other, depth: 0)
+
+
+@wrong_by_left('one blank shared by the readings of both sides')
+def _():
+    def what_is_left(word, other, depth):
+        past = max(word.rubies[RIGHT].end - word.block_end,
+                   word.block_start - word.rubies[RIGHT].start, 0)
+        return depth - min(depth, past)
+    return left_depth(what_is_left)
+
+
+@wrong_by_left('a left reading on the opening indent')
+def _():
+    def depth_of(word, other, depth):
+        if other.base_first == 0 and depth == 0 and not other.sides:
+            return other.indent
+        return depth
+
+    def plain_word(job, index):
+        word = right['plain_word'](job, index)
+        word.indent = 0
+        if index == 0 and job.base_class[0] == 14:
+            word.indent = min(2 * job.base_width[0], job.em)
+        return word
+    return {**left_depth(depth_of), 'plain_word': plain_word}
+
+
+@wrong_by_left('no left reading on kana in profile 1')
+def _():
+    def plain_word(job, index):
+        word = right['plain_word'](job, index)
+        word.kana = second.is_kana(job.base_class[index])
+        return word
+    return {**left_depth(lambda word, other, depth:
+                         0 if getattr(other, 'kana', False) else depth),
+            'plain_word': plain_word}
+
+
+@wrong_by_left('left readings past the measure')
+def _():
+    def broken_4(word, at, limit):
+        ends = [word.block_end] + [word.rubies[side].end for side
+                                   in word.sides if side == RIGHT]
+        return at + max(ends) > limit
+    return {'broken_4': broken_4, 'plainly_too_long': lambda *_: False}
+
+
+def two_groups(change):
+    """`change(em, ratios, western, base, right, left)` or what is right."""
+    def set_two_groups(em, ratios, western, base, ruby, left):
+        found = change(em, ratios, western, base, ruby, left)
+        if found is not None:
+            return found
+        return right['set_two_groups'](em, ratios, western, base, ruby, left)
+    return {'set_two_groups': set_two_groups}
+
+
+def is_longer(base, ruby, left):
+    return max(sum(ruby.widths), sum(left.widths)) > sum(base)
+
+
+def in_order(ruby, left, base_at, longer_at, other_at):
+    """(base, right, left) from those of the longer and the other reading."""
+    if sum(ruby.widths) >= sum(left.widths):
+        return base_at, longer_at, other_at
+    return base_at, other_at, longer_at
+
+
+def by_length(ruby, left):
+    """(longer, other): right, if equal."""
+    if sum(ruby.widths) >= sum(left.widths):
+        return ruby, left
+    return left, ruby
+
+
+def other_reading(set_other):
+    """`set_other(em, ratios, western, base, base_at, longer, other)` in the
+    place of the other reading's setting."""
+    def change(em, ratios, western, base, ruby, left):
+        if not is_longer(base, ruby, left):
+            return None
+        longer, other = by_length(ruby, left)
+        base_at, longer_at = second.set_group(
+            em, ratios, western, base, longer.western, longer.widths)
+        return in_order(ruby, left, base_at, longer_at, set_other(
+            em, ratios, western, base, base_at, longer, other))
+    return two_groups(change)
+
+
+@wrong_by_left('the shorter reading set with the base')
+def _():
+    def change(em, ratios, western, base, ruby, left):
+        if not is_longer(base, ruby, left):
+            return None
+        longer, other = by_length(ruby, left)
+        base_at, other_at = second.set_group(
+            em, ratios, western, base, other.western, other.widths)
+        span = max(sum(base), sum(other.widths))
+        shift = sum(longer.widths) - span
+        return in_order(
+            ruby, left, [at + shift for at in base_at],
+            second.one_after_another(0, longer.widths),
+            [at + shift for at in other_at])
+    return two_groups(change)
+
+
+@wrong_by_left('the right reading always set with the base')
+def _():
+    def change(em, ratios, western, base, ruby, left):
+        if sum(left.widths) <= max(sum(ruby.widths), sum(base)):
+            return None
+        base_at, ruby_at = second.set_group(
+            em, ratios, western, base, ruby.western, ruby.widths)
+        shift = sum(left.widths) - max(sum(ruby.widths), sum(base))
+        return ([at + shift for at in base_at], [at + shift for at in ruby_at],
+                second.one_after_another(0, left.widths))
+    return two_groups(change)
+
+
+@wrong_by_left('the other reading over the base')
+def _():
+    def set_other(em, ratios, western, base, base_at, longer, other):
+        found = second.set_group(em, ratios, western, base, other.western,
+                                 other.widths)
+        middle = sum(longer.widths) - max(sum(base), sum(other.widths))
+        return [at + middle for at in found[1]]
+    return other_reading(set_other)
+
+
+@wrong_by_left('the other reading over the spread base without its end gaps')
+def _():
+    # Section 3 of document 000, which 02 holds to only so far.
+    def set_other(em, ratios, western, base, base_at, longer, other):
+        end = base_at[-1] + 2 * base[-1]
+        if 2 * sum(other.widths) >= end - base_at[0]:
+            start = (base_at[0] + end) // 2 - sum(other.widths)
+            return second.one_after_another(max(0, start), other.widths)
+        found = second.set_group(em, ratios, western, [
+            (end - base_at[0]) // 2], other.western, other.widths)
+        return [at + base_at[0] for at in found[1]]
+    return other_reading(set_other)
+
+
+@wrong_by_left('the other reading over the longer one though neither is longer'
+               ' than the base')
+def _():
+    def change(em, ratios, western, base, ruby, left):
+        if is_longer(base, ruby, left):
+            return None
+        longer, other = by_length(ruby, left)
+        base_at, longer_at = second.set_group(
+            em, ratios, western, base, longer.western, longer.widths)
+        found = second.set_group(em, ratios, western, [sum(longer.widths)],
+                                 other.western, other.widths)
+        return in_order(ruby, left, base_at, longer_at, [
+            at + longer_at[0] for at in found[1]])
+    return two_groups(change)
+
+
+@wrong_by_left('the other reading solid')
+def _():
+    def set_other(em, ratios, western, base, base_at, longer, other):
+        return second.solid(longer.widths, other.widths)[1]
+    return other_reading(set_other)
+
+
+def over_longer(em_and_kind):
+    """The other reading by `em_and_kind(em, western, longer, other)`."""
+    def set_other(em, ratios, western, base, base_at, longer, other):
+        em, western = em_and_kind(em, western, longer, other)
+        if western and other.western:
+            return second.solid(longer.widths, other.widths)[1]
+        return second.set_group(em, ratios, western, [sum(longer.widths)],
+                                other.western, other.widths)[1]
+    return other_reading(set_other)
+
+
+@wrong_by_left('no half-em limit on the other reading')
+def _():
+    return over_longer(lambda em, western, longer, other: (10 ** 9, western))
+
+
+@wrong_by_left('the half-em limit on the other reading over a Western base')
+def _():
+    return over_longer(lambda em, western, longer, other:
+                       (em, western and other.western))
+
+
+@wrong_by_left('the other reading over a base of the longer one\'s kind')
+def _():
+    return over_longer(lambda em, western, longer, other:
+                       (em, longer.western))
+
+
+@wrong_by_left('the other reading by the base ratio')
+def _():
+    def set_other(em, ratios, western, base, base_at, longer, other):
+        return second.set_group(em, ratios[::-1], western,
+                                [sum(longer.widths)], other.western,
+                                other.widths)[1]
+    return other_reading(set_other)
+
+
+@wrong_by_left('a mono left reading from the word\'s start')
+def _():
+    def set_mono_with_mono(base, ruby, left):
+        found = right['set_mono_with_mono'](base, ruby, left)
+        return (*found[:2], second.one_after_another(0, left))
+    return {'set_mono_with_mono': set_mono_with_mono}
+
+
+@wrong_by_left('a mono left reading centred on the right one alone')
+def _():
+    def set_mono_with_mono(base, ruby, left):
+        found = right['set_mono_with_mono'](base, ruby, left)
+        if sum(left) > sum(ruby):
+            return found
+        return (*found[:2], second.one_after_another(
+            sum(ruby) - sum(left), left))
+    return {'set_mono_with_mono': set_mono_with_mono}
+
+
+def group_if(is_group):
+    """`is_group(job, element)` for a J with a left J or G."""
+    def is_group_on_both_sides(job, element):
+        if element.kind == J and element.left_kind in (J, G):
+            return is_group(job, element)
+        return right['is_group_on_both_sides'](job, element)
+    return {'is_group_on_both_sides': is_group_on_both_sides}
+
+
+def long_runs(job, element):
+    """The longest run on either side."""
+    return [max([sum(widths) for widths in second.cut_into_runs(
+        reading.runs, reading.widths)] or [0])
+        for reading in second.readings_of_part(
+            job, element, element.base_first, element.base_end)]
+
+
+@wrong_by_left('a run of exactly one em on either side taken as longer')
+def _():
+    return group_if(lambda job, element: element.left_kind == G or (
+        max(long_runs(job, element)) >= job.em))
+
+
+@wrong_by_left('long runs of the right side alone make two jukugo groups')
+def _():
+    return group_if(lambda job, element: element.left_kind == G or (
+        long_runs(job, element)[RIGHT] > job.em))
+
+
+@wrong_by_left('long runs of the left side alone make two jukugo groups')
+def _():
+    return group_if(lambda job, element: element.left_kind == G or (
+        long_runs(job, element)[LEFT] > job.em))
+
+
+@wrong_by_left('two jukugo always groups')
+def _():
+    return group_if(lambda job, element: True)
+
+
+@wrong_by_left('two jukugo compared with the sum of base widths')
+def _():
+    return group_if(lambda job, element: element.left_kind == G or (
+        max(long_runs(job, element))
+        > job.em * (element.base_end - element.base_first)))
+
+
+@wrong_by_left('a J with a left G cut')
+def _():
+    def may_be_cut(job, element):
+        return element.left_kind == G and element.kind == J or (
+            right['may_be_cut'](job, element))
+
+    def readings_of_part(job, element, first, end):
+        ruby, left = right['readings_of_part'](job, element, first, end)
+        if element.kind == J and element.left_kind == G:
+            # Its left characters in equal shares.
+            count = element.base_end - element.base_first
+            total = element.left_end - element.left_first
+            start, stop = (element.left_first
+                           + total * (index - element.base_first) // count
+                           for index in (first, end))
+            stop = max(stop, start + 1)
+            left = second.Reading(start, job.left_width[start:stop], [],
+                                  left.western)
+        return ruby, left
+    return {'may_be_cut': may_be_cut, 'readings_of_part': readings_of_part}
+
+
+@wrong_by_left('two jukugo with a long run cut')
+def _():
+    def may_be_cut(job, element):
+        return (element.kind, element.left_kind) == (J, J) or (
+            right['may_be_cut'](job, element))
+    return {'may_be_cut': may_be_cut}
+
+
+@wrong_by_left('a J with any left reading not cut')
+def _():
+    def may_be_cut(job, element):
+        return element.left_kind == N and right['may_be_cut'](job, element)
+    return {'may_be_cut': may_be_cut}
+
+
+@wrong_by_left('a J with a mono left reading not cut')
+def _():
+    def may_be_cut(job, element):
+        return element.left_kind != M and right['may_be_cut'](job, element)
+    return {'may_be_cut': may_be_cut}
+
+
+@wrong_by_left('right runs over their characters with a left G')
+def _():
+    def set_two_readings(job, element, first, end, ruby, left):
+        found = right['set_two_readings'](job, element, first, end, ruby,
+                                          left)
+        if (element.kind, element.left_kind) == (J, G) and (
+                long_runs(job, element)[RIGHT] <= job.em and found[0][0] == 0):
+            base = job.base_width[first:end]
+            return (found[0], second.set_jukugo(
+                job.em, job.ratios, base, ruby.runs, ruby.western,
+                ruby.widths)[1], found[2])
+        return found
+    return {'set_two_readings': set_two_readings}
+
+
+def mono_as(left_kind, is_so):
+    """A J with a mono left reading of which `is_so(job, element)` as one with
+    a left reading of another kind."""
+    def take_elements(job):
+        right['take_elements'](job)
+        for element in job.elements:
+            if (element.kind, element.left_kind) == (J, M) and (
+                    is_so(job, element)):
+                element.left_kind = left_kind
+    return {'take_elements': take_elements}
+
+
+@wrong_by_left('a J with a mono left reading set as group where a run is long')
+def _():
+    return mono_as(G, lambda job, element:
+                   max(long_runs(job, element)) > job.em)
+
+
+@wrong_by_left('a J with a mono left reading and a long right run as group')
+def _():
+    return mono_as(G, lambda job, element:
+                   long_runs(job, element)[RIGHT] > job.em)
+
+
+@wrong_by_left('a J with a mono left reading as one element')
+def _():
+    return mono_as(J, lambda job, element: True)
+
+
+@wrong_by_left('left positions from the word\'s start')
+def _():
+    def write_results(lines, base_out, ruby_outs, line_out):
+        right['write_results'](lines, base_out, ruby_outs, line_out)
+        for _, words, origins in lines:
+            for word, origin in zip(words, origins):
+                if LEFT in word.sides:
+                    ruby = word.rubies[LEFT]
+                    for i, position in enumerate(ruby.positions):
+                        ruby_outs[LEFT][ruby.first + i] = position
+    return {'write_results': write_results}
+
+
+@wrong_by_left('left positions not written')
+def _():
+    def write_results(lines, base_out, ruby_outs, line_out):
+        right['write_results'](lines, base_out,
+                               (ruby_outs[0], list(ruby_outs[1])), line_out)
+    return {'write_results': write_results}
+
+
+def set_job_then(change):
+    def set_job(*arguments):
+        answer = right['set_job'](*arguments)
+        change(answer, *arguments[-4:])
+        return answer
+    return {'set_job': set_job}
+
+
+@wrong_by_left('the left list written on a refusal')
+def _():
+    def change(answer, base_out, ruby_out, left_out, line_out):
+        if answer[:2] == ('refused', 11) and left_out:
+            left_out[0] = 0
+    return set_job_then(change)
+
+
+@wrong_by_left('the rest of the left list cleared')
+def _():
+    def set_job(*arguments):
+        before = list(arguments[-2])
+        answer = right['set_job'](*arguments)
+        left_out = arguments[-2]
+        if answer[0] == 'set' and left_out and left_out[-1] == before[-1]:
+            left_out[-1] = 0
+        return answer
+    return {'set_job': set_job}
+
+
+def left_places(change):
+    """`change(index)` in the place of 3,072 + index."""
+    def check_left_character(job, index):
+        try:
+            right['check_left_character'](job, index)
+        except Refused:
+            raise Refused(3, change(index))
+    return {'check_left_character': check_left_character}
+
+
+@wrong_by_left('left places without 3,072')
+def _():
+    return left_places(lambda index: index)
+
+
+@wrong_by_left('left places from 1,024')
+def _():
+    return left_places(lambda index: 1024 + index)
+
+
+@wrong_by_left('left places from 2,048')
+def _():
+    return left_places(lambda index: 2048 + index)
+
+
+@wrong_by_left('left places behind the job\'s right ones')
+def _():
+    def check_left_character(job, index):
+        try:
+            right['check_left_character'](job, index)
+        except Refused:
+            raise Refused(3, 1024 + job.ruby_count + index)
+    return {'check_left_character': check_left_character}
+
+
+@wrong_by_left('left characters not looked at')
+def _():
+    return {'check_left_character': lambda job, index: None}
+
+
+@wrong_by_left('left characters ahead of right ones')
+def _():
+    def check_ruby_character(job, index):
+        if index == 0:
+            for number in range(job.left_count):
+                right['check_left_character'](job, number)
+        right['check_ruby_character'](job, index)
+    return {'check_ruby_character': check_ruby_character}
+
+
+@wrong_by_left('the left count not held to its maximum')
+def _():
+    return {'MOST_LEFT': 10 ** 9}
+
+
+@wrong_by_left('1,024 left characters at most')
+def _():
+    return {'MOST_LEFT': 1024}
+
+
+@wrong_by_left('2,047 left characters at most')
+def _():
+    return {'MOST_LEFT': 2047}
+
+
+@wrong_by_left('the left count ahead of the element count')
+def _():
+    def check_counts(job):
+        if job.left_count > 2048 and job.base_count <= 1024 and (
+                job.ruby_count <= 2048):
+            raise Refused(2, 3)
+        right['check_counts'](job)
+    return {'check_counts': check_counts}
+
+
+@wrong_by_left('2 with place 1 for the left count')
+def _():
+    def check_counts(job):
+        try:
+            right['check_counts'](job)
+        except Refused as refusal:
+            raise Refused(2, 1 if refusal.place == 3 else refusal.place)
+    return {'check_counts': check_counts}
+
+
+@wrong_by_left('a left list that is too short not refused')
+def _():
+    def check_room(job, base_out, ruby_out, left_out, line_out):
+        right['check_room'](job, base_out, ruby_out, [0] * 4096, line_out)
+    return {'check_room': check_room}
+
+
+@wrong_by_left('the left list held to the right count')
+def _():
+    def check_room(job, base_out, ruby_out, left_out, line_out):
+        right['check_room'](job, base_out, ruby_out, left_out, line_out)
+        if len(left_out) < job.ruby_count:
+            raise Refused(12, 0)
+    return {'check_room': check_room}
+
+
+def judged_left(*steps):
+    """Elements judged by these steps in turn in the place of 5 and 16."""
+    def left_counts(job, place, base, taken):
+        found = 0, []
+        for step in steps:
+            found = step(job, place, base, taken) or found
+        return found
+    return {'left_counts': left_counts, 'check_left_kind': lambda *_: None}
+
+
+def by_counts(job, place, base, taken):
+    return right['left_counts'](job, place, base, taken)
+
+
+def by_kind(job, place, base, taken):
+    right['check_left_kind'](job, place)
+
+
+@wrong_by_left('16 ahead of 5')
+def _():
+    return judged_left(by_kind, by_counts)
+
+
+@wrong_by_left('16 between the left kind\'s 5 and the left counts\' 5')
+def _():
+    def known(job, place, base, taken):
+        if job.left_kind[place] not in (M, G, J, N):
+            raise Refused(5, place)
+    return judged_left(known, by_kind, by_counts)
+
+
+@wrong_by_left('16 ahead of the right counts\' 5')
+def _():
+    def element_counts(job, place, taken):
+        if job.kind[place] in second.TAKEN and (
+                job.left_kind[place] in (M, G, J, N)):
+            right['check_left_kind'](job, place)
+        return right['element_counts'](job, place, taken)
+    return {'element_counts': element_counts}
+
+
+@wrong_by_left('16 after 6')
+def _():
+    def check_blanks_inside(job, element, place):
+        right['check_left_kind'](job, place)
+        right['check_blanks_inside'](job, element, place)
+    return {'check_blanks_inside': check_blanks_inside,
+            'check_left_kind': lambda *_: None}
+
+
+@wrong_by_left('an unknown left kind as 16')
+def _():
+    def left_counts(job, place, base, taken):
+        if job.left_kind[place] not in (M, G, J, N):
+            raise Refused(16, place)
+        return right['left_counts'](job, place, base, taken)
+    return {'left_counts': left_counts}
+
+
+def no_reading_if(is_none):
+    """No left reading where `is_none(kind, left kind)`, and no refusal."""
+    def left_counts(job, place, base, taken):
+        if is_none(job.kind[place], job.left_kind[place]):
+            job.left_kind = list(job.left_kind)
+            job.left_kind[place] = N
+        return right['left_counts'](job, place, base, taken)
+    return {'left_counts': left_counts}
+
+
+@wrong_by_left('an unknown left kind as none')
+def _():
+    return no_reading_if(lambda kind, left: left not in (M, G, J, N))
+
+
+@wrong_by_left('0 as a left kind for none')
+def _():
+    return no_reading_if(lambda kind, left: left == 0)
+
+
+@wrong_by_left('a left kind on P not looked at')
+def _():
+    return no_reading_if(lambda kind, left: kind == P)
+
+
+@wrong_by_left('a left kind on P judged by its count')
+def _():
+    def left_counts(job, place, base, taken):
+        if job.kind[place] == P and job.left_kind[place] in (M, G, J):
+            if not 1 <= job.elem_left[place] <= 64:
+                raise Refused(5, place)
+        return right['left_counts'](job, place, base, taken)
+    return {'left_counts': left_counts}
+
+
+def taken(**more):
+    """TAKEN with one more left kind for an element's kind."""
+    return {'TAKEN': {**second.TAKEN, **{
+        ord(kind): second.TAKEN[ord(kind)] + (left,)
+        for kind, left in more.items()}}}
+
+
+@wrong_by_left('a left G on M')
+def _():
+    return taken(M=G)
+
+
+@wrong_by_left('a left J on M')
+def _():
+    return taken(M=J)
+
+
+@wrong_by_left('a left M on G')
+def _():
+    return taken(G=M)
+
+
+@wrong_by_left('a left J on G')
+def _():
+    return taken(G=J)
+
+
+@wrong_by_left('no left M on J')
+def _():
+    return {'TAKEN': {**second.TAKEN, J: (N, J, G)}}
+
+
+@wrong_by_left('16 with the number of the base character')
+def _():
+    def take_elements(job):
+        try:
+            right['take_elements'](job)
+        except Refused as refusal:
+            if refusal.number == 16:
+                raise Refused(16, sum(
+                    1 if kind in (P, M) else base for kind, base in zip(
+                        job.kind[:refusal.place], job.elem_base)))
+            raise
+    return {'take_elements': take_elements}
+
+
+def counts_within(least, most, most_runs, least_run=1):
+    def left_counts(job, place, base, taken):
+        kind = job.left_kind[place]
+        if kind not in (M, G, J, N) or kind == N or job.kind[place] == P:
+            return right['left_counts'](job, place, base, taken)
+        if kind == G or (kind, job.kind[place]) == (M, M):
+            if not least <= job.elem_left[place] <= most:
+                raise Refused(5, place)
+            return job.elem_left[place], []
+        runs = [second.run_at(job.left_runs, taken + i) for i in range(base)]
+        if min(runs) < least_run or sum(runs) > most_runs:
+            raise Refused(5, place)
+        return sum(runs), runs
+    return {'left_counts': left_counts}
+
+
+@wrong_by_left('a left count of 0')
+def _():
+    return counts_within(0, 64, 64)
+
+
+@wrong_by_left('a left count of 65')
+def _():
+    return counts_within(1, 65, 64)
+
+
+@wrong_by_left('63 left characters at most')
+def _():
+    return counts_within(1, 63, 64)
+
+
+@wrong_by_left('a left run of 0 for a character without a gloss')
+def _():
+    return counts_within(1, 64, 64, 0)
+
+
+@wrong_by_left('left runs of 64 each')
+def _():
+    return counts_within(1, 64, 32 * 64)
+
+
+@wrong_by_left('left runs whose sum wraps')
+def _():
+    def left_counts(job, place, base, taken):
+        runs = [second.run_at(job.left_runs, taken + i) for i in range(base)]
+        if job.kind[place] == J and job.left_kind[place] in (M, J) and (
+                0 not in runs and sum(runs) % 2 ** 32 <= 64):
+            return sum(runs) % 2 ** 32, runs
+        return right['left_counts'](job, place, base, taken)
+    return {'left_counts': left_counts}
+
+
+@wrong_by_left('left runs read on from those of another left kind')
+def _():
+    # As if every J took its left runs, also with none or a left G.
+    def left_counts(job, place, base, taken):
+        skipped = sum(other for number, other in enumerate(
+            job.elem_base[:place]) if job.kind[number] == J
+            and job.left_kind[number] in (N, G))
+        return right['left_counts'](job, place, base, taken + skipped)
+    return {'left_counts': left_counts}
+
+
+@wrong_by_left('left runs read from the right ones')
+def _():
+    def left_counts(job, place, base, taken):
+        job.left_runs = job.runs
+        return right['left_counts'](job, place, base, taken)
+    return {'left_counts': left_counts}
+
+
+@wrong_by_left('a left count read for a left J')
+def _():
+    def left_counts(job, place, base, taken):
+        if job.left_kind[place] in (M, J) and job.kind[place] == J and (
+                not 0 <= job.elem_left[place] <= 64):
+            raise Refused(5, place)
+        return right['left_counts'](job, place, base, taken)
+    return {'left_counts': left_counts}
+
+
+@wrong_by_left('a left count read where there is none')
+def _():
+    def left_counts(job, place, base, taken):
+        if job.left_kind[place] == N and job.elem_left[place] > 64:
+            raise Refused(5, place)
+        return right['left_counts'](job, place, base, taken)
+    return {'left_counts': left_counts}
+
+
+@wrong_by_left('left lists not among the lists of an element')
+def _():
+    class Job(right['Job']):
+        def __init__(self, *arguments):
+            super().__init__(*arguments)
+            count = min(map(len, arguments[11:14]))
+            self.element_count = count
+            self.left_kind = (self.left_kind + [N] * count)[:count]
+            self.elem_left = (self.elem_left + [0] * count)[:count]
+    return {'Job': Job}
+
+
+@wrong_by_left('left characters that are left over passed by')
+def _():
+    def take_elements(job):
+        count = job.left_count
+        try:
+            right['take_elements'](job)
+        except Refused as refusal:
+            taken = job.elements[-1].left_end if job.elements else 0
+            if (refusal.number, refusal.place) == (6, job.element_count) and (
+                    taken < count):
+                job.left_count = taken
+                job.elements.clear()
+                right['take_elements'](job)
+            else:
+                raise
+    return {'take_elements': take_elements}
+
+
+def mixture(*asked):
+    """9 within the strings that `asked(job, element)` give."""
+    def check_mixture(job, element, place):
+        if element.kind not in (G, J):
+            return
+        for ask in asked:
+            classes = ask(job, element)
+            if 26 in classes or (
+                    any(map(second.is_western, classes))
+                    and any(map(second.is_kana_like, classes))):
+                raise Refused(9, place)
+    return {'check_mixture': check_mixture}
+
+
+def base_classes(job, element):
+    return job.base_class[element.base_first:element.base_end]
+
+
+def right_classes(job, element):
+    return job.ruby_class[element.ruby_first:element.ruby_end]
+
+
+def left_classes(job, element):
+    return job.left_class[element.left_first:element.left_end]
+
+
+@wrong_by_left('9 not asked of left characters')
+def _():
+    return mixture(base_classes, right_classes)
+
+
+@wrong_by_left('9 not asked of a mono left reading on J')
+def _():
+    return mixture(base_classes, right_classes, lambda job, element: [] if (
+        element.left_kind == M) else left_classes(job, element))
+
+
+@wrong_by_left('left and right characters as one string')
+def _():
+    return mixture(base_classes, lambda job, element: right_classes(
+        job, element) + left_classes(job, element))
+
+
+@wrong_by_left('a right 10 ahead of a left 9')
+def _():
+    found = mixture(base_classes, right_classes)
+
+    def check_western_over_western(job, element, place):
+        if element.kind == G and second.is_western(
+                job.base_class[element.base_first]) and second.is_western(
+                    job.ruby_class[element.ruby_first]):
+            raise Refused(10, place)
+        right['check_mixture'](job, element, place)
+        right['check_western_over_western'](job, element, place)
+    return {**found,
+            'check_western_over_western': check_western_over_western}
+
+
+@wrong_by_left('10 not asked of left readings')
+def _():
+    def check_western_over_western(job, element, place):
+        copied = copy.copy(element)
+        copied.left_kind = N
+        right['check_western_over_western'](job, copied, place)
+    return {'check_western_over_western': check_western_over_western}
+
+
+@wrong_by_left('10 asked of a left reading in M')
+def _():
+    def check_western_over_western(job, element, place):
+        right['check_western_over_western'](job, element, place)
+        if element.left_kind == M and element.kind == M and second.is_western(
+                job.base_class[element.base_first]) and second.is_western(
+                    job.left_class[element.left_first]):
+            raise Refused(10, place)
+    return {'check_western_over_western': check_western_over_western}
+
+
+# ---------------------------------------------------------------------------
+# R-5: the account
+# ---------------------------------------------------------------------------
+
+right_account = {name: value for name, value in vars(account).items()
+                 if callable(value)}
+
+
+@wrong_account('left reasons named first')
+def _():
+    class Drawn(right_account['Drawn']):
+        def rubies(self):
+            return right_account['Drawn'].rubies(self)[::-1]
+    return {'Drawn': Drawn}
+
+
+@wrong_account('reasons of the left named as of the right')
+def _():
+    return {'TOLD': {key: code - 4 if code > 6 else code
+                     for key, code in account.TOLD.items()}}
+
+
+def reasons_of(keep):
+    def reasons(earlier, drawn):
+        for reason in right_account['reasons'](earlier, drawn):
+            if keep(reason):
+                yield reason
+    return {'reasons': reasons}
+
+
+@wrong_account('rule 2 of the left named last')
+def _():
+    def reasons(earlier, drawn):
+        found = list(right_account['reasons'](earlier, drawn))
+        yield from sorted(found, key=lambda reason: reason.rule == 2 and (
+            'left ruby' in (reason.mine, reason.its)))
+    return {'reasons': reasons}
+
+
+@wrong_account('every reason of the right ahead of those of the left')
+def _():
+    def reasons(earlier, drawn):
+        found = list(right_account['reasons'](earlier, drawn))
+        yield from sorted(found, key=lambda reason: 'left ruby' in (
+            reason.mine, reason.its))
+    return {'reasons': reasons}
+
+
+@wrong_account('extents without left readings')
+def _():
+    def extent(line):
+        return max(max(drawn.block[1], (drawn.ruby or drawn.block)[1])
+                   for drawn in line)
+    return {'extent': extent}
+
+
+@wrong_account('one row for a J with a mono left reading')
+def _():
+    def drawn_parts(job, owner, ends):
+        for bases, rubies, lefts in second.printed_parts(job, ends):
+            yield owner[bases[0]], bases, rubies, lefts
+    return {'drawn_parts': drawn_parts}
+
+
+@wrong_account('base characters counted for the elements of such a J')
+def _():
+    def drawn_element(job, number, bases, *rest):
+        drawn = right_account['drawn_element'](job, number, bases, *rest)
+        element = job.elements[number]
+        if (element.kind, element.left_kind) == (J, M):
+            drawn.element = bases[0]
+        return drawn
+    return {'drawn_element': drawn_element}
+
+
+# ---------------------------------------------------------------------------
+# R-6: sheets of form two
+# ---------------------------------------------------------------------------
+
+def reordered(change):
+    """`change(the nine numbers)` in the place of them."""
+    def read_set(reader, count):
+        numbers = right['read_set'](reader, count)
+        return change(*numbers) if count == 9 else numbers
+    return {'read_set': read_set}
+
+
+@wrong_by_form('the base ratio ahead of the ruby ratio')
+def _():
+    return reordered(lambda em, measure, a, b, c, d, e, f, profile:
+                     [em, measure, d, e, f, a, b, c, profile])
+
+
+@wrong_by_form('ratio numbers from behind')
+def _():
+    return reordered(lambda em, measure, a, b, c, d, e, f, profile:
+                     [em, measure, c, b, a, f, e, d, profile])
+
+
+@wrong_by_form('ratio numbers of ruby and base in turn')
+def _():
+    return reordered(lambda em, measure, a, b, c, d, e, f, profile:
+                     [em, measure, a, c, e, b, d, f, profile])
+
+
+@wrong_by_form('the profile ahead of the ratios')
+def _():
+    return reordered(lambda em, measure, profile, *six:
+                     [em, measure, *six, profile])
+
+
+@wrong_by_form('the measure ahead of the em')
+def _():
+    return reordered(lambda em, measure, *rest: [measure, em, *rest])
+
+
+@wrong_by_form('the ratios not read')
+def _():
+    return reordered(lambda em, measure, *rest:
+                     [em, measure, 1, 2, 1, 1, 2, 1, rest[-1]])
+
+
+@wrong_by_form('the profile not read')
+def _():
+    return reordered(lambda *numbers: [*numbers[:-1], 0])
+
+
+def judged_in_form(is_bad):
+    """`is_bad(place, number)` of the nine as a fault of form."""
+    def read_set(reader, count):
+        numbers = []
+        for place in range(count):
+            numbers += reader.numbers(reader.fields(), 1)
+            if count == 9 and is_bad(place, numbers[-1]):
+                raise reader.fault()
+        return numbers
+    return {'read_set': read_set}
+
+
+@wrong_by_form('a ratio number over 7 as a fault of form')
+def _():
+    return judged_in_form(lambda place, number: 2 <= place < 8 and number > 7)
+
+
+@wrong_by_form('a profile other than 0 as a fault of form')
+def _():
+    return judged_in_form(lambda place, number: place == 8 and number > 0)
+
+
+@wrong_by_form('a profile over 1 as a fault of form')
+def _():
+    return judged_in_form(lambda place, number: place == 8 and number > 1)
+
+
+def first_lines(one, two):
+    """Which first lines are read as which form."""
+    def read_sheet(sheet, form_two):
+        line, _, rest = sheet.partition(b'\n')
+        if line in one:
+            line = b'set 2'
+        elif line in two:
+            line = b'set 9'
+        else:
+            line = b'set 0'
+        if b'\n' not in sheet or len(sheet) > 65535:
+            return right['read_sheet'](sheet, form_two)
+        return right['read_sheet'](line + b'\n' + rest, form_two)
+    return {'read_sheet': read_sheet}
+
+
+@wrong_by_form('form two alone')
+def _():
+    return first_lines((), (b'set 9',))
+
+
+@wrong_by_form('form one alone')
+def _():
+    return first_lines((b'set 2',), ())
+
+
+@wrong_by_form('any other number of the set section as form two')
+def _():
+    return first_lines((b'set 2',), (b'set 9', b'set 8', b'set 10', b'set 3'))
+
+
+@wrong_by_form('the left section ahead of the ruby section')
+def _():
+    def read_ruby(reader):
+        if reader.sheet.startswith(b'set 9'):
+            reader.ahead = right['read_left'](reader)
+        return right['read_ruby'](reader)
+    return {'read_ruby': read_ruby, 'read_left': lambda reader: reader.ahead}
+
+
+@wrong_by_form('no left section where it would be empty')
+def _():
+    def read_left(reader):
+        if reader.sheet[reader.place:reader.place + 5] == b'elem ':
+            return [[], []]
+        return right['read_left'](reader)
+    return {'read_left': read_left}
+
+
+def left_section(name=b'left', most=2048, place=3):
+    def read_left(reader):
+        lists = [[], []]
+        for _ in range(reader.count(name, most, place)):
+            for values, value in zip(lists,
+                                     reader.numbers(reader.fields(), 2)):
+                values.append(value)
+        return lists
+    return {'read_left': read_left}
+
+
+@wrong_by_form('a second ruby section')
+def _():
+    return left_section(name=b'ruby')
+
+
+@wrong_by_form('2 with place 1 for the left count of a sheet')
+def _():
+    return left_section(place=1)
+
+
+@wrong_by_form('2 with place 2 for the left count of a sheet')
+def _():
+    return left_section(place=2)
+
+
+@wrong_by_form('1,024 left characters on a sheet')
+def _():
+    return left_section(most=1024)
+
+
+@wrong_by_form('the left count of a sheet not held to its maximum')
+def _():
+    return left_section(most=10 ** 10)
+
+
+@wrong_by_form('the left count judged after the element count')
+def _():
+    def read_left(reader):
+        try:
+            return right['read_left'](reader)
+        except Refused as refusal:
+            if refusal.number == 2:
+                reader.count(b'elem', 1024, 2)
+            raise
+    return {'read_left': read_left}
+
+
+def element_line(change):
+    """`change(fields)` of each element line of form two before it is read."""
+    def read_element_two(reader):
+        start = reader.place
+        fields = change(reader.fields())
+        line = b' '.join(fields) + b'\n'
+        rest = reader.sheet[reader.place:]
+        reader.sheet = reader.sheet[:start] + line + rest
+        reader.place = start
+        reader.line_number -= 1
+        return right['read_element_two'](reader)
+    return {'read_element_two': read_element_two}
+
+
+def has_letter(fields):
+    return any(field.isalpha() for field in fields[1:])
+
+
+@wrong_by_form('no letter for none')
+def _():
+    return element_line(lambda fields: fields if has_letter(fields)
+                        or fields[0] == b'P' else fields + [b'N'])
+
+
+@wrong_by_form('a letter for none on P')
+def _():
+    return element_line(lambda fields: [b'P'] if fields == [b'P', b'N']
+                        else fields)
+
+
+@wrong_by_form('a letter asked for on P')
+def _():
+    return element_line(lambda fields: [b'P', b'P'] if fields == [b'P']
+                        else fields[:1] if fields == [b'P', b'N'] else fields)
+
+
+@wrong_by_form('small letters')
+def _():
+    return element_line(lambda fields: fields[:1] + [
+        field.upper() for field in fields[1:]])
+
+
+@wrong_by_form('P as a letter for none')
+def _():
+    return element_line(lambda fields: fields[:1] + [
+        b'N' if field == b'P' else field for field in fields[1:]])
+
+
+@wrong_by_form('counts behind N passed over')
+def _():
+    return element_line(lambda fields: fields[:fields.index(b'N') + 1]
+                        if b'N' in fields[1:] else fields)
+
+
+def left_counts_as(count_of):
+    """`count_of(kind, base, letter)` counts behind the letter M or J."""
+    def read_left_counts(reader, kind, base, letter, texts):
+        if letter in (b'M', b'J') and not (letter == b'M' and kind == M):
+            runs = reader.numbers(texts, count_of(kind, base, letter))
+            return ord(letter), 0, runs
+        return right['read_left_counts'](reader, kind, base, letter, texts)
+    return {'read_left_counts': read_left_counts}
+
+
+@wrong_by_form('one count for a left kind that is not taken')
+def _():
+    return left_counts_as(lambda kind, base, letter: 1 if kind != J else base)
+
+
+@wrong_by_form('one count for a mono left reading on J')
+def _():
+    return left_counts_as(lambda kind, base, letter: 1 if letter == b'M' or (
+        kind == M) else base)
+
+
+@wrong_by_form('a count ahead of the runs of a left J')
+def _():
+    def read_left_counts(reader, kind, base, letter, texts):
+        if letter == b'J' and len(texts) > 0:
+            if texts[0] != b'%d' % base:
+                raise reader.fault()
+            texts = texts[1:]
+        return right['read_left_counts'](reader, kind, base, letter, texts)
+    return {'read_left_counts': read_left_counts}
+
+
+@wrong_by_form('a left kind that is not taken as a fault of form')
+def _():
+    def read_left_counts(reader, kind, base, letter, texts):
+        found = right['read_left_counts'](reader, kind, base, letter, texts)
+        if found[0] not in second.TAKEN[kind]:
+            raise reader.fault()
+        return found
+    return {'read_left_counts': read_left_counts}
+
+
+@wrong_by_form('left counts out of range as a fault of form')
+def _():
+    def read_left_counts(reader, kind, base, letter, texts):
+        found = right['read_left_counts'](reader, kind, base, letter, texts)
+        if found[0] in (M, G) and not found[2] and not 1 <= found[1] <= 64:
+            raise reader.fault()
+        return found
+    return {'read_left_counts': read_left_counts}
+
+
+@wrong_by_form('no left positions in the result')
+def _():
+    def result_text(*arguments):
+        text = right['result_text'](*arguments)
+        return b''.join(line for line in text.splitlines(True)
+                        if not line.startswith(b'l '))
+    return {'result_text': result_text}
+
+
+@wrong_by_form('left positions ahead of the right ones')
+def _():
+    def result_text(arguments, base_out, ruby_outs, ends):
+        text = right['result_text'](arguments, base_out, ruby_outs, ends)
+        rows, lefts = [], []
+        for line in text.splitlines(True):
+            if line.startswith(b'l '):
+                at = len(rows)
+                while at > 0 and rows[at - 1].startswith(b'r '):
+                    at -= 1
+                rows.insert(at, line)
+            else:
+                rows.append(line)
+        return b''.join(rows)
+    return {'result_text': result_text}
+
+
+@wrong_by_form('a J with a mono left reading printed character by character')
+def _():
+    def cut_by_lines(element, ends):
+        if (element.kind, element.left_kind) == (J, M):
+            return [(index, index + 1) for index
+                    in range(element.base_first, element.base_end)]
+        return right['cut_by_lines'](element, ends)
+    return {'cut_by_lines': cut_by_lines}
+
+
+@wrong_by_form('the extent without left readings')
+def _():
+    def line_extent(job, parts, base_out, ruby_outs):
+        return right['line_extent'](job, [(*part[:2], []) for part in parts],
+                                    base_out, ruby_outs)
+    return {'line_extent': line_extent}
+
+
+# ---------------------------------------------------------------------------
+# R-6: the converter
+# ---------------------------------------------------------------------------
+
+right_converter = {name: value for name, value in vars(convert).items()
+                   if callable(value)}
+
+
+def writes(line, other):
+    """One line of form two that is written another way."""
+    def to_form_two(arguments, lines):
+        found = right_converter['to_form_two'](arguments, lines).split(b'\n')
+        found[line - 1] = other
+        return b'\n'.join(found)
+    return {'to_form_two': to_form_two}
+
+
+@wrong_converter('another ruby ratio')
+def _():
+    return writes(5, b'3')
+
+
+@wrong_converter('another base ratio')
+def _():
+    return writes(7, b'2')
+
+
+@wrong_converter('ratios of the same proportion')
+def _():
+    def to_form_two(arguments, lines):
+        found = right_converter['to_form_two'](arguments, lines).split(b'\n')
+        found[3:9] = [b'2', b'4', b'2'] * 2
+        return b'\n'.join(found)
+    return {'to_form_two': to_form_two}
+
+
+@wrong_converter('profile 1')
+def _():
+    return writes(10, b'1')
+
+
+@wrong_converter('the left section left out when empty')
+def _():
+    def to_form_two(arguments, lines):
+        found = right_converter['to_form_two'](arguments, lines)
+        return found.replace(b'left 0\n', b'')
+    return {'to_form_two': to_form_two}
+
+
+@wrong_converter('the left section behind the elements')
+def _():
+    def to_form_two(arguments, lines):
+        found = right_converter['to_form_two'](arguments, lines)
+        return found.replace(b'left 0\n', b'') + b'left 0\n'
+    return {'to_form_two': to_form_two}
+
+
+@wrong_converter('a letter on P')
+def _():
+    return {'with_letter': lambda line: line + b' N'}
+
+
+@wrong_converter('no letters')
+def _():
+    return {'with_letter': lambda line: line}
+
+
+@wrong_converter('a count behind N')
+def _():
+    return {'with_letter': lambda line: line if line == b'P'
+            else line + b' N 0'}
+
+
+@wrong_converter('letters kept in form one')
+def _():
+    return {'without_letter': lambda line: line}
+
+
+@wrong_converter('no LF at the end')
+def _():
+    def text_of(lines):
+        return right_converter['text_of'](lines)[:-1]
+    return {'text_of': text_of}
+
+
+@wrong_converter('jobs that are refused converted')
+def _():
+    return {'check_accepted': lambda arguments: None}
+
+
+@wrong_converter('jobs with refusal 11 converted')
+def _():
+    def check_accepted(arguments):
+        try:
+            right_converter['check_accepted'](arguments)
+        except Refused as refusal:
+            if refusal.number != 11:
+                raise
+    return {'check_accepted': check_accepted}
+
+
+@wrong_converter('form two not taken back')
+def _():
+    def to_form_one(arguments, lines):
+        right_converter['to_form_one'](arguments, lines)
+        return b''.join(line + b'\n' for line in lines)
+    return {'to_form_one': to_form_one}
+
+
+def held(check):
+    return {'check_form_one_can_hold': check}
+
+
+@wrong_converter('ratios not looked at')
+def _():
+    def check(arguments, lines):
+        right_converter['check_form_one_can_hold'](
+            arguments, lines[:3] + convert.PLAIN[:6] + lines[9:])
+    return held(check)
+
+
+@wrong_converter('the base ratio not looked at')
+def _():
+    def check(arguments, lines):
+        right_converter['check_form_one_can_hold'](
+            arguments, lines[:6] + convert.PLAIN[3:6] + lines[9:])
+    return held(check)
+
+
+@wrong_converter('ratios by their proportion')
+def _():
+    def check(arguments, lines):
+        lines = list(lines)
+        for first in (3, 6):
+            numbers = [int(line) for line in lines[first:first + 3]]
+            if numbers[0] > 0 and numbers == [
+                    numbers[0], 2 * numbers[0], numbers[0]]:
+                lines[first:first + 3] = [b'1', b'2', b'1']
+        right_converter['check_form_one_can_hold'](arguments, lines)
+    return held(check)
+
+
+@wrong_converter('the profile not looked at')
+def _():
+    def check(arguments, lines):
+        right_converter['check_form_one_can_hold'](
+            arguments, lines[:9] + [b'0'] + lines[10:])
+    return held(check)
+
+
+@wrong_converter('left characters without a letter passed over')
+def _():
+    return {'has_left_reading': lambda left: any(
+        kind != N for kind in left.left_kind)}
+
+
+@wrong_converter('letters without left characters passed over')
+def _():
+    return {'has_left_reading': lambda left: len(left.left_class) > 0}
+
+
+def place_of_17(change):
+    """`change(place, arguments, lines)` in the place of 17's."""
+    def check(arguments, lines):
+        try:
+            right_converter['check_form_one_can_hold'](arguments, lines)
+        except Refused as refusal:
+            raise Refused(17, change(refusal.place, arguments, lines))
+    return held(check)
+
+
+@wrong_converter('17 with lines from 0')
+def _():
+    return place_of_17(lambda place, arguments, lines: place - 1)
+
+
+@wrong_converter('17 with the first line of the ratio')
+def _():
+    return place_of_17(lambda place, arguments, lines:
+                       4 if place < 7 else 7 if place < 10 else place)
+
+
+@wrong_converter('17 with the places of 15')
+def _():
+    return place_of_17(lambda place, arguments, lines:
+                       0 if place < 7 else 1 if place < 10 else place)
+
+
+@wrong_converter('17 with the first left character')
+def _():
+    return place_of_17(lambda place, arguments, lines:
+                       place + 1 if place > 10 else place)
+
+
+@wrong_converter('17 with the line of the element')
+def _():
+    def change(place, arguments, lines):
+        if place <= 10:
+            return place
+        for number, line in enumerate(lines[place:], place + 1):
+            if line[:1] in b'MGJ' and not line.endswith(b' N'):
+                return number
+        return place
+    return place_of_17(change)
+
+
+@wrong_converter('17 with the last line at fault')
+def _():
+    def change(place, arguments, lines):
+        if convert.has_left_reading(arguments[15]):
+            return convert.left_line(lines) + 1
+        return max(number for number, (line, plain) in enumerate(
+            zip(lines[3:10], convert.PLAIN), 4) if line != plain)
+    return place_of_17(change)
+
+
+@wrong_converter('17 for a reading ahead of 17 for a ratio')
+def _():
+    def change(place, arguments, lines):
+        if convert.has_left_reading(arguments[15]):
+            return convert.left_line(lines) + 1
+        return place
+    return place_of_17(change)
+
+
+@wrong_converter('17 after the job\'s own refusals')
+def _():
+    def check(arguments, lines):
+        right_converter['check_accepted'](arguments)
+        right_converter['check_form_one_can_hold'](arguments, lines)
+    return held(check)
+
+
+@wrong_converter('17 after 15 and 20')
+def _():
+    def check(arguments, lines):
+        job = second.Job(*arguments)
+        second.check_ratios(job)
+        second.check_profile(job)
+        right_converter['check_form_one_can_hold'](arguments, lines)
+    return held(check)
+
+
+@wrong_converter('17 after 1')
+def _():
+    def check(arguments, lines):
+        second.check_sizes(second.Job(*arguments))
+        right_converter['check_form_one_can_hold'](arguments, lines)
+    return held(check)
+
+
+def early_17(but_for):
+    """17 for a line of the set section ahead of this number."""
+    def converted(sheet):
+        found = right_converter['converted'](sheet)
+        lines = sheet.split(b'\n')
+        if found.startswith(b'refused %d ' % but_for) and (
+                lines[0] == b'set 9' and len(lines) > 10
+                and len(sheet) <= 65535):
+            for number, (line, plain) in enumerate(
+                    zip(lines[3:10], convert.PLAIN), 4):
+                if not line.isdigit():
+                    break
+                if line != plain:
+                    return b'refused 17 %d\n' % number
+        return found
+    return {'converted': converted}
+
+
+@wrong_converter('17 ahead of 13')
+def _():
+    return early_17(13)
+
+
+@wrong_converter('17 ahead of 2')
+def _():
+    return early_17(2)
+
+
+@wrong_converter('form one alone converted')
+def _():
+    def converted(sheet):
+        if sheet.startswith(b'set 9\n'):
+            return b'refused 13 1\n'
+        return right_converter['converted'](sheet)
+    return {'converted': converted}
+
+
+# ---------------------------------------------------------------------------
 
 class Found(unittest.TestCase):
 
@@ -1470,7 +3103,7 @@ class Found(unittest.TestCase):
     def setUpClass(cls):
         cls.sheets = list(generate.sheets(1, 1500))
         cls.answers = [second.answer(text) for text in cls.sheets]
-        cls.calls = [call for call, _ in generate_lists.calls(1, 1000)]
+        cls.calls = [call for call, _ in generate_lists.calls(1, 1000, False)]
         cls.results = [call.answered() for call in cls.calls]
 
     def shown_by(self, replacements):
@@ -1504,9 +3137,77 @@ class Found(unittest.TestCase):
         self.assertIsNone(self.shown_in_lists(pencil))
 
 
-def first_shown(replacements, answered, given, expected):
+class FoundByLeft(unittest.TestCase):
+
+    @classmethod
+    def setUpClass(cls):
+        # Without the longest, which take long and show nothing else.
+        cls.calls = [both for both in generate_lists.calls(1, 2000, True)
+                     if len(both[0].given[0]) <= 100]
+        cls.results = [call.answered() for call, _ in cls.calls]
+
+    def test_every_wrong_engine_of_left_readings_is_found(self):
+        calls = [call for call, _ in self.calls]
+        for name, replacements in WRONG_BY_LEFT.items():
+            with self.subTest(name):
+                self.assertIsNotNone(first_shown(
+                    replacements, lambda call: call.answered(), calls,
+                    self.results), name)
+
+    def test_every_wrong_account_of_left_readings_is_found(self):
+        calls = [call for _, call in self.calls]
+        accounts = [call.answered() for call in calls]
+        for name, replacements in WRONG_ACCOUNTS.items():
+            with self.subTest(name):
+                self.assertIsNotNone(first_shown(
+                    replacements, lambda call: call.answered(), calls,
+                    accounts, account), name)
+
+    def test_the_left_one_if_equal_is_the_same(self):
+        # "the longer reading (right, if equal)": which of two equal ones is
+        # set with the base never shows.
+        def set_two_groups(em, ratios, western, base, ruby, left):
+            if sum(ruby.widths) != sum(left.widths):
+                return right['set_two_groups'](em, ratios, western, base,
+                                               ruby, left)
+            base_at, left_at, ruby_at = right['set_two_groups'](
+                em, ratios, western, base, left, ruby)
+            return base_at, ruby_at, left_at
+        calls = [call for call, _ in self.calls]
+        self.assertIsNone(first_shown(
+            {'set_two_groups': set_two_groups},
+            lambda call: call.answered(), calls, self.results))
+
+
+class FoundByForms(unittest.TestCase):
+
+    @classmethod
+    def setUpClass(cls):
+        # Without the longest, which take long and show nothing else.
+        cls.sheets = [sheet for sheet in generate_two.sheets(1, 2500)
+                      if len(sheet) <= 6000]
+
+    def test_every_wrong_reading_of_form_two_is_found(self):
+        def answered(sheet):
+            return second.answer(sheet, True)
+        answers = list(map(answered, self.sheets))
+        for name, replacements in WRONG_BY_FORM.items():
+            with self.subTest(name):
+                self.assertIsNotNone(first_shown(
+                    replacements, answered, self.sheets, answers), name)
+
+    def test_every_wrong_converter_is_found(self):
+        expected = list(map(convert.converted, self.sheets))
+        for name, replacements in WRONG_CONVERTERS.items():
+            with self.subTest(name):
+                self.assertIsNotNone(first_shown(
+                    replacements, lambda sheet: convert.converted(sheet),
+                    self.sheets, expected, convert), name)
+
+
+def first_shown(replacements, answered, given, expected, module=second):
     """How many are answered rightly before the first that is not."""
-    with mock.patch.multiple(second, **replacements):
+    with mock.patch.multiple(module, **replacements):
         for count, one in enumerate(given):
             try:
                 answer = answered(one)
