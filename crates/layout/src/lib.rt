@@ -2,11 +2,12 @@
 // refusal list from number 5 on: an element is counted, its characters have to be there, level one's answer is taken apart, and its rows are written. Behind it nobody
 // sees the lists. It relies on `door` for the counts, on `word` for level one, on `class` for depths and kinds, and on `cells` for rows.
 ghost use mathlib.Core.Path.{_≡_};
-ghost use mathlib.Core.Bool.{true, false};
+ghost use mathlib.Core.Bool.{true, false, _&&_};
 ghost use mathlib.Core.List.{_++_};
 ghost use Prim.Native.Nat.{_+_, _-_, _*_, _≤_, _<_};
 ghost use Rattle.basics.specs.Lists.{sum};
-ghost use lib.ListN.{length};
+ghost use lib.Dec.{ltb, eqb};
+ghost use lib.ListN.{length, getD};
 ghost use Rattle.word.specs.Given.{isJ};
 ghost use Rattle.door.specs.Job.{jobOf, baseCount, rubyCount, elements, entries};
 ghost use Rattle.door.specs.Refusals.{elementsFaults, leftFaults};
@@ -252,6 +253,17 @@ fn put_plain(
     );
 }
 
+// There is an element k of these, and it is a P.
+fn is_plain(k: usize, elements: usize, kind: &[u32]) -> bool
+    requires { ⌜ (k ≤ 4096) × (elements ≤ length (now kind)) ⌝ }
+    ensures { λ t. ⌜ t ≡ (ltb k elements && eqb (getD (now (kind .entry)) k 0) 80) ⌝ }
+{
+    if k < elements {
+        return kind[k] == door::PLAIN;
+    }
+    false
+}
+
 // Element k, a word with ruby, those before it having taken b base characters, r ruby characters and u runs, of `bases` and `rubies` in all: numbers 5, 6, and 7 to 10 as
 // level one gives them, or its rows.
 fn lay_word(
@@ -344,12 +356,15 @@ pub fn layout(
     let mut u: usize = 0;
     while k < elements {
         if kind[k] == door::PLAIN {
-            if bases <= b {
-                return door::Checked::Refused(Refusal::Supply(k as u32));
+            // A loop of their own for the P of a text: most have a P next to them, and its lists are then at hand.
+            while is_plain(k, elements, kind) {
+                if bases <= b {
+                    return door::Checked::Refused(Refusal::Supply(k as u32));
+                }
+                put_plain(t, b, r, em, profile, class, width, before, after, flag);
+                b += 1;
+                k += 1;
             }
-            put_plain(t, b, r, em, profile, class, width, before, after, flag);
-            b += 1;
-            k += 1;
             continue;
         }
         match lay_word(
