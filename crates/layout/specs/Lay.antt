@@ -219,8 +219,8 @@ not-both : {q : Refusal} {w : Word} → answered.Refused q ≡ answered.Set w �
 not-both e = let z : _≡_ {A = ℕ} 0 1 = cc in omega arith
 
 module _ {a : Answer} {f : Word → ℕ → Cell} {x : Piece} {was : List ℕ} where
-  pub judged-stops : {q : Refusal} → a ≡ answered.Refused q → Judged a f x was was (Stop q)
-  judged-stops {q} e = record { long = refl; stops = λ r d. (same (sym e ∙ d), refl); goes = λ w d. absurd (not-both (sym e ∙ d)) }
+  pub judged-stops : {q : Refusal} {s : Step} → a ≡ answered.Refused q → s ≡ Stop q → Judged a f x was was s
+  judged-stops {q} {s} e h = record { long = refl; stops = λ r d. (h ∙ same (sym e ∙ d), refl); goes = λ w d. absurd (not-both (sym e ∙ d)) }
     where
       same : {r : Refusal} → answered.Refused q ≡ answered.Refused r → Stop q ≡ Stop r
       same d = cc

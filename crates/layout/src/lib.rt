@@ -11,11 +11,14 @@ ghost use lib.ListN.{length, getD};
 ghost use Rattle.spread.specs.Ratio.{ratiosOf};
 ghost use Rattle.word.specs.declared.Form.the-variants as Form;
 ghost use Rattle.word.specs.Given.{isJ};
+ghost use Rattle.word.specs.declared.Answer.the-variants.{Refused};
 ghost use Rattle.word.specs.Answer.{answer};
+ghost use Rattle.refusal.specs.declared.Refusal as refusals;
 ghost use Rattle.door.specs.Job.{jobOf, baseCount, rubyCount, elements, entries, given};
 ghost use Rattle.door.specs.Refusals.{elementsFaults, leftFaults};
 ghost use Rattle.door.specs.Verdict.{verdict};
 ghost use Rattle.door.specs.declared.Checked.the-variants.{Passed};
+ghost use Rattle.door.specs.declared.Step.the-variants.{Stop};
 ghost use Rattle.cells.specs.Cells.{size};
 ghost use Rattle.cells.specs.Put.{Puts};
 ghost use Rattle.join.specs.Rows.{none, rowBy, endsBehind, Holds};
@@ -252,6 +255,25 @@ fn is_plain(k: usize, elements: usize, kind: &[u32]) -> bool
     false
 }
 
+// Level one's refusal, handed up as it is.
+fn refused(place: u32, answer: word::Answer) -> door::Step
+    ensures { λ s. ⌜ ((why : refusals.Refusal) → answer ≡ Refused why → s ≡ Stop why) ⌝ }
+{
+    let word::Answer::Refused(told) = answer else {
+        return door::Step::Stop(Refusal::Element(place)); // unreachable: a word is no refusal
+    };
+    door::Step::Stop(told)
+}
+
+// Whether a line may end behind an element.
+fn ends_behind(p: door::Piece, flag: &[u32]) -> bool
+    requires { ⌜ (0 < p .bases) × (p .base + p .bases ≤ 1024) × (p .base + p .bases ≤ length (now flag)) ⌝ }
+    ensures { λ t. ⌜ t ≡ eqb (getD (now (flag .entry)) (p .base + p .bases - 1) 0) 1 ⌝ }
+{
+    let e = p.base + p.bases - 1;
+    flag[e] == 1
+}
+
 // An M: its row, or its refusal. `place` is the element's index.
 fn lay_mono(
     t: &mut [u32],
@@ -282,12 +304,9 @@ fn lay_mono(
         &rwidth[r..s],
     );
     let word::Answer::Set(w) = answer else {
-        let word::Answer::Refused(why) = answer else {
-            return door::Step::Stop(Refusal::Element(place)); // unreachable: an answer is one of the two
-        };
-        return door::Step::Stop(why);
+        return refused(place, answer);
     };
-    let ends = flag[b] == 1;
+    let ends = ends_behind(p, flag);
     put_word(t, p, w, ends);
     door::Step::Next(p)
 }
@@ -326,12 +345,9 @@ fn lay_group(
         &rwidth[r..s],
     );
     let word::Answer::Set(w) = answer else {
-        let word::Answer::Refused(why) = answer else {
-            return door::Step::Stop(Refusal::Element(place)); // unreachable: an answer is one of the two
-        };
-        return door::Step::Stop(why);
+        return refused(place, answer);
     };
-    let ends = flag[e - 1] == 1;
+    let ends = ends_behind(p, flag);
     put_word(t, p, w, ends);
     door::Step::Next(p)
 }
@@ -374,12 +390,9 @@ fn lay_jukugo(
         &runs[u..v],
     );
     let word::Answer::Set(w) = answer else {
-        let word::Answer::Refused(why) = answer else {
-            return door::Step::Stop(Refusal::Element(place)); // unreachable: an answer is one of the two
-        };
-        return door::Step::Stop(why);
+        return refused(place, answer);
     };
-    let ends = flag[e - 1] == 1;
+    let ends = ends_behind(p, flag);
     if p.bases == 1 {
         put_single(t, p, w, ends, rclass, rwidth, runs);
     } else {

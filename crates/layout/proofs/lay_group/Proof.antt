@@ -14,15 +14,12 @@ use Rattle.word.specs.declared.Word.{Word}
 use Rattle.word.specs.declared.Answer.the-variants.{Set, Refused}
 use Rattle.word.specs.Answer.{answer}
 use Rattle.door.specs.Job.{Job, given}
-use Rattle.layout.specs.Lay.{wordsOnly, judged-stops, judged-goes, group-lent, word-small}
+use Rattle.layout.specs.Lay.{wordRow, wordsOnly, Filled, judged-stops, judged-goes, group-lent, word-small}
 use Rattle.layout.proofs.lay_group.Statement.{statement}
 use Rattle.layout.proofs.lay_group.Tie as tie
 
 abbrev job : tie.Start → Job
 job a = let x = a .args in wordsOnly (ratiosOf (x .ratios)) (x .em) (x .class .now) (x .width .now) (x .before .now) (x .after .now) (x .flag .now) (x .rclass .now) (x .rwidth .now) []
-
-never : {w : Word} {r : Refusal} → Set w ≡ Refused r → ⊥
-never e = let z : _≡_ {A = ℕ} 0 1 = cc in omega arith
 
 -- where its parts lie
 within : (a : tie.Start) →
@@ -124,31 +121,19 @@ told m = let a = entry m in let x = a .args in m .group-answer .ensures ∙ grou
 enum-known-answer : tie.Need-enum-known-answer
 enum-known-answer c = search needs
 
-enum-known-answer-2 : tie.Need-enum-known-answer-2
-enum-known-answer-2 c = search needs
-
-enum-known-answer-3 : tie.Need-enum-known-answer-3
-enum-known-answer-3 c = search needs
-
 enum-told : tie.Need-enum-told
 enum-told c = search needs
 
+refused-requires : tie.Need-refused-requires
+refused-requires c κs = search needs
+
 returns : tie.Need-returns
-returns c = absurd (never (sym (c .enum-told .given .1)))
+returns c =
+    let e = c .before .enum-told .given .1 in
+    judged-stops (sym (told (c .before .before .before)) ∙ e) (c .refused .ensures _ e)
 
-returns-2 : tie.Need-returns-2
-returns-2 c =
-    let v = c .before .before .before .before in
-    judged-stops (sym (told (v .before .before)) ∙ v .answer2 .given .1 ∙ c .before .answer3 .given .1)
-
-sub-ends : tie.Need-sub-ends
-sub-ends c = omega (arith, within (entry (c .before .before .before)))
-
-mul-ends : tie.Need-mul-ends
-mul-ends c = omega (arith, within (entry (c .before .before .before)))
-
-shared-slice-read-ends : tie.Need-shared-slice-read-ends
-shared-slice-read-ends c = omega (arith, within (entry (c .before .before .before .before)))
+ends-behind-requires : tie.Need-ends-behind-requires
+ends-behind-requires c κs = let a = entry (c .before .before .before) in let w = a .pre .2 in (w .some, w .few, w .flag)
 
 put-word-requires : tie.Need-put-word-requires
 put-word-requires c κs =
@@ -158,11 +143,15 @@ put-word-requires c κs =
 same-length : tie.Need-same-length
 same-length c = c .before .before .put-word .ensures .long
 
-returns-3 : tie.Need-returns-3
-returns-3 c =
+returns-2 : tie.Need-returns-2
+returns-2 c =
     let put = c .before .before in
-    let w = put .before .before .before .before in
-    judged-goes (sym (told (w .before .before)) ∙ w .answer .given .1) (put .put-word .ensures)
+    let ends = put .before .before in
+    let w = ends .before .before in
+    let a = entry (w .before .before) in
+    let x = a .args in
+    judged-goes (sym (told (w .before .before)) ∙ w .answer .given .1)
+    (subst (λ z. Filled (wordRow (x .p) (w .answer .given .0 .0) z 0 0) (x .p .base) (x .p .base + x .p .bases) (x .t .now) (put .put-word .last .0)) (ends .ends-behind .ensures) (put .put-word .ensures))
 
 pub lay-group-spec : {M : Type 1} → statement M
 lay-group-spec =
@@ -196,14 +185,10 @@ lay-group-spec =
     part-group-answer-end-6
     group-answer-requires
     enum-known-answer
-    enum-known-answer-2
-    enum-known-answer-3
     enum-told
+    refused-requires
     returns
-    returns-2
-    sub-ends
-    mul-ends
-    shared-slice-read-ends
+    ends-behind-requires
     put-word-requires
     same-length
-    returns-3)
+    returns-2)

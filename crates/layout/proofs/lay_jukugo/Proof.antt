@@ -14,16 +14,14 @@ use Rattle.word.specs.declared.Word.{Word}
 use Rattle.word.specs.declared.Answer.the-variants.{Set, Refused}
 use Rattle.word.specs.Answer.{answer}
 use Rattle.door.specs.Job.{Job, given}
-use Rattle.join.specs.Rows.{rowBy, endsBehind}
-use Rattle.layout.specs.Lay.{runsOnly, wordsOnly, filled-as, judged-stops, judged-goes, jukugo-lent, jukugo-whole, word-small, runs-any, single-laid, cut-row}
+use Rattle.cells.specs.Put.{Puts}
+use Rattle.join.specs.Rows.{none, rowBy, endsBehind}
+use Rattle.layout.specs.Lay.{runsOnly, wordsOnly, singleRow, filled-as, judged-stops, judged-goes, jukugo-lent, jukugo-whole, word-small, runs-any, single-laid, cut-row}
 use Rattle.layout.proofs.lay_jukugo.Statement.{statement}
 use Rattle.layout.proofs.lay_jukugo.Tie as tie
 
 abbrev job : tie.Start → Job
 job a = let x = a .args in wordsOnly (ratiosOf (x .ratios)) (x .em) (x .class .now) (x .width .now) (x .before .now) (x .after .now) (x .flag .now) (x .rclass .now) (x .rwidth .now) (x .runs .now)
-
-never : {w : Word} {r : Refusal} → Set w ≡ Refused r → ⊥
-never e = let z : _≡_ {A = ℕ} 0 1 = cc in omega arith
 
 -- where its parts lie
 within : (a : tie.Start) →
@@ -155,31 +153,19 @@ told m = let a = entry m in let x = a .args in m .jukugo-answer .ensures ∙ juk
 enum-known-answer : tie.Need-enum-known-answer
 enum-known-answer c = search needs
 
-enum-known-answer-2 : tie.Need-enum-known-answer-2
-enum-known-answer-2 c = search needs
-
-enum-known-answer-3 : tie.Need-enum-known-answer-3
-enum-known-answer-3 c = search needs
-
 enum-told : tie.Need-enum-told
 enum-told c = search needs
 
+refused-requires : tie.Need-refused-requires
+refused-requires c κs = search needs
+
 returns : tie.Need-returns
-returns c = absurd (never (sym (c .enum-told .given .1)))
+returns c =
+    let e = c .before .enum-told .given .1 in
+    judged-stops (sym (told (c .before .before .before)) ∙ e) (c .refused .ensures _ e)
 
-returns-2 : tie.Need-returns-2
-returns-2 c =
-    let v = c .before .before .before .before in
-    judged-stops (sym (told (v .before .before)) ∙ v .answer2 .given .1 ∙ c .before .answer3 .given .1)
-
-sub-ends : tie.Need-sub-ends
-sub-ends c = omega (arith, within (entry (c .before .before .before)))
-
-mul-ends : tie.Need-mul-ends
-mul-ends c = omega (arith, within (entry (c .before .before .before)))
-
-shared-slice-read-ends : tie.Need-shared-slice-read-ends
-shared-slice-read-ends c = omega (arith, within (entry (c .before .before .before .before)))
+ends-behind-requires : tie.Need-ends-behind-requires
+ends-behind-requires c κs = let a = entry (c .before .before .before) in let w = a .pre .word in (w .some, w .few, w .flag)
 
 put-single-requires : tie.Need-put-single-requires
 put-single-requires c κs = let a = entry (c .before .before .before .before .before .before .before) in (c .before .if1 .taken, runs-any (a .pre .runs))
@@ -196,33 +182,37 @@ put-runs-requires c κs = let a = entry (c .before .before .before .before .befo
 same-length : tie.Need-same-length
 same-length c = c .before .before .put-single .ensures .long
 
-returns-3 : tie.Need-returns-3
-returns-3 c =
+returns-2 : tie.Need-returns-2
+returns-2 c =
     let put = c .before .before in
     let one = put .before .before in
-    let w = one .before .before .before .before in
+    let ends = one .before .before in
+    let w = ends .before .before in
     let m = w .before .before in
     let a = entry m in
     let x = a .args in
+    let v = w .answer .given .0 .0 in
     judged-goes (sym (told m) ∙ w .answer .given .1)
-    (single-laid (x .em) (x .rclass .now) (x .rwidth .now) (x .runs .now) (x .p) (w .answer .given .0 .0) _ (x .t .now) (put .put-single .last .0) (a .pre .form) (one .if1 .taken) (put .put-single .ensures))
+    (single-laid (x .em) (x .rclass .now) (x .rwidth .now) (x .runs .now) (x .p) v (endsBehind (job a) (x .p)) (x .t .now) (put .put-single .last .0) (a .pre .form) (one .if1 .taken)
+    (subst (λ z. Puts (x .t .now) (x .p .base) (singleRow (x .p) v z (x .rclass .now) (x .rwidth .now) (x .runs .now)) (put .put-single .last .0)) (ends .ends-behind .ensures) (put .put-single .ensures)))
 
 same-length-2 : tie.Need-same-length-2
 same-length-2 c = c .before .before .put-runs .ensures .long
 
-returns-4 : tie.Need-returns-4
-returns-4 c =
+returns-3 : tie.Need-returns-3
+returns-3 c =
     let put = c .before .before in
     let more = put .before .before in
-    let w = more .before .before .before .before in
+    let ends = more .before .before in
+    let w = ends .before .before in
     let m = w .before .before in
     let a = entry m in
     let x = a .args in
     let v = w .answer .given .0 .0 in
     let runs = runsOnly (x .em) (x .rclass .now) (x .rwidth .now) (x .runs .now) in
     judged-goes (sym (told m) ∙ w .answer .given .1)
-    (filled-as _ (rowBy runs (x .p) v (endsBehind (job a) (x .p)) 0 0) (x .p .base) (x .p .base + x .p .bases) (x .t .now) (put .put-runs .last .0)
-    (λ i. cut-row runs (x .p) v (endsBehind (job a) (x .p)) i (a .pre .form) (several more)) (put .put-runs .ensures))
+    (filled-as (rowBy runs (x .p) none (ends .ends-behind .result) 0 0) (rowBy runs (x .p) v (endsBehind (job a) (x .p)) 0 0) (x .p .base) (x .p .base + x .p .bases) (x .t .now) (put .put-runs .last .0)
+    (λ i. ap (λ z. rowBy runs (x .p) none z 0 0 i) (ends .ends-behind .ensures) ∙ cut-row runs (x .p) v (endsBehind (job a) (x .p)) i (a .pre .form) (several more)) (put .put-runs .ensures))
 
 pub lay-jukugo-spec : {M : Type 1} → statement M
 lay-jukugo-spec =
@@ -261,17 +251,13 @@ lay-jukugo-spec =
     part-jukugo-answer-end-7
     jukugo-answer-requires
     enum-known-answer
-    enum-known-answer-2
-    enum-known-answer-3
     enum-told
+    refused-requires
     returns
-    returns-2
-    sub-ends
-    mul-ends
-    shared-slice-read-ends
+    ends-behind-requires
     put-single-requires
     put-runs-requires
     same-length
-    returns-3
+    returns-2
     same-length-2
-    returns-4)
+    returns-3)
