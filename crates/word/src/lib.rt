@@ -19,6 +19,10 @@ ghost use Rattle.word.specs.Kinds.{mixOf, mixedBy, scriptBy, notKanaBy, 
 ghost use Rattle.word.specs.declared.Answer.the-variants.{Set};
 ghost use Rattle.word.specs.Runs.{runsOf};
 
+mod sides;
+
+pub use sides::{Left, Reading, Sided, Str, groups_of, monos_of, runs_reading};
+
 // The kinds of element (document 01, "The job").
 pub enum Form {
     P,

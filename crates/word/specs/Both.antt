@@ -1,0 +1,64 @@
+-- Level one of a word with a reading on either side, as document 02 words it (R-5), over document 01's rule for one reading (`Alone`): where each character
+-- stands, in half units from the start of the word's longest string. `Sides` has the same by numbers.
+use mathlib.Core.Bool.{Bool, true, false, cond, _&&_, _||_}
+use mathlib.Core.List.{List, [], _∷_}
+use Prim.Native.Nat.{ℕ, _-_, max}
+use lib.Dec.{leb}
+use Rattle.basics.specs.Lists.{sum}
+use Rattle.spread.specs.Worded.{solid, along}
+use Rattle.spread.specs.Ratio.{Ratios}
+use Rattle.word.specs.declared.Script.{Script}
+use Rattle.word.specs.declared.Script.the-variants.{Kana}
+use Rattle.word.specs.declared.sides.Left.{Left}
+use Rattle.word.specs.declared.sides.Left.the-variants.{N, M, G, J}
+use Rattle.word.specs.Alone.{group, split, anyLonger, overOwn}
+
+-- where the characters of a word with two readings stand
+pub record Both : Type 0 where
+  pub base : List ℕ
+  pub right : List ℕ
+  pub left : List ℕ
+
+-- the length of the longest of three strings
+abbrev pub longest : ℕ → ℕ → ℕ → ℕ
+longest B R L = max B (max R L)
+
+-- "Mono with mono is solid and centred on both sides"
+unfoldable pub monos : List ℕ → List ℕ → List ℕ → Both
+monos bs rs ls =
+    let T = longest (sum bs) (sum rs) (sum ls) in
+    record { base = along (solid (T - sum bs) bs) bs; right = along (solid (T - sum rs) rs) rs; left = along (solid (T - sum ls) ls) ls }
+
+-- "the other is then set as a shorter or equal ruby over a base of the longer one's length and the base's own kind": T is the longer one's length
+unfoldable pub other : Script → Script → Ratios → ℕ → ℕ → List ℕ → List ℕ
+unfolding group
+other o b h em T os = group o b h em (T ∷ []) os .ruby
+
+-- "if neither reading is longer than the base, each is set as a group alone. Otherwise the longer reading (right, if equal) is set with the base by document 01,
+-- and the other is then set" over it; r, l and b are what the strings are made of
+unfoldable pub groups : Script → Script → Script → Ratios → ℕ → List ℕ → List ℕ → List ℕ → Both
+unfolding group other
+groups r l b h em bs rs ls =
+    let right = group r b h em bs rs in
+    let left = group l b h em bs ls in
+    cond (leb (sum rs) (sum bs) && leb (sum ls) (sum bs))
+    (record { base = right .base; right = right .ruby; left = left .ruby })
+    (cond (leb (sum ls) (sum rs))
+    (record { base = right .base; right = right .ruby; left = other l b h em (sum rs) ls })
+    (record { base = left .base; right = other r b h em (sum ls) rs; left = left .ruby }))
+
+-- "A J with a left G, or with a left J and a run longer than one em on either side, is taken as group on both sides and isn't cut; every other J is cut as in document 01":
+-- `longer` says that some run of either side is
+abbrev pub uncut : Left → Bool → Bool
+uncut N longer = false
+uncut M longer = false
+uncut G longer = true
+uncut J longer = longer
+
+-- a J with a left J: its runs stay over their own characters on both sides, or it is taken as group on both
+unfoldable pub jukugos : Script → Script → Ratios → ℕ → List ℕ → List ℕ → List ℕ → List ℕ → List ℕ → Both
+unfolding groups overOwn
+jukugos r l h em bs runs rs lruns ls =
+    cond (uncut J (anyLonger em (split runs rs) || anyLonger em (split lruns ls)))
+    (groups r l Kana h em bs rs ls)
+    (record { base = along (solid 0 bs) bs; right = overOwn em 0 (split runs rs); left = overOwn em 0 (split lruns ls) })

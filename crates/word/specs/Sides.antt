@@ -1,0 +1,81 @@
+-- A word with a reading on either side by its numbers. Every string of a word is set over the length of the longest, the base by its own way and ratio and each reading by the
+-- ruby's, so one rule serves both sides; the longest has no space to share and stands solid at 0. `SidesJoined` shows that these are the places of `Both`.
+use mathlib.Core.Bool.{true, false, cond, _||_}
+use mathlib.Core.List.{List, map}
+use Prim.Native.Nat.{ℕ, _+_, _-_, _*_, _≤_, _<_}
+use lib.Dec.{leb}
+use lib.ListN.{length, getD}
+use Rattle.basics.specs.Lists.{sum, lastOr}
+use Rattle.spread.specs.declared.Way.{Way}
+use Rattle.spread.specs.declared.Way.the-variants.{Solid}
+use Rattle.spread.specs.Gap.{gaps, starts}
+use Rattle.spread.specs.Ratio.{Ratios}
+use Rattle.word.specs.declared.Script.{Script}
+use Rattle.word.specs.declared.Script.the-variants.{Kana}
+use Rattle.word.specs.declared.sides.Reading.{Reading}
+use Rattle.word.specs.declared.sides.Sided.{Sided}
+use Rattle.word.specs.declared.sides.Str.{Str}
+use Rattle.word.specs.Alone.{rubyWay, baseWay, split, anyLonger}
+use Rattle.word.specs.Word.{runStarts}
+use Rattle.word.specs.Both.{longest}
+
+-- a string by what a word knows of it: its width in units and its count of characters
+abbrev pub strOf : List ℕ → Str
+strOf ws = record { width = sum ws; count = length ws }
+
+-- what the callers have made sure of: each string has a character, and the sums are those of a word
+pub record Counted (s : Str) : Type 0 where
+  pub some : 0 < s .count
+  pub few : s .count ≤ 4096
+
+pub record Strings (b r l : Str) : Type 0 where
+  pub base : Counted b
+  pub right : Counted r
+  pub left : Counted l
+  pub narrow : b .width ≤ 131072
+  pub narrowRight : r .width ≤ 262144
+  pub narrowLeft : l .width ≤ 262144
+
+-- a reading over the length T of its word's longest string
+unfoldable pub readingOver : Way → Ratios → ℕ → ℕ → Str → Reading
+readingOver way h em T s =
+    let g = gaps way (h .ruby) em (T - s .width) (s .count) in
+    record { there = true; from = g .front; upto = g .front + 2 * s .width + g .within; within = g .within; runs = false }
+
+-- a word of three strings, each by its way where it is not the longest
+unfoldable pub sided : Way → Way → Way → Ratios → ℕ → Str → Str → Str → Sided
+unfolding readingOver
+sided r l b h em bs rs ls =
+    let T = longest (bs .width) (rs .width) (ls .width) in
+    let g = gaps b (h .base) em (T - bs .width) (bs .count) in
+    record { front = g .front; len = 2 * bs .width + g .within; inbase = g .within; right = readingOver r h em T rs; left = readingOver l h em T ls }
+
+abbrev pub monosWord : Ratios → ℕ → Str → Str → Str → Sided
+monosWord h em bs rs ls = sided Solid Solid Solid h em bs rs ls
+
+-- the base is set with the longer reading ("right, if equal")
+abbrev pub groupsWord : Script → Script → Script → Ratios → ℕ → Str → Str → Str → Sided
+groupsWord r l b h em bs rs ls = sided (rubyWay r b) (rubyWay l b) (cond (leb (ls .width) (rs .width)) (baseWay r b) (baseWay l b)) h em bs rs ls
+
+-- runs, each over its own character of one em, over a base of the width B: from the first one's start to the last one's end, by their lengths
+abbrev pub runsBetween : ℕ → ℕ → ℕ → ℕ → Reading
+runsBetween em B first last = record { there = true; from = em - first; upto = 2 * B - (em - last); within = 0; runs = true }
+
+abbrev pub runsReading : ℕ → ℕ → List ℕ → Reading
+runsReading em B lengths = runsBetween em B (getD lengths 0 0) (lastOr 0 lengths)
+
+unfoldable pub jukugosWord : Script → Script → Ratios → ℕ → List ℕ → List ℕ → List ℕ → List ℕ → List ℕ → Sided
+unfolding sided
+jukugosWord r l h em bs runs rs lruns ls =
+    cond (anyLonger em (split runs rs) || anyLonger em (split lruns ls))
+    (groupsWord r l Kana h em (strOf bs) (strOf rs) (strOf ls))
+    (record { front = 0; len = 2 * sum bs; inbase = 0; right = runsReading em (sum bs) (map sum (split runs rs)); left = runsReading em (sum bs) (map sum (split lruns ls)) })
+
+-- the positions of a word's characters, its origin at x: its base, and either reading
+unfoldable pub blockStarts : Sided → ℕ → List ℕ → List ℕ
+unfolding starts
+blockStarts w x bs = starts (w .inbase) (x + w .front) bs
+
+unfoldable pub readingStarts : Reading → ℕ → ℕ → List ℕ → List ℕ → List ℕ
+unfolding starts runStarts
+readingStarts v em x runs ws = cond (v .runs) (runStarts em x (split runs ws)) (starts (v .within) (x + v .from) ws)

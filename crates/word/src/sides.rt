@@ -1,0 +1,143 @@
+// A word with a reading on either side (R-5). Every string of a word is set over the length of the longest, so one function serves the readings of both sides.
+ghost use mathlib.Core.Path.{_≡_};
+ghost use mathlib.Core.Bool.{cond};
+ghost use Prim.Native.Nat.{_+_, _*_, _≤_, _<_, max};
+ghost use lib.Dec.{leb};
+ghost use Rattle.spread.specs.Ratio.{ratiosOf, Housed};
+ghost use Rattle.word.specs.Alone.{baseWay};
+ghost use Rattle.word.specs.Both.{longest};
+ghost use Rattle.word.specs.Sides.{Counted, Strings, readingOver, sided, monosWord, groupsWord, runsBetween};
+
+// The kind of a left reading; N is none.
+pub enum Left {
+    N,
+    M,
+    G,
+    J,
+}
+
+// A reading in its word's coordinates: [from, upto), where it is there. within is the space within it; with runs, each run stands solid over its own character instead.
+pub struct Reading {
+    pub there: bool,
+    pub from: u32,
+    pub upto: u32,
+    pub within: u32,
+    pub runs: bool,
+}
+
+// A word with its block [front, front + len), the space within its base, and a reading on either side.
+pub struct Sided {
+    pub front: u32,
+    pub len: u32,
+    pub inbase: u32,
+    pub right: Reading,
+    pub left: Reading,
+}
+
+// A string by its width in units and its count of characters.
+pub struct Str {
+    pub width: u32,
+    pub count: u32,
+}
+
+fn longest_of(b: u32, r: u32, l: u32) -> u32
+    ensures { λ t. ⌜ t ≡ longest b r l ⌝ }
+{
+    let reading = basics::larger(r, l);
+    basics::larger(b, reading)
+}
+
+// A reading over the length t of its word's longest string.
+fn reading_over(way: spread::Way, ratios: [[u32; 3]; 2], em: u32, t: u32, s: Str) -> Reading
+    requires { ⌜ (s .width ≤ t) × (t ≤ 262144) × (Counted s) × (Housed (ratiosOf ratios)) ⌝ }
+    ensures { λ v. ⌜ v ≡ readingOver way (ratiosOf ratios) em t s ⌝ }
+{
+    let g = spread::gaps_of(spread::Which::Ruby, way, ratios, em, t - s.width, s.count);
+    Reading {
+        there: true,
+        from: g.front,
+        upto: g.front + 2 * s.width + g.within,
+        within: g.within,
+        runs: false,
+    }
+}
+
+// A word of three strings, each by its way where it is not the longest.
+fn sided_of(
+    right: spread::Way,
+    left: spread::Way,
+    base: spread::Way,
+    ratios: [[u32; 3]; 2],
+    em: u32,
+    b: Str,
+    r: Str,
+    l: Str,
+) -> Sided
+    requires { ⌜ (Strings b r l) × (Housed (ratiosOf ratios)) ⌝ }
+    ensures { λ w. ⌜ w ≡ sided right left base (ratiosOf ratios) em b r l ⌝ }
+{
+    let t = longest_of(b.width, r.width, l.width);
+    let g = spread::gaps_of(spread::Which::Base, base, ratios, em, t - b.width, b.count);
+    let over = reading_over(right, ratios, em, t, r);
+    let under = reading_over(left, ratios, em, t, l);
+    Sided {
+        front: g.front,
+        len: 2 * b.width + g.within,
+        inbase: g.within,
+        right: over,
+        left: under,
+    }
+}
+
+// "Mono with mono is solid and centred on both sides."
+pub fn monos_of(ratios: [[u32; 3]; 2], em: u32, b: Str, r: Str, l: Str) -> Sided
+    requires { ⌜ (Strings b r l) × (Housed (ratiosOf ratios)) ⌝ }
+    ensures { λ w. ⌜ w ≡ monosWord (ratiosOf ratios) em b r l ⌝ }
+{
+    sided_of(spread::Way::Solid, spread::Way::Solid, spread::Way::Solid, ratios, em, b, r, l)
+}
+
+// The way of the base, which is set with the longer reading ("right, if equal").
+fn base_way_by(right: super::Script, left: super::Script, base: super::Script, r: u32, l: u32) -> spread::Way
+    ensures { λ w. ⌜ w ≡ cond (leb l r) (baseWay right base) (baseWay left base) ⌝ }
+{
+    if l <= r {
+        super::base_way(right, base)
+    } else {
+        super::base_way(left, base)
+    }
+}
+
+// Two groups, or jukugo taken as group.
+pub fn groups_of(
+    right: super::Script,
+    left: super::Script,
+    base: super::Script,
+    ratios: [[u32; 3]; 2],
+    em: u32,
+    b: Str,
+    r: Str,
+    l: Str,
+) -> Sided
+    requires { ⌜ (Strings b r l) × (Housed (ratiosOf ratios)) ⌝ }
+    ensures { λ w. ⌜ w ≡ groupsWord right left base (ratiosOf ratios) em b r l ⌝ }
+{
+    let by = base_way_by(right, left, base, r.width, l.width);
+    let over = super::ruby_way(right, base);
+    let under = super::ruby_way(left, base);
+    sided_of(over, under, by, ratios, em, b, r, l)
+}
+
+// The runs of a J, each over its own character: the width of its base, and the lengths of the first and the last.
+pub fn runs_reading(em: u32, base: u32, first: u32, last: u32) -> Reading
+    requires { ⌜ (first ≤ em) × (last ≤ em) × (em ≤ base) × (base ≤ 131072) ⌝ }
+    ensures { λ v. ⌜ v ≡ runsBetween em base first last ⌝ }
+{
+    Reading {
+        there: true,
+        from: em - first,
+        upto: 2 * base - (em - last),
+        within: 0,
+        runs: true,
+    }
+}
