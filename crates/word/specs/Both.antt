@@ -9,8 +9,8 @@ use Rattle.spread.specs.Worded.{solid, along}
 use Rattle.spread.specs.Ratio.{Ratios}
 use Rattle.word.specs.declared.Script.{Script}
 use Rattle.word.specs.declared.Script.the-variants.{Kana}
-use Rattle.word.specs.declared.sides.Left.{Left}
-use Rattle.word.specs.declared.sides.Left.the-variants.{N, M, G, J}
+use Rattle.word.specs.declared.Left.{Left}
+use Rattle.word.specs.declared.Left.the-variants.{N, M, G, J}
 use Rattle.word.specs.Alone.{group, split, anyLonger, overOwn}
 
 -- where the characters of a word with two readings stand

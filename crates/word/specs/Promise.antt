@@ -34,28 +34,28 @@ use Rattle.word.specs.Runs.{first-fits, last-fits}
 
 -- ruby lies within its block, or around it
 pub record Inside (v : Word) : Type 0 where
-  pub enters : v .front ≤ v .from
-  pub runs : v .from ≤ v .upto
-  pub leaves : v .upto ≤ v .front + v .len
+  pub enters : v .front ≤ v .right .from
+  pub runs : v .right .from ≤ v .right .upto
+  pub leaves : v .right .upto ≤ v .front + v .len
 
 pub record Around (v : Word) : Type 0 where
-  pub leads : v .from ≤ v .front
-  pub trails : v .front + v .len ≤ v .upto
+  pub leads : v .right .from ≤ v .front
+  pub trails : v .front + v .len ≤ v .right .upto
 
 -- The promises. `equal` is document 01's "It is equal at both ends", which R-4 leaves to base ratios whose a is their c, as 1:2:1; the others from `block` on are what the writers ask for.
 pub record Promise (form : Form) (w : Given) (v : Word) : Type 0 where
   pub some : 0 < v .len
-  pub reads : v .ruby ≡ hasRuby form
-  pub shape : v .ruby ≡ true → Inside v ⊎ Around v
-  pub edge : (v .front ≡ 0) ⊎ (v .from ≡ 0)
+  pub reads : v .right .there ≡ hasRuby form
+  pub shape : v .right .there ≡ true → Inside v ⊎ Around v
+  pub edge : (v .front ≡ 0) ⊎ (v .right .from ≡ 0)
   pub equal : Even (w .ratios .base) → v .front + v .len + v .front ≡ total v
   pub limit : total v ≤ 524288
   pub sums : total v ≤ 2 * (sum (w .width) + sum (w .rubyWidth))
   pub block : v .len ≡ 2 * sum (w .width) + v .inbase
-  pub string : v .runs ≡ false → hasRuby form ≡ true → v .upto ≡ v .from + 2 * sum (w .rubyWidth) + v .inruby
-  pub each : v .runs ≡ true → anyLonger (w .em) (split (w .run) (w .rubyWidth)) ≡ false
+  pub string : v .right .runs ≡ false → hasRuby form ≡ true → v .right .upto ≡ v .right .from + 2 * sum (w .rubyWidth) + v .right .within
+  pub each : v .right .runs ≡ true → anyLonger (w .em) (split (w .run) (w .rubyWidth)) ≡ false
   pub single : length (w .width) ≡ 1 → v .inbase ≡ 0
-  pub singleRuby : length (w .rubyWidth) ≡ 1 → v .inruby ≡ 0
+  pub singleRuby : length (w .rubyWidth) ≡ 1 → v .right .within ≡ 0
 
 by-cond : (t : Bool) (Q : Word → Type 0) {a b : Word} → (t ≡ true → Q a) → (t ≡ false → Q b) → Q (cond t a b)
 by-cond true Q f g = f refl

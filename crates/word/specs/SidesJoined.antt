@@ -20,13 +20,13 @@ use Rattle.spread.specs.Laws.{worded-starts, longer-starts, no-difference, star
 use Rattle.spread.specs.Ratio.{Ratios}
 use Rattle.word.specs.declared.Script.{Script}
 use Rattle.word.specs.declared.Script.the-variants.{Kana}
-use Rattle.word.specs.declared.sides.Reading.{Reading}
-use Rattle.word.specs.declared.sides.Sided.{Sided}
+use Rattle.word.specs.declared.Reading.{Reading}
+use Rattle.word.specs.declared.Word.{Word}
 use Rattle.word.specs.Alone.{Places, byWay, group, rubyWay, baseWay, split, anyLonger, overOwn}
-use Rattle.word.specs.Word.{runStarts}
+use Rattle.word.specs.Word.{byRuns, runStarts}
 use Rattle.word.specs.Joined.{group-is, over-own}
 use Rattle.word.specs.Both.{Both, longest, monos, other, groups, jukugos}
-use Rattle.word.specs.Sides.{strOf, readingOver, sided, monosWord, groupsWord, jukugosWord, runsReading, blockStarts, readingStarts}
+use Rattle.word.specs.Sides.{strOf, readingOver, sided, monosWord, groupsWord, jukugosWord, blockStarts, readingStarts}
 
 -- a string over the length T of the longest, by its way and ratio
 abbrev pub over : Way → Ratio → ℕ → ℕ → List ℕ → List ℕ
@@ -39,7 +39,7 @@ over-longest way ratio em {T} ws e =
     no-difference way ratio em (T - sum ws) ws none ∙ ap (λ (D : ℕ). along (solid D ws) ws) none
 
 -- the strings that a word's numbers describe, its origin at x: runs and widths of either side
-abbrev pub bothAt : Sided → ℕ → ℕ → List ℕ → List ℕ → List ℕ → List ℕ → List ℕ → Both
+abbrev pub bothAt : Word → ℕ → ℕ → List ℕ → List ℕ → List ℕ → List ℕ → List ℕ → Both
 bothAt v em x bs runs rs lruns ls = record { base = blockStarts v x bs; right = readingStarts (v .right) em x runs rs; left = readingStarts (v .left) em x lruns ls }
 
 -- Three strings, each over the longest.
@@ -127,8 +127,8 @@ pub jukugos-are : (r l : Script) (h : Ratios) (em : ℕ) (bs runs rs lruns ls : 
 unfolding jukugos jukugosWord blockStarts readingStarts
 jukugos-are r l h em bs runs rs lruns ls = go (anyLonger em (split runs rs) || anyLonger em (split lruns ls)) refl
   where
-    each : Sided
-    each = record { front = 0; len = 2 * sum bs; inbase = 0; right = runsReading em (sum bs) (map sum (split runs rs)); left = runsReading em (sum bs) (map sum (split lruns ls)) }
+    each : Word
+    each = record { front = 0; len = 2 * sum bs; inbase = 0; right = byRuns em (sum bs) (map sum (split runs rs)); left = byRuns em (sum bs) (map sum (split lruns ls)) }
 
     go : (t : Bool) → (anyLonger em (split runs rs) || anyLonger em (split lruns ls)) ≡ t →
         bothAt (cond t (groupsWord r l Kana h em (strOf bs) (strOf rs) (strOf ls)) each) em 0 bs runs rs lruns ls

@@ -21,7 +21,9 @@ ghost use Rattle.word.specs.Runs.{runsOf};
 
 mod sides;
 
-pub use sides::{Left, Reading, Sided, Str, groups_of, monos_of, runs_reading};
+pub use sides::groups_of;
+pub use sides::monos_of;
+pub use sides::runs_reading;
 
 // The kinds of element (document 01, "The job").
 pub enum Form {
@@ -31,17 +33,45 @@ pub enum Form {
     J,
 }
 
-// A word: its block is [front, front + len), its ruby, if it has one, [from, upto). inbase and inruby are the half units of
-// space within each string; with runs, each ruby run stands solid over its own character instead.
+// The kind of a left reading; N is none.
+pub enum Left {
+    N,
+    M,
+    G,
+    J,
+}
+
+// A reading in its word's coordinates: [from, upto), where it is there. `within` is the space within it; with runs, each run stands solid over its own character instead.
+pub struct Reading {
+    pub there: bool,
+    pub from: u32,
+    pub upto: u32,
+    pub within: u32,
+    pub runs: bool,
+}
+
+// No reading.
+pub const NONE: Reading = Reading {
+    there: false,
+    from: 0,
+    upto: 0,
+    within: 0,
+    runs: false,
+};
+
+// A word: its block is [front, front + len), with `inbase` half units of space within its base, and a reading on either side.
 pub struct Word {
     pub front: u32,
     pub len: u32,
-    pub ruby: bool,
-    pub from: u32,
-    pub upto: u32,
     pub inbase: u32,
-    pub inruby: u32,
-    pub runs: bool,
+    pub right: Reading,
+    pub left: Reading,
+}
+
+// A string by its width in units and its count of characters.
+pub struct Str {
+    pub width: u32,
+    pub count: u32,
 }
 
 // An element set within itself, or its refusal with the element's place.
@@ -224,12 +254,9 @@ fn plain_of(b: u32) -> Word
     Word {
         front: 0,
         len: 2 * b,
-        ruby: false,
-        from: 0,
-        upto: 0,
         inbase: 0,
-        inruby: 0,
-        runs: false,
+        right: NONE,
+        left: NONE,
     }
 }
 
@@ -252,24 +279,30 @@ pub fn word_from(
         return Word {
             front: 0,
             len: 2 * b,
-            ruby: true,
-            from: g.front,
-            upto: g.front + 2 * r + g.within,
             inbase: 0,
-            inruby: g.within,
-            runs: false,
+            right: Reading {
+                there: true,
+                from: g.front,
+                upto: g.front + 2 * r + g.within,
+                within: g.within,
+                runs: false,
+            },
+            left: NONE,
         };
     }
     let g = spread::gaps_of(spread::Which::Base, base, ratios, em, r - b, n);
     Word {
         front: g.front,
         len: 2 * b + g.within,
-        ruby: true,
-        from: 0,
-        upto: 2 * r,
         inbase: g.within,
-        inruby: 0,
-        runs: false,
+        right: Reading {
+            there: true,
+            from: 0,
+            upto: 2 * r,
+            within: 0,
+            runs: false,
+        },
+        left: NONE,
     }
 }
 
@@ -352,12 +385,9 @@ fn jukugo_of(
             Word {
                 front: 0,
                 len: 2 * b,
-                ruby: true,
-                from: em - first,
-                upto: 2 * b - (em - last),
                 inbase: 0,
-                inruby: 0,
-                runs: true,
+                right: runs_reading(em, b, first, last),
+                left: NONE,
             }
         }
     }

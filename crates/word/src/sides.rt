@@ -6,39 +6,12 @@ ghost use lib.Dec.{leb};
 ghost use Rattle.spread.specs.Ratio.{ratiosOf, Housed};
 ghost use Rattle.word.specs.Alone.{baseWay};
 ghost use Rattle.word.specs.Both.{longest};
-ghost use Rattle.word.specs.Sides.{Counted, Strings, readingOver, sided, monosWord, groupsWord, runsBetween};
-
-// The kind of a left reading; N is none.
-pub enum Left {
-    N,
-    M,
-    G,
-    J,
-}
-
-// A reading in its word's coordinates: [from, upto), where it is there. within is the space within it; with runs, each run stands solid over its own character instead.
-pub struct Reading {
-    pub there: bool,
-    pub from: u32,
-    pub upto: u32,
-    pub within: u32,
-    pub runs: bool,
-}
-
-// A word with its block [front, front + len), the space within its base, and a reading on either side.
-pub struct Sided {
-    pub front: u32,
-    pub len: u32,
-    pub inbase: u32,
-    pub right: Reading,
-    pub left: Reading,
-}
-
-// A string by its width in units and its count of characters.
-pub struct Str {
-    pub width: u32,
-    pub count: u32,
-}
+ghost use Rattle.word.specs.Sides.{Counted, Strings, readingOver, sided, monosWord, groupsWord};
+ghost use Rattle.word.specs.Word.{between};
+use super::Reading;
+use super::Script;
+use super::Str;
+use super::Word;
 
 fn longest_of(b: u32, r: u32, l: u32) -> u32
     ensures { λ t. ⌜ t ≡ longest b r l ⌝ }
@@ -72,7 +45,7 @@ fn sided_of(
     b: Str,
     r: Str,
     l: Str,
-) -> Sided
+) -> Word
     requires { ⌜ (Strings b r l) × (Housed (ratiosOf ratios)) ⌝ }
     ensures { λ w. ⌜ w ≡ sided right left base (ratiosOf ratios) em b r l ⌝ }
 {
@@ -80,7 +53,7 @@ fn sided_of(
     let g = spread::gaps_of(spread::Which::Base, base, ratios, em, t - b.width, b.count);
     let over = reading_over(right, ratios, em, t, r);
     let under = reading_over(left, ratios, em, t, l);
-    Sided {
+    Word {
         front: g.front,
         len: 2 * b.width + g.within,
         inbase: g.within,
@@ -90,15 +63,24 @@ fn sided_of(
 }
 
 // "Mono with mono is solid and centred on both sides."
-pub fn monos_of(ratios: [[u32; 3]; 2], em: u32, b: Str, r: Str, l: Str) -> Sided
+pub fn monos_of(ratios: [[u32; 3]; 2], em: u32, b: Str, r: Str, l: Str) -> Word
     requires { ⌜ (Strings b r l) × (Housed (ratiosOf ratios)) ⌝ }
     ensures { λ w. ⌜ w ≡ monosWord (ratiosOf ratios) em b r l ⌝ }
 {
-    sided_of(spread::Way::Solid, spread::Way::Solid, spread::Way::Solid, ratios, em, b, r, l)
+    sided_of(
+        spread::Way::Solid,
+        spread::Way::Solid,
+        spread::Way::Solid,
+        ratios,
+        em,
+        b,
+        r,
+        l,
+    )
 }
 
 // The way of the base, which is set with the longer reading ("right, if equal").
-fn base_way_by(right: super::Script, left: super::Script, base: super::Script, r: u32, l: u32) -> spread::Way
+fn base_way_by(right: Script, left: Script, base: Script, r: u32, l: u32) -> spread::Way
     ensures { λ w. ⌜ w ≡ cond (leb l r) (baseWay right base) (baseWay left base) ⌝ }
 {
     if l <= r {
@@ -110,15 +92,15 @@ fn base_way_by(right: super::Script, left: super::Script, base: super::Script, r
 
 // Two groups, or jukugo taken as group.
 pub fn groups_of(
-    right: super::Script,
-    left: super::Script,
-    base: super::Script,
+    right: Script,
+    left: Script,
+    base: Script,
     ratios: [[u32; 3]; 2],
     em: u32,
     b: Str,
     r: Str,
     l: Str,
-) -> Sided
+) -> Word
     requires { ⌜ (Strings b r l) × (Housed (ratiosOf ratios)) ⌝ }
     ensures { λ w. ⌜ w ≡ groupsWord right left base (ratiosOf ratios) em b r l ⌝ }
 {
@@ -131,7 +113,7 @@ pub fn groups_of(
 // The runs of a J, each over its own character: the width of its base, and the lengths of the first and the last.
 pub fn runs_reading(em: u32, base: u32, first: u32, last: u32) -> Reading
     requires { ⌜ (first ≤ em) × (last ≤ em) × (em ≤ base) × (base ≤ 131072) ⌝ }
-    ensures { λ v. ⌜ v ≡ runsBetween em base first last ⌝ }
+    ensures { λ v. ⌜ v ≡ between em base first last ⌝ }
 {
     Reading {
         there: true,
