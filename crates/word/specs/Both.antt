@@ -11,7 +11,57 @@ use Rattle.word.specs.declared.Script.{Script}
 use Rattle.word.specs.declared.Script.the-variants.{Kana}
 use Rattle.word.specs.declared.Left.{Left}
 use Rattle.word.specs.declared.Left.the-variants.{N, M, G, J}
-use Rattle.word.specs.Alone.{group, split, anyLonger, overOwn}
+use Rattle.word.specs.declared.Form.{Form}
+use Rattle.word.specs.declared.Form.the-variants as form
+use Rattle.word.specs.Given.{Given}
+use Rattle.word.specs.Alone.{group, split, anyLonger, overOwn, script}
+use Rattle.word.specs.Alone as alone
+use Rattle.class.specs.Class.{western}
+
+-- What is given of a left reading: its kind, and its own characters; runs, by their counts of characters, are read of M and J over a J.
+pub record Gloss : Type 0 where
+  pub kind : Left
+  pub class : List ℕ
+  pub width : List ℕ
+  pub run : List ℕ
+
+abbrev pub hasLeft : Left → Bool
+hasLeft N = false
+hasLeft M = true
+hasLeft G = true
+hasLeft J = true
+
+-- "A left reading is mono on M, group on G, and mono, jukugo or group on J."
+abbrev pub takes : Form → Left → Bool
+takes form N = true
+takes form.P M = false
+takes form.P G = false
+takes form.P J = false
+takes form.M M = true
+takes form.M G = false
+takes form.M J = false
+takes form.G M = false
+takes form.G G = true
+takes form.G J = false
+takes form.J M = true
+takes form.J G = true
+takes form.J J = true
+
+-- "a J with a mono left reading is set as one such M for each character": every other element that takes its left reading is one word
+abbrev pub apart : Form → Left → Bool
+apart form N = false
+apart form.P M = false
+apart form.P G = false
+apart form.P J = false
+apart form.M M = false
+apart form.M G = false
+apart form.M J = false
+apart form.G M = false
+apart form.G G = false
+apart form.G J = false
+apart form.J M = true
+apart form.J G = false
+apart form.J J = false
 
 -- where the characters of a word with two readings stand
 pub record Both : Type 0 where
@@ -62,3 +112,19 @@ jukugos r l h em bs runs rs lruns ls =
     cond (uncut J (anyLonger em (split runs rs) || anyLonger em (split lruns ls)))
     (groups r l Kana h em bs rs ls)
     (record { base = along (solid 0 bs) bs; right = overOwn em 0 (split runs rs); left = overOwn em 0 (split lruns ls) })
+
+-- a word of its form with its left reading; forms that take no such reading are refused (16)
+unfoldable pub two : Form → Given → Gloss → Both
+unfolding monos groups jukugos western alone.places
+two form.P w g = record { base = alone.places form.P w .base; right = []; left = [] }
+two form.M w g = monos (w .width) (w .rubyWidth) (g .width)
+two form.G w g = groups (script (w .rubyClass)) (script (g .class)) (script (w .class)) (w .ratios) (w .em) (w .width) (w .rubyWidth) (g .width)
+two form.J w g =
+    cond (uncut (g .kind) false)
+    (groups (script (w .rubyClass)) (script (g .class)) Kana (w .ratios) (w .em) (w .width) (w .rubyWidth) (g .width))
+    (jukugos (script (w .rubyClass)) (script (g .class)) (w .ratios) (w .em) (w .width) (w .run) (w .rubyWidth) (g .run) (g .width))
+
+-- every word, with a left reading or without
+unfoldable pub places : Form → Given → Gloss → Both
+unfolding two alone.places
+places form w g = cond (hasLeft (g .kind)) (two form w g) (record { base = alone.places form w .base; right = alone.places form w .ruby; left = [] })

@@ -1,6 +1,6 @@
 -- What level one promises of a word to those above: lengths, protrusions and limits. Lines, the filling and the writing use these laws; the job's meaning names
 -- the definitions that they are about (`answer`, `wordOf`, `places`).
-use mathlib.Core.Path.{_≡_, refl, sym, subst}
+use mathlib.Core.Path.{_≡_, refl, sym, _∙_, subst}
 use mathlib.Core.Bool.{Bool, true, false, cond, not, false≢true, true≢false}
 use mathlib.Core.List.{List, map}
 use mathlib.Core.Logic.{_⊎_, inl, inr}
@@ -27,7 +27,7 @@ use Rattle.word.specs.declared.Word.{Word}
 use Rattle.word.specs.declared.Answer.the-variants.{Set, Refused}
 use Rattle.word.specs.Given.{Given, hasRuby, isJ}
 use Rattle.word.specs.Alone.{script, rubyWay, baseWay, split, anyLonger}
-use Rattle.word.specs.Word.{shortRuby, shortBase, wordBy, plain, groupWord, overEach, jukugoWord, wordOf, total, protrusionFront, protrusionBehind}
+use Rattle.word.specs.Word.{none, byRuns, shortRuby, shortBase, wordBy, plain, groupWord, overEach, jukugoWord, wordOf, total, protrusionFront, protrusionBehind}
 use Rattle.word.specs.Answer.{blankInside, jukugoBase, mixedIn, westernOver, answer}
 use Rattle.word.specs.Sized.{Small, Sized, small}
 use Rattle.word.specs.Runs.{first-fits, last-fits}
@@ -53,9 +53,11 @@ pub record Promise (form : Form) (w : Given) (v : Word) : Type 0 where
   pub sums : total v ≤ 2 * (sum (w .width) + sum (w .rubyWidth))
   pub block : v .len ≡ 2 * sum (w .width) + v .inbase
   pub string : v .right .runs ≡ false → hasRuby form ≡ true → v .right .upto ≡ v .right .from + 2 * sum (w .rubyWidth) + v .right .within
-  pub each : v .right .runs ≡ true → anyLonger (w .em) (split (w .run) (w .rubyWidth)) ≡ false
+  pub each : v .right .runs ≡ true → (anyLonger (w .em) (split (w .run) (w .rubyWidth)) ≡ false) × (v .right ≡ byRuns (w .em) (sum (w .width)) (map sum (split (w .run) (w .rubyWidth))))
   pub single : length (w .width) ≡ 1 → v .inbase ≡ 0
   pub singleRuby : length (w .rubyWidth) ≡ 1 → v .right .within ≡ 0
+  pub one : v .left ≡ none
+  pub plain : hasRuby form ≡ false → v .front ≡ 0
 
 by-cond : (t : Bool) (Q : Word → Type 0) {a b : Word} → (t ≡ true → Q a) → (t ≡ false → Q b) → Q (cond t a b)
 by-cond true Q f g = f refl
@@ -81,6 +83,8 @@ by-ways form h w r b s =
       each = λ q. absurd (false≢true q);
       single = λ q. refl;
       singleRuby = λ q. within-one r (w .ratios .ruby) (w .em) _ (length (w .rubyWidth)) q;
+      one = refl;
+      plain = λ q. absurd (true≢false (sym h ∙ q));
     })
     (λ t.
     let l : sum (w .width) < sum (w .rubyWidth) = leb-false _ _ t in
@@ -98,6 +102,8 @@ by-ways form h w r b s =
       each = λ q. absurd (false≢true q);
       single = λ q. within-one b (w .ratios .base) (w .em) _ (length (w .width)) q;
       singleRuby = λ q. refl;
+      one = refl;
+      plain = λ q. absurd (true≢false (sym h ∙ q));
     })
 
 -- Protrusions of two strings by their ways: a ruby no longer than its base passes it nowhere; a longer one by the end gaps of the base, in front and behind.
@@ -146,9 +152,11 @@ by-runs w s h e =
       sums = omega arith;
       block = omega arith;
       string = λ q k. absurd (true≢false q);
-      each = λ q. e;
+      each = λ q. (e, refl);
       single = λ q. refl;
       singleRuby = λ q. refl;
+      one = refl;
+      plain = λ q. refl;
     }
 
 -- the word of each form, once a J's base characters are one em wide
@@ -168,6 +176,8 @@ word-kept P w s j =
       each = λ q. absurd (false≢true q);
       single = λ q. refl;
       singleRuby = λ q. refl;
+      one = refl;
+      plain = λ q. refl;
     }
 word-kept M w s j = by-ways M refl w Solid Solid (small M _ _ _ refl s)
 word-kept G w s j = by-ways G refl w (rubyWay (script (w .rubyClass)) (script (w .class))) (baseWay (script (w .rubyClass)) (script (w .class))) (small G _ _ _ refl s)

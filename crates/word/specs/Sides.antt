@@ -15,9 +15,14 @@ use Rattle.word.specs.declared.Script.the-variants.{Kana}
 use Rattle.word.specs.declared.Reading.{Reading}
 use Rattle.word.specs.declared.Word.{Word}
 use Rattle.word.specs.declared.Str.{Str}
-use Rattle.word.specs.Alone.{rubyWay, baseWay, split, anyLonger}
-use Rattle.word.specs.Word.{string, byRuns, runStarts}
-use Rattle.word.specs.Both.{longest}
+use Rattle.class.specs.Class.{western}
+use Rattle.word.specs.declared.Form.{Form}
+use Rattle.word.specs.declared.Form.the-variants as form
+use Rattle.word.specs.Given.{Given}
+use Rattle.word.specs.Alone.{script, rubyWay, baseWay, split, anyLonger}
+use Rattle.word.specs.Word.{none, string, byRuns, plain, runStarts}
+use Rattle.word.specs.Word as one
+use Rattle.word.specs.Both.{Gloss, hasLeft, uncut, longest}
 
 -- a string by what a word knows of it: its width in units and its count of characters
 abbrev pub strOf : List ℕ → Str
@@ -63,6 +68,22 @@ jukugosWord r l h em bs runs rs lruns ls =
     cond (anyLonger em (split runs rs) || anyLonger em (split lruns ls))
     (groupsWord r l Kana h em (strOf bs) (strOf rs) (strOf ls))
     (record { front = 0; len = 2 * sum bs; inbase = 0; right = byRuns em (sum bs) (map sum (split runs rs)); left = byRuns em (sum bs) (map sum (split lruns ls)) })
+
+-- a word of its form with its left reading
+unfoldable pub wordTwo : Form → Given → Gloss → Word
+unfolding sided jukugosWord plain western
+wordTwo form.P w g = plain (sum (w .width))
+wordTwo form.M w g = monosWord (w .ratios) (w .em) (strOf (w .width)) (strOf (w .rubyWidth)) (strOf (g .width))
+wordTwo form.G w g = groupsWord (script (w .rubyClass)) (script (g .class)) (script (w .class)) (w .ratios) (w .em) (strOf (w .width)) (strOf (w .rubyWidth)) (strOf (g .width))
+wordTwo form.J w g =
+    cond (uncut (g .kind) false)
+    (groupsWord (script (w .rubyClass)) (script (g .class)) Kana (w .ratios) (w .em) (strOf (w .width)) (strOf (w .rubyWidth)) (strOf (g .width)))
+    (jukugosWord (script (w .rubyClass)) (script (g .class)) (w .ratios) (w .em) (w .width) (w .run) (w .rubyWidth) (g .run) (g .width))
+
+-- every word, with a left reading or without
+unfoldable pub wordOf : Form → Given → Gloss → Word
+unfolding wordTwo one.wordOf
+wordOf form w g = cond (hasLeft (g .kind)) (wordTwo form w g) (one.wordOf form w)
 
 -- the positions of a word's characters, its origin at x: its base, and either reading
 unfoldable pub blockStarts : Word → ℕ → List ℕ → List ℕ

@@ -78,9 +78,9 @@ wordOf M w = wordBy Solid Solid (w .ratios) (w .em) (w .width) (w .rubyWidth)
 wordOf G w = groupWord (script (w .rubyClass)) (script (w .class)) (w .ratios) (w .em) (w .width) (w .rubyWidth)
 wordOf J w = jukugoWord (script (w .rubyClass)) (w .ratios) (w .em) (w .width) (w .run) (w .rubyWidth)
 
--- from the start of the longer string to its end
+-- from the start of the longest string to its end
 abbrev pub total : Word → ℕ
-total w = max (w .front + w .len) (w .right .upto)
+total w = max (w .front + w .len) (max (w .right .upto) (w .left .upto))
 
 -- each run solid over its own character, the first of which starts at `at`
 unfoldable pub runStarts : ℕ → ℕ → List (List ℕ) → List ℕ
