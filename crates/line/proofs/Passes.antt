@@ -8,7 +8,7 @@ use native.Mathlib.Nat.{zero-add}
 use native.Mathlib.Numerals.{add-one}
 use borrow.Author.Count.{below-more}
 use borrow.Author.Tests.{le-leb, lt-leb}
-use lib.ListN.{length, getD, set, drop, length-set}
+use lib.ListN.{length, set, drop, length-set}
 use lib.Seq.{sets, sets-eq}
 use Rattle.line.specs.declared.Element.{Element}
 use Rattle.line.specs.declared.State.{State}
@@ -18,7 +18,7 @@ use Rattle.line.specs.declared.Why.the-variants as why
 use Rattle.line.specs.Setting.{start, put, origin, settleFrom, settle, run, furthest, placed, total}
 use Rattle.line.specs.Least.{settle-follows}
 use Rattle.line.specs.Bound.{put-bound}
-use Rattle.line.specs.Promise.{Lists, shortest, elementAt, line, mostElements, longestElement, SetWithin, AllWithin}
+use Rattle.line.specs.Promise.{Lists, shortest, elementAt, line, mostElements, longestElement, WithinAt, AllWithin}
 use Rattle.line.specs.Passes.{Has, Tells, told, denied, tried, Judged, Ready}
 use Rattle.line.proofs.Rest.{has, rest, rest-start, rest-step, rest-end, line-length}
 
@@ -27,7 +27,7 @@ module _ (l : Lists) (n : ℕ) where
   pub record Checked (i : ℕ) : Type 0 where
     pub whole : n ≡ shortest l
     pub few : n ≤ mostElements
-    pub sofar : (k : ℕ) → k < i → SetWithin (getD (l .ruby) k 0) (elementAt l k)
+    pub sofar : (k : ℕ) → k < i → WithinAt l k
 
   pub checked-start : n ≡ shortest l → n ≤ mostElements → Checked 0
   checked-start w f = record { whole = w; few = f; sofar = λ k h. absurd (omega arith) }
@@ -35,13 +35,13 @@ module _ (l : Lists) (n : ℕ) where
   pub checked-has : (i : ℕ) → Checked i → i < n → Has i l
   checked-has i c h = has l i (omega (arith, c .whole))
 
-  pub checked-next : (i : ℕ) → Checked i → SetWithin (getD (l .ruby) i 0) (elementAt l i) → Checked (i + 1)
+  pub checked-next : (i : ℕ) → Checked i → WithinAt l i → Checked (i + 1)
   checked-next i c s = record { whole = c .whole; few = c .few; sofar = below-more _ i (c .sofar) s }
 
   pub checked-end : (i : ℕ) → Checked i → n ≤ i → Tells true (AllWithin l)
   checked-end i c h = told (record { few = omega (arith, c .few, c .whole); each = λ k g. c .sofar k (omega (arith, c .whole)) })
 
-  pub checked-fails : (i : ℕ) → Checked i → i < n → (SetWithin (getD (l .ruby) i 0) (elementAt l i) → ⊥) → Tells false (AllWithin l)
+  pub checked-fails : (i : ℕ) → Checked i → i < n → (WithinAt l i → ⊥) → Tells false (AllWithin l)
   checked-fails i c h f = denied (λ all. f (all .each i (omega (arith, c .whole))))
 
   pub too-many : n ≡ shortest l → mostElements < n → Tells false (AllWithin l)

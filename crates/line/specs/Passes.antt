@@ -27,9 +27,12 @@ denied n = record { yes = λ e. absurd (false≢true e); no = λ e q. n q }
 pub record Has (i : ℕ) (l : Lists) : Type 0 where
   pub fronts : i < length (l .front)
   pub lens : i < length (l .len)
-  pub rubys : i < length (l .ruby)
-  pub froms : i < length (l .from)
-  pub uptos : i < length (l .upto)
+  pub rights : i < length (l .right)
+  pub rfroms : i < length (l .rfrom)
+  pub ruptos : i < length (l .rupto)
+  pub lefts : i < length (l .left)
+  pub lfroms : i < length (l .lfrom)
+  pub luptos : i < length (l .lupto)
   pub befores : i < length (l .before)
   pub afters : i < length (l .after)
 

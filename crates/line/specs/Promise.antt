@@ -8,6 +8,7 @@ use lib.Dec.{eqb}
 use Rattle.basics.specs.Lists.{count}
 use Rattle.refusal.specs.declared.Refusal.the-variants.{Short}
 use Rattle.line.specs.declared.Element.{Element}
+use Rattle.line.specs.declared.Reading.{Reading}
 use Rattle.line.specs.declared.Answer.{Answer}
 use Rattle.line.specs.declared.Answer.the-variants.{Set, Declined}
 use Rattle.line.specs.declared.Why.{Why}
@@ -15,34 +16,50 @@ use Rattle.line.specs.declared.Why.the-variants.{Refused, Unsound, Long}
 use Rattle.line.specs.Rules.{Clear, Least, extent, Sound}
 use Rattle.line.specs.Setting.{total}
 
--- a line as it is lent: one list a field
+-- a line as it is lent: one list a field, with the flag, the start and the end of either reading
 pub record Lists : Type 0 where
   pub front : List ℕ
   pub len : List ℕ
-  pub ruby : List ℕ
-  pub from : List ℕ
-  pub upto : List ℕ
+  pub right : List ℕ
+  pub rfrom : List ℕ
+  pub rupto : List ℕ
+  pub left : List ℕ
+  pub lfrom : List ℕ
+  pub lupto : List ℕ
   pub before : List ℕ
   pub after : List ℕ
 
-abbrev pub lists : (front len ruby from upto before after : List ℕ) → Lists
-lists front len ruby from upto before after =
-    record { front = front; len = len; ruby = ruby; from = from; upto = upto; before = before; after = after }
+abbrev pub lists : (front len right rfrom rupto left lfrom lupto before after : List ℕ) → Lists
+lists front len right rfrom rupto left lfrom lupto before after =
+    record {
+      front = front;
+      len = len;
+      right = right;
+      rfrom = rfrom;
+      rupto = rupto;
+      left = left;
+      lfrom = lfrom;
+      lupto = lupto;
+      before = before;
+      after = after;
+    }
 
 -- "Where a kind's fields come in several lists, its count is the shortest list's length."
 unfoldable pub shortest : Lists → ℕ
 shortest l =
-    min (min (min (length (l .front)) (length (l .len))) (min (length (l .ruby)) (length (l .from))))
-    (min (min (length (l .upto)) (length (l .before))) (length (l .after)))
+    min (min (min (length (l .front)) (length (l .len))) (min (length (l .before)) (length (l .after))))
+    (min (min (length (l .right)) (min (length (l .rfrom)) (length (l .rupto)))) (min (length (l .left)) (min (length (l .lfrom)) (length (l .lupto)))))
+
+abbrev pub readingAt : (there from upto : List ℕ) → ℕ → Reading
+readingAt there from upto i = record { there = eqb (getD there i 0) 1; from = getD from i 0; upto = getD upto i 0 }
 
 abbrev pub elementAt : Lists → ℕ → Element
 elementAt l i =
     record {
       front = getD (l .front) i 0;
       len = getD (l .len) i 0;
-      ruby = eqb (getD (l .ruby) i 0) 1;
-      from = getD (l .from) i 0;
-      upto = getD (l .upto) i 0;
+      right = readingAt (l .right) (l .rfrom) (l .rupto) i;
+      left = readingAt (l .left) (l .lfrom) (l .lupto) i;
       before = getD (l .before) i 0;
       after = getD (l .after) i 0;
     }
@@ -57,15 +74,20 @@ mostElements = 1024
 abbrev pub longestElement : ℕ
 longestElement = 524288
 
--- an element "already set within itself", its flag 0 or 1, and no longer than a word may be
-pub record SetWithin (flag : ℕ) (e : Element) : Type 0 where
-  pub flagged : flag ≤ 1
+-- an element "already set within itself", its flags 0 or 1, and no longer than a word may be
+pub record SetWithin (right left : ℕ) (e : Element) : Type 0 where
+  pub rightFlag : right ≤ 1
+  pub leftFlag : left ≤ 1
   pub sound : Sound e
   pub short : total e ≤ longestElement
 
+-- of element i, by the lists
+abbrev pub WithinAt : Lists → ℕ → Type 0
+WithinAt l i = SetWithin (getD (l .right) i 0) (getD (l .left) i 0) (elementAt l i)
+
 pub record AllWithin (l : Lists) : Type 0 where
   pub few : shortest l ≤ mostElements
-  pub each : (i : ℕ) → i < shortest l → SetWithin (getD (l .ruby) i 0) (elementAt l i)
+  pub each : (i : ℕ) → i < shortest l → WithinAt l i
 
 -- the refusal where T fails, and what follows where it holds
 abbrev pub Unless : (T : Type 0) → Type 0 → Type 0 → Type 0

@@ -1,5 +1,6 @@
 -- The rest of the line ends in the same state as the whole, whatever was passed, and the answer is by the last state.
-use Prim.Native.Nat.{_-_}
+use mathlib.Core.Path.{ap, _∙_}
+use Prim.Native.Nat.{_-_, max}
 use Rattle.line.specs.Promise.{lists}
 use Rattle.line.proofs.Passes.{Walked, walked-start, walked-has, walked-fits, walked-next, walked-end, tried-long, tried-set}
 use borrow.Author.Needs.{needs}
@@ -8,13 +9,13 @@ use Rattle.line.proofs.lists.try_line.Statement.{statement}
 use Rattle.line.proofs.lists.try_line.Tie as tie
 
 abbrev Inv-loop : tie.InvT-loop
-Inv-loop measure count front len ruby from upto before after st₀ i₀ st i = Walked (lists front len ruby from upto before after) count st i
+Inv-loop measure count front len right rfrom rupto left lfrom lupto before after st₀ i₀ st i = Walked (lists front len right rfrom rupto left lfrom lupto before after) count st i
 
 abbrev μ-loop : tie.MeasureT-loop
-μ-loop measure count front len ruby from upto before after st₀ i₀ st i = count - i
+μ-loop measure count front len right rfrom rupto left lfrom lupto before after st₀ i₀ st i = count - i
 
 loop-holds : tie.Need-loop-holds Inv-loop μ-loop
-loop-holds c = walked-start _ _ (c .before .before .before .before .before .before .before .pre)
+loop-holds c = walked-start _ _ (c .before .before .before .before .before .before .before .before .before .before .pre)
 
 element-at-requires : tie.Need-element-at-requires Inv-loop μ-loop
 element-at-requires c κs = walked-has _ _ _ _ (c .before .loop .inv) (c .loop-test .taken)
@@ -36,6 +37,9 @@ loop-again c =
 larger-requires : tie.Need-larger-requires Inv-loop μ-loop
 larger-requires c κs = search needs
 
+larger-requires-2 : tie.Need-larger-requires-2 Inv-loop μ-loop
+larger-requires-2 c κs = search needs
+
 mul-if1 : tie.Need-mul-if1 Inv-loop μ-loop
 mul-if1 c = search needs
 
@@ -44,13 +48,14 @@ cast-if1 c = search needs
 
 returns : tie.Need-returns Inv-loop μ-loop
 returns c =
-    let last = c .before .before in
-    tried-long _ _ _ (walked-end _ _ _ _ (last .before .loop .inv) (last .loop-test .left)) (omega (arith, c .before .larger .ensures))
+    let last = c .before .before .before in
+    tried-long _ _ _ (walked-end _ _ _ _ (last .before .loop .inv) (last .loop-test .left)) (omega (arith, c .before .before .larger .ensures, c .before .larger2 .ensures))
 
 returns-2 : tie.Need-returns-2 Inv-loop μ-loop
 returns-2 c =
-    let last = c .before .before in
-    tried-set _ _ _ (walked-end _ _ _ _ (last .before .loop .inv) (last .loop-test .left)) _ (c .before .larger .ensures) (c .if1 .left)
+    let last = c .before .before .before in
+    tried-set _ _ _ (walked-end _ _ _ _ (last .before .loop .inv) (last .loop-test .left)) _
+    (c .before .larger2 .ensures ∙ ap (max _) (c .before .before .larger .ensures)) (c .if1 .left)
 
 pub try-line-spec : {M : Type 1} → statement M
 try-line-spec =
@@ -65,6 +70,7 @@ try-line-spec =
     loop-less
     loop-again
     larger-requires
+    larger-requires-2
     mul-if1
     cast-if1
     returns

@@ -8,13 +8,13 @@ use Rattle.line.proofs.lists.write_line.Statement.{statement}
 use Rattle.line.proofs.lists.write_line.Tie as tie
 
 abbrev Inv-loop : tie.InvT-loop
-Inv-loop count front len ruby from upto before after out₀ st₀ i₀ out st i = Writes (lists front len ruby from upto before after) count out₀ out st i
+Inv-loop count front len right rfrom rupto left lfrom lupto before after out₀ st₀ i₀ out st i = Writes (lists front len right rfrom rupto left lfrom lupto before after) count out₀ out st i
 
 abbrev μ-loop : tie.MeasureT-loop
-μ-loop count front len ruby from upto before after out₀ st₀ i₀ out st i = count - i
+μ-loop count front len right rfrom rupto left lfrom lupto before after out₀ st₀ i₀ out st i = count - i
 
 loop-holds : tie.Need-loop-holds Inv-loop μ-loop
-loop-holds c = writes-start _ _ _ (c .before .before .before .before .before .before .before .before .pre)
+loop-holds c = writes-start _ _ _ (c .before .before .before .before .before .before .before .before .before .before .before .pre)
 
 element-at-requires : tie.Need-element-at-requires Inv-loop μ-loop
 element-at-requires c κs = walked-has _ _ _ _ (c .before .loop .inv .walked) (c .loop-test .taken)
@@ -25,7 +25,7 @@ place-requires c κs = walked-fits _ _ _ _ (c .before .before .loop .inv .walked
 mul-out : tie.Need-mul-out Inv-loop μ-loop
 mul-out c =
     let head = c .before .before .before in
-    omega (arith, head .loop .inv .same, head .loop .inv .room, head .before .before .before .before .before .before .before .before .before .good)
+    omega (arith, head .loop .inv .same, head .loop .inv .room, head .before .before .before .before .before .before .before .before .before .before .before .before .good)
 
 slice-write-out : tie.Need-slice-write-out Inv-loop μ-loop
 slice-write-out c =
