@@ -30,6 +30,7 @@ asked-bound s st e = four (omega arith) (omega (arith, reach-furthest s st)) (om
     four h i j k = max-le (max-le h i) (max-le j k)
 
 pub origin-bound : (st : State) (e : Element) → origin st e ≤ furthest st
+unfolding origin
 origin-bound st e = max-le (asked-bound Right st e) (asked-bound Left st e)
 
 pub put-bound : (st : State) (e : Element) → furthest (put st e (origin st e)) ≤ furthest st + total e

@@ -11,7 +11,7 @@ use Rattle.line.specs.declared.Reading.{Reading}
 use Rattle.line.specs.declared.Side.{Side}
 use Rattle.line.specs.declared.Side.the-variants.{Right, Left}
 use Rattle.line.specs.Rules.{ruby, noReading, org, blockOf, rubyOf}
-use Rattle.line.specs.Setting.{asks, settleFrom, settle}
+use Rattle.line.specs.Setting.{origin, settleFrom, settle}
 use Rattle.line.specs.Plain.{plain}
 use Rattle.line.specs.Exchange.{Moved}
 
@@ -82,7 +82,7 @@ set c =
     record { blocks = blockStarts (c .line) xs; rights = rubyStarts Right (c .line) xs; lefts = rubyStarts Left (c .line) xs }
 
 pub as-given : map set cases ≡ map (λ c. c .starts) cases
-unfolding settleFrom asks
+unfolding settleFrom origin
 as-given = refl
 
 -- "all elements from the second after it onward": the first may move by another amount. K12 with one K1 more behind it, and its first word exchanged for one
@@ -95,10 +95,10 @@ now = single ∷ plain 6 6 6 ∷ k1 ∷ k1 ∷ []
 
 -- The space moves back by 5: it need no longer stand clear of the ruby before it. The words after it move by 9: their rubies are no longer held by that one.
 pub corrected : (blockStarts was (settle was) ≡ 5 ∷ 25 ∷ 35 ∷ 65 ∷ []) × (blockStarts now (settle now) ≡ 0 ∷ 20 ∷ 26 ∷ 56 ∷ [])
-unfolding settleFrom asks
+unfolding settleFrom origin
 corrected = (refl, refl)
 
 -- So there is no one amount by which all elements after the exchanged one move.
 pub sharp : (forth back : ℕ) → ((i : ℕ) → 1 ≤ i → i < length was → Moved forth back (org (settle was) i) (org (settle now) i)) → ⊥
-unfolding settleFrom asks
+unfolding settleFrom origin
 sharp forth back h = omega (arith, h 1 (omega arith) (omega arith), h 2 (omega arith) (omega arith))

@@ -45,10 +45,18 @@ near-asked s st e x n = max-le (max-le (omega (arith, n .block)) (omega (arith, 
 
 -- and both
 pub origin-near : (st : State) (e : Element) (s : Side) → Near s st e (origin st e)
-origin-near st e Right = asked-near Right st e (origin st e) (omega arith)
-origin-near st e Left = asked-near Left st e (origin st e) (omega arith)
+unfolding origin
+origin-near st e s = one s
+  where
+    whole : origin st e ≤ origin st e
+    whole = omega arith
+
+    one : (s : Side) → Near s st e (origin st e)
+    one Right = asked-near Right st e (origin st e) (max-left _ _ whole)
+    one Left = asked-near Left st e (origin st e) (max-right _ _ whole)
 
 pub near-origin : (st : State) (e : Element) (x : ℕ) → ((s : Side) → Near s st e x) → origin st e ≤ x
+unfolding origin
 near-origin st e x n = max-le (near-asked Right st e x (n Right)) (near-asked Left st e x (n Left))
 
 -- the furthest ruby of a side once e is at x

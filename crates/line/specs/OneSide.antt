@@ -45,6 +45,7 @@ module _ (s : Side) (st : State) (e : Element) (n : HasRuby (other s) e → ⊥)
       from = lowered (ruby (other s) e .there) (ruby (other s) e .from) (e .front + e .len) n
 
   pub one-origin : origin st e ≡ x
+  unfolding origin
   one-origin = go s asks-no-more
     where
       go : (s : Side) → asked (other s) st e ≤ asked s st e → origin st e ≡ asked s st e

@@ -26,6 +26,7 @@ module _ (st : State) (len before after : ℕ) (h : before ≤ len) where
       two e r = omega arith
 
   pub plain-origin : origin st (plain len before after) ≡ max (st .end) (max (st .right) (st .left) - before)
+  unfolding origin
   plain-origin = ap₂ max (plain-asks (st .right)) (plain-asks (st .left)) ∙ once _ _ _ ∙ ap (max (st .end)) (less (st .right) (st .left))
     where
       once : (e r l : ℕ) → max (max e r) (max e l) ≡ max e (max r l)
@@ -47,5 +48,5 @@ module _ (st : State) (len before after : ℕ) (h : before ≤ len) where
 -- whatever stands for the readings that it hasn't
 pub plain-as : (st : State) (e : Element) → e .right .there ≡ false → e .left .there ≡ false → e .front ≡ 0 →
     placed st (plain (e .len) (e .before) (e .after)) ≡ placed st e
-unfolding asks
+unfolding origin
 plain-as st e r l f = rw (r, l, f)

@@ -64,7 +64,8 @@ abbrev pub asked : Side → State → Element → ℕ
 asked s st e = asks st e (reach s st) (ruby s e)
 
 -- and the least for both sides
-abbrev pub origin : State → Element → ℕ
+unfoldable pub origin : State → Element → ℕ
+unfolding asks
 origin st e = max (asked Right st e) (asked Left st e)
 
 -- the setting of what follows the state, and the state after it

@@ -40,6 +40,7 @@ larger-requires : tie.Need-larger-requires
 larger-requires c κs = search needs
 
 returns-2 : tie.Need-returns-2
+unfolding origin
 returns-2 c = rw (c .larger .ensures, c .before .asked-by2 .ensures, c .before .before .before .before .asked-by .ensures)
 
 pub least-origin-spec : {M : Type 1} → statement M
