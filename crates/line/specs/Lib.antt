@@ -12,6 +12,3 @@ pub mod Exchange
 pub mod Bound
 pub mod Plain
 pub mod Cases
-pub mod Promise
-pub mod Passes
-pub mod Determined

@@ -2,7 +2,7 @@
 -- only that its block is past the last one, and this the other side asks too.
 use mathlib.Core.Path.{_≡_, refl, ap, _∙_}
 use mathlib.Core.List.{List, [], _∷_}
-use Prim.Native.Nat.{ℕ, suc, _+_, _≤_, _<_, zero-le}
+use Prim.Native.Nat.{ℕ, zero, suc, _+_, _≤_, _<_, zero-le}
 use native.Mathlib.Omega.{arith}
 use native.Mathlib.Nat.{max-eq-left, max-eq-right}
 use lib.ListN.{length}
@@ -10,8 +10,8 @@ use Rattle.line.specs.declared.Element.{Element}
 use Rattle.line.specs.declared.State.{State}
 use Rattle.line.specs.declared.Side.{Side}
 use Rattle.line.specs.declared.Side.the-variants.{Right, Left}
-use Rattle.line.specs.Rules.{other, ruby, HasRuby, el}
-use Rattle.line.specs.Setting.{rubyFrom, start, reach, put, Near, asked, origin, settleFrom, settle}
+use Rattle.line.specs.Rules.{other, ruby, HasRuby, el, org}
+use Rattle.line.specs.Setting.{rubyFrom, start, reach, put, Near, asked, origin, settleFrom, settle, after, Follows}
 use Rattle.line.specs.Flag.{lowered}
 use Rattle.line.specs.Least.{asked-near, near-asked, reach-put}
 
@@ -24,6 +24,22 @@ askedFrom s st (e ∷ es) = asked s st e ∷ askedFrom s (put st e (asked s st e
 abbrev pub Without : Side → List Element → Type 0
 Without s es = (i : ℕ) → i < length es → HasRuby s (el es i) → ⊥
 
+-- a side without readings reaches no further than the blocks
+idle-put : (s : Side) (st : State) (e : Element) (x : ℕ) → (HasRuby s e → ⊥) → reach s st ≤ st .end → st .end ≤ x + e .front → reach s (put st e x) ≤ put st e x .end
+idle-put s st e x n h b = omega (arith, reach-put s st e x, lowered (ruby s e .there) (ruby s e .upto) (e .front) n)
+
+idle-start : (s : Side) → reach s start ≤ 0
+idle-start Right = zero-le
+idle-start Left = zero-le
+
+pub idle-after : (s : Side) (es : List Element) (xs : List ℕ) → Follows es xs → Without s es → (i : ℕ) → i ≤ length es →
+    reach s (after start es xs i) ≤ after start es xs i .end
+unfolding after
+idle-after s es xs f n zero h = idle-start s
+idle-after s es xs f n (suc i) h =
+    idle-put s (after start es xs i) (el es i) (org xs i) (n i h) (idle-after s es xs f n i (omega arith)) (f .near i h s .block)
+
+-- and asks no more than the other one
 module _ (s : Side) (st : State) (e : Element) (n : HasRuby (other s) e → ⊥) (h : reach (other s) st ≤ st .end) where
   abbrev x : ℕ
   x = asked s st e
@@ -52,20 +68,12 @@ module _ (s : Side) (st : State) (e : Element) (n : HasRuby (other s) e → ⊥)
       go Right l = max-eq-left l
       go Left l = max-eq-right l
 
-  -- and the other side's furthest end stays within the blocks
-  one-reach : reach (other s) (put st e x) ≤ put st e x .end
-  one-reach = omega (arith, reach-put (other s) st e x, near .block, lowered (ruby (other s) e .there) (ruby (other s) e .upto) (e .front) n)
-
 one-from : (s : Side) (st : State) (es : List Element) → Without (other s) es → reach (other s) st ≤ st .end → settleFrom st es ≡ askedFrom s st es
 unfolding settleFrom askedFrom
 one-from s st [] n h = refl
 one-from s st (e ∷ es) n h =
     ap (λ x. x ∷ settleFrom (put st e x) es) (one-origin s st e (n 0 (omega arith)) h)
-    ∙ ap (λ xs. asked s st e ∷ xs) (one-from s (put st e (asked s st e)) es (λ i l. n (suc i) (omega arith)) (one-reach s st e (n 0 (omega arith)) h))
+    ∙ ap (λ xs. asked s st e ∷ xs) (one-from s (put st e (asked s st e)) es (λ i l. n (suc i) (omega arith)) (idle-put (other s) st e _ (n 0 (omega arith)) h (asked-near s st e (asked s st e) (omega arith) .block)))
 
 pub one-side : (s : Side) (es : List Element) → Without (other s) es → settle es ≡ askedFrom s start es
-one-side s es n = one-from s start es n (at-start s)
-  where
-    at-start : (s : Side) → reach (other s) start ≤ 0
-    at-start Right = zero-le
-    at-start Left = zero-le
+one-side s es n = one-from s start es n (idle-start (other s))

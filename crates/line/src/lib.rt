@@ -1,20 +1,13 @@
 // Level two of document 01: a line of elements, each already set within itself, and the least setting of it by the four rules of
 // clearance, with a reading on either side of a word (R-5 of document 02). specs/Rules.antt has the rules, specs/Setting.antt the
 // setting, specs/Theorems.antt and Exchange.antt what is proved of it. It knows nothing of words, classes or jobs: an element comes
-// with its own lengths and the depths to which ruby may lie on it. It relies on basics for lists and on refusal for number 12. All
-// positions are half units. src/lists.rt sets a line that is given by lists.
+// with its own lengths and the depths to which ruby may lie on it. It relies on basics. All positions are half units.
 ghost use mathlib.Core.Path.{_≡_};
 ghost use mathlib.Core.Bool.{not, _&&_};
 ghost use Prim.Native.Nat.{_+_, _-_, _≤_};
 ghost use lib.Dec.{leb};
 ghost use Rattle.line.specs.Setting.{fromIn, uptoIn, total, furthest, asks, origin, placed};
 ghost use Rattle.line.specs.Plain.{plain};
-
-mod lists;
-mod within;
-
-pub use lists::set_line;
-use refusal::Refusal;
 
 // The two sides of a word. The rules are said over a side, once for both.
 pub enum Side {
@@ -69,22 +62,6 @@ pub const START: State = State {
 pub struct Placed {
     pub at: u32,
     pub st: State,
-}
-
-// A line's extent, or why it is not set.
-pub enum Answer {
-    Set(u32),
-    Declined(Why),
-}
-
-pub enum Why {
-    // 12 of the refusal list.
-    Refused(Refusal),
-    // An element is not set within itself, a flag of it is not 0 or 1, it is longer than any word of a job, or there are more
-    // elements than a job may have.
-    Unsound,
-    // Too long: nothing that keeps the rules fits the measure.
-    Long,
 }
 
 // a - b, or 0.

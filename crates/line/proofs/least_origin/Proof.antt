@@ -1,22 +1,21 @@
 -- Where the left side is idle it asks no more than the right one, so that this decides alone; else the larger of the two is the definition.
-use mathlib.Core.Path.{_≡_, refl, sym, _∙_}
+use mathlib.Core.Path.{_≡_, refl, sym, _∙_, subst}
 use mathlib.Core.Bool.{Bool, true, false, not, _&&_}
 use Prim.Native.Nat.{ℕ}
 use borrow.Author.Needs.{needs}
 use borrow.Author.Tests.{leb-true}
 use native.Mathlib.Omega.{arith}
-use lib.Dec.{leb}
+use lib.Dec.{T, leb}
 use Rattle.line.specs.declared.Element.{Element}
 use Rattle.line.specs.declared.State.{State}
 use Rattle.line.specs.declared.Side.the-variants.{Right}
 use Rattle.line.specs.Setting.{asked, origin}
 use Rattle.line.specs.OneSide.{one-origin}
-use Rattle.line.proofs.Tests.{down}
 use Rattle.line.proofs.least_origin.Statement.{statement}
 use Rattle.line.proofs.least_origin.Tie as tie
 
 idle : (st : State) (e : Element) → (not (e .left .there) && leb (st .left) (st .end)) ≡ true → asked Right st e ≡ origin st e
-idle st e h = let p = both (e .left .there) (leb (st .left) (st .end)) h in sym (one-origin Right st e (down _ (p .0)) (leb-true _ _ (p .1)))
+idle st e h = let p = both (e .left .there) (leb (st .left) (st .end)) h in sym (one-origin Right st e (subst T (p .0)) (leb-true _ _ (p .1)))
   where
     both : (a b : Bool) → (not a && b) ≡ true → (a ≡ false) × (b ≡ true)
     both true b q = absurd (let z : _≡_ {A = ℕ} 0 1 = cc in omega arith)
