@@ -13,6 +13,7 @@ use Rattle.word.specs.declared.Word.{Word}
 use Rattle.word.specs.Numbers.{wordFrom}
 use Rattle.line.specs.declared.Element.{Element}
 use Rattle.line.specs.declared.State.{State}
+use Rattle.line.specs.Rules.{noReading}
 use Rattle.line.specs.Setting.{start, put, origin, furthest, total}
 use Rattle.cells.specs.declared.Cell.{Cell}
 use Rattle.cells.specs.declared.Step.{Step}
@@ -90,9 +91,17 @@ unfoldable pub wordAt : ℕ → List ℕ → ℕ → ℕ → Word
 unfolding part
 wordAt em t i c = cond (cellAt t i .cut) (part em t i c) (cellAt t i .word)
 
--- a word as a line sees it
+-- a word as a line sees it: its ruby is a reading on the right
 abbrev pub elementOf : Word → ℕ → ℕ → Element
-elementOf w before after = record { front = w .front; len = w .len; ruby = w .ruby; from = w .from; upto = w .upto; before = before; after = after }
+elementOf w before after =
+    record {
+      front = w .front;
+      len = w .len;
+      right = record { there = w .ruby; from = w .from; upto = w .upto };
+      left = noReading;
+      before = before;
+      after = after;
+    }
 
 abbrev pub piece : ℕ → List ℕ → ℕ → ℕ → Element
 piece em t i c = elementOf (wordAt em t i c) (cellAt t i .before) (cellAt t i .after)

@@ -233,16 +233,19 @@ pub fn part_upto(t: &[u32], i: usize, c: usize, em: u32) -> word::Word
     )
 }
 
-// A word as a line sees it.
+// A word as a line sees it: its ruby is a reading on the right.
 pub fn element_of(w: word::Word, before: u32, after: u32) -> line::Element
     ensures { λ e. ⌜ e ≡ elementOf w before after ⌝ }
 {
     line::Element {
         front: w.front,
         len: w.len,
-        ruby: w.ruby,
-        from: w.from,
-        upto: w.upto,
+        right: line::Reading {
+            there: w.ruby,
+            from: w.from,
+            upto: w.upto,
+        },
+        left: line::NO_READING,
         before: before,
         after: after,
     }

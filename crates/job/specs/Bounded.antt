@@ -50,8 +50,8 @@ piece-within : (job : Job) (p : Piece) (m : ℕ) → max (wordOf job p .front + 
 unfolding seen
 piece-within job p m = go (wordOf job p .ruby) (wordOf job p .front + wordOf job p .len) (wordOf job p .upto)
   where
-    go : (t : Bool) (a b : ℕ) → max a b ≤ m → max a (cond t b 0) ≤ m
-    go true a b h = h
+    go : (t : Bool) (a b : ℕ) → max a b ≤ m → max a (max (cond t b 0) 0) ≤ m
+    go true a b h = omega arith
     go false a b h = omega arith
 
 pub piece-short : (job : Job) (p : Piece) → GoodPiece job p → setting.total (seen job p) ≤ 524288

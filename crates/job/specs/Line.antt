@@ -16,7 +16,7 @@ use Rattle.word.specs.Alone.{places}
 use Rattle.word.specs.Word as word
 use Rattle.word.specs.Part.{formOfPart}
 use Rattle.line.specs.declared.Element.{Element}
-use Rattle.line.specs.Rules.{extent}
+use Rattle.line.specs.Rules.{noReading, extent}
 use Rattle.line.specs.Setting.{origin, settleFrom, settle}
 use Rattle.door.specs.declared.Piece.{Piece}
 use Rattle.door.specs.Job.{Job, baseCount, entries, elements, given}
@@ -62,7 +62,7 @@ onP J depth = 0
 abbrev pub depthsAt : Job → ℕ → Depths
 depthsAt job i = depthsBy (job .profile) (eqb i 0) (getD (job .class) i 0) (getD (job .width) i 0) (getD (job .before) i 0) (getD (job .after) i 0) (job .em)
 
--- a piece as a line sees it: its block, its ruby, and how deep a neighbour's ruby may lie on it
+-- a piece as a line sees it: its block, its ruby, which is a reading on the right, and how deep a neighbour's ruby may lie on it
 unfoldable pub seen : Job → Piece → Element
 unfolding word.wordOf depthsBy
 seen job p =
@@ -70,9 +70,8 @@ seen job p =
     record {
       front = w .front;
       len = w .len;
-      ruby = w .ruby;
-      from = w .from;
-      upto = w .upto;
+      right = record { there = w .ruby; from = w .from; upto = w .upto };
+      left = noReading;
       before = onP (p .form) (depthsAt job (p .base) .before);
       after = onP (p .form) (depthsAt job (p .base) .after);
     }
