@@ -91,6 +91,7 @@ pub record LeftSized (form : Form) (g : Gloss) : Type 0 where
   pub reads : hasLeft (g .kind) ≡ true → 0 < length (g .width)
   pub few : length (g .width) ≤ 64
   pub narrow : sum (g .width) ≤ 262144
+  pub none : hasLeft (g .kind) ≡ false → g .width ≡ []
 
 -- A word without a left reading.
 
@@ -296,3 +297,8 @@ two-kept form.J w g s z j here =
         let r = script (w .rubyClass) in
         let l = script (g .class) in
         by-sides form.J w g refl (small form.J _ _ _ refl s) z here (rubyWay r Kana) (rubyWay l Kana) (cond (leb (sum (g .width)) (sum (w .rubyWidth))) (baseWay r Kana) (baseWay l Kana))
+
+pub all-kept : (form : Form) (w : Given) (g : Gloss) → Sized form (w .width) (w .rubyWidth) (w .run) → LeftSized form g → (isJ form ≡ true → w .em ≤ sum (w .width)) → Kept form w g (wordOf form w g)
+unfolding wordOf
+all-kept form w g s z j =
+    by-cond (hasLeft (g .kind)) (Kept form w g) (two-kept form w g s z j) (one-kept form w (one.wordOf form w) (promise.word-kept form w s j) g)
