@@ -80,6 +80,12 @@ pub enum Answer {
     Refused(refusal::Refusal),
 }
 
+// Whether a row of numbers 7 to 10 holds of a word, and which.
+pub enum Row {
+    None,
+    Holds(refusal::Refusal),
+}
+
 // What a string is made of, once number 9 has let it pass.
 pub enum Script {
     Kana,
@@ -97,6 +103,12 @@ pub struct Mix {
 // The runs of a J: the length in units of the last, where none is longer than one em.
 pub enum Runs {
     Fit(u32),
+    Longer,
+}
+
+// The runs of one side of a J, each over its own character, where none is longer than one em.
+pub enum Fits {
+    Over(Reading),
     Longer,
 }
 

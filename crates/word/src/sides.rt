@@ -1,14 +1,25 @@
 // A word with a reading on either side (R-5). Every string of a word is set over the length of the longest, so one function serves the readings of both sides.
 ghost use mathlib.Core.Path.{_≡_};
-ghost use mathlib.Core.Bool.{cond};
-ghost use Prim.Native.Nat.{_+_, _*_, _≤_, _<_, max};
+ghost use mathlib.Core.Bool.{true, cond};
+ghost use mathlib.Core.Logic.{_⊎_};
+ghost use Prim.Native.Nat.{_+_, _*_, _^_, _≤_, _<_, max};
 ghost use lib.Dec.{leb};
+ghost use lib.ListN.{length};
+ghost use mathlib.Core.List.{[]};
+ghost use Rattle.basics.specs.Lists.{sum};
+ghost use Rattle.word.specs.Given.{isG, isJ, hasRuby};
+ghost use Rattle.word.specs.Sized.{Small, Sized};
+ghost use Rattle.word.specs.Both.{isGroup};
+ghost use Rattle.word.specs.Answered.{answerBoth};
 ghost use Rattle.spread.specs.Ratio.{ratiosOf, Housed};
 ghost use Rattle.word.specs.Alone.{baseWay};
 ghost use Rattle.word.specs.Both.{longest};
-ghost use Rattle.word.specs.Sides.{Counted, Strings, readingOver, sided, monosWord, groupsWord};
+ghost use Rattle.word.specs.Sides.{Counted, Strings, GlossSized, JukugoSized, strOf, fitsOf, readingOver, sided, monosWord, groupsWord, jukugosBy};
 ghost use Rattle.word.specs.Word.{between};
+use super::Fits;
+use super::Left;
 use super::Reading;
+use super::Runs;
 use super::Script;
 use super::Str;
 use super::Word;
@@ -121,5 +132,79 @@ pub fn runs_reading(em: u32, base: u32, first: u32, last: u32) -> Reading
         upto: 2 * base - (em - last),
         within: 0,
         runs: true,
+    }
+}
+
+// A string by its list.
+fn str_of(ws: &[u32]) -> Str
+    requires { ⌜ (length (now ws) ≤ 64) × (sum (now ws) < 2 ^ 32) ⌝ }
+    ensures { λ s. ⌜ s ≡ strOf (now (ws .entry)) ⌝ }
+{
+    Str {
+        width: basics::sum_of(ws),
+        count: ws.len() as u32,
+    }
+}
+
+fn is_group(left: Left) -> bool
+    ensures { λ r. ⌜ r ≡ isGroup left ⌝ }
+{
+    match left {
+        Left::N => false,
+        Left::M => false,
+        Left::G => true,
+        Left::J => false,
+    }
+}
+
+// The runs of one side of a J over their own characters, the base `base` units wide, where none is longer than one em.
+fn over_runs(em: u32, base: u32, runs: &[u32], ws: &[u32]) -> Fits
+    requires { ⌜ (sum (now runs) ≤ length (now ws)) × (sum (now ws) < 2 ^ 32) × (em ≤ base) × (base ≤ 131072) ⌝ }
+    ensures { λ f. ⌜ f ≡ fitsOf em base (now (runs .entry)) (now (ws .entry)) ⌝ }
+{
+    match super::runs_in(em, runs, ws) {
+        Runs::Longer => Fits::Longer,
+        Runs::Fit(last) => {
+            let first = super::first_run(runs, ws);
+            Fits::Over(runs_reading(em, base, first, last))
+        }
+    }
+}
+
+// A J with a left reading: over their own characters on both sides, or taken as group on both.
+fn jukugos_of(
+    left: Left,
+    r: Script,
+    l: Script,
+    ratios: [[u32; 3]; 2],
+    em: u32,
+    bs: &[u32],
+    runs: &[u32],
+    rs: &[u32],
+    lruns: &[u32],
+    ls: &[u32],
+) -> Word
+    requires { ⌜ (JukugoSized left em (now bs) (now runs) (now rs) (now lruns) (now ls)) × (Housed (ratiosOf ratios)) ⌝ }
+    ensures { λ w. ⌜ w ≡ jukugosBy left r l (ratiosOf ratios) em (now (bs .entry)) (now (runs .entry)) (now (rs .entry)) (now (lruns .entry)) (now (ls .entry)) ⌝ }
+{
+    let b = str_of(bs);
+    let right = str_of(rs);
+    let under = str_of(ls);
+    let group = groups_of(r, l, Script::Kana, ratios, em, b, right, under);
+    if is_group(left) {
+        return group;
+    }
+    let Fits::Over(over) = over_runs(em, b.width, runs, rs) else {
+        return group;
+    };
+    let Fits::Over(below) = over_runs(em, b.width, lruns, ls) else {
+        return group;
+    };
+    Word {
+        front: 0,
+        len: 2 * b.width,
+        inbase: 0,
+        right: over,
+        left: below,
     }
 }
