@@ -1,28 +1,34 @@
 // A word with a reading on either side (R-5). Every string of a word is set over the length of the longest, so one function serves the readings of both sides.
 ghost use mathlib.Core.Path.{_≡_};
-ghost use mathlib.Core.Bool.{true, cond};
+ghost use mathlib.Core.Bool.{true, cond, _&&_, _||_};
 ghost use mathlib.Core.Logic.{_⊎_};
 ghost use Prim.Native.Nat.{_+_, _*_, _^_, _≤_, _<_, max};
 ghost use lib.Dec.{leb};
 ghost use lib.ListN.{length};
 ghost use mathlib.Core.List.{[]};
-ghost use Rattle.basics.specs.Lists.{sum};
+ghost use Rattle.basics.specs.Lists.{sum, any, other};
 ghost use Rattle.word.specs.Given.{isG, isJ, hasRuby};
 ghost use Rattle.word.specs.Sized.{Small, Sized};
 ghost use Rattle.word.specs.Both.{isGroup};
-ghost use Rattle.word.specs.Answered.{answerBoth};
+ghost use Rattle.word.specs.Kinds.{notKanaBy, mixedBy};
+ghost use Rattle.word.specs.Rows.{rowBy};
 ghost use Rattle.spread.specs.Ratio.{ratiosOf, Housed};
 ghost use Rattle.word.specs.Alone.{baseWay};
 ghost use Rattle.word.specs.Both.{longest};
 ghost use Rattle.word.specs.Sides.{Counted, Strings, GlossSized, JukugoSized, strOf, fitsOf, readingOver, sided, monosWord, groupsWord, jukugosBy};
 ghost use Rattle.word.specs.Word.{between};
+use super::Answer;
 use super::Fits;
+use super::Form;
 use super::Left;
+use super::Mix;
 use super::Reading;
+use super::Row;
 use super::Runs;
 use super::Script;
 use super::Str;
 use super::Word;
+use refusal::Refusal;
 
 fn longest_of(b: u32, r: u32, l: u32) -> u32
     ensures { λ t. ⌜ t ≡ longest b r l ⌝ }
@@ -207,4 +213,95 @@ fn jukugos_of(
         right: over,
         left: below,
     }
+}
+
+// Number 8, by the kinds of the base.
+fn base_wrong(form: Form, em: u32, b: Mix, bs: &[u32]) -> bool
+    ensures { λ r. ⌜ r ≡ (isJ form && (notKanaBy b || any (other em) (now (bs .entry)))) ⌝ }
+{
+    match form {
+        Form::P => false,
+        Form::M => false,
+        Form::G => false,
+        Form::J => {
+            if super::not_kana(b) {
+                return true;
+            }
+            basics::any_but(em, bs)
+        }
+    }
+}
+
+fn any_mixed(b: Mix, r: Mix, l: Mix) -> bool
+    ensures { λ t. ⌜ t ≡ ((mixedBy b || mixedBy r) || mixedBy l) ⌝ }
+{
+    if super::is_mixed(b) {
+        return true;
+    }
+    if super::is_mixed(r) {
+        return true;
+    }
+    super::is_mixed(l)
+}
+
+// Number 9 of base and either reading, right first.
+fn strings_mixed(form: Form, b: Mix, r: Mix, l: Mix) -> bool
+    ensures { λ t. ⌜ t ≡ ((isG form || isJ form) && ((mixedBy b || mixedBy r) || mixedBy l)) ⌝ }
+{
+    match form {
+        Form::P => false,
+        Form::M => false,
+        Form::G => any_mixed(b, r, l),
+        Form::J => any_mixed(b, r, l),
+    }
+}
+
+// Number 10 of either reading.
+fn western_reading(form: Form, b: Mix, r: Mix, l: Mix) -> bool
+    ensures { λ t. ⌜ t ≡ (isG form && ((r .western && b .western) || (l .western && b .western))) ⌝ }
+{
+    match form {
+        Form::P => false,
+        Form::M => false,
+        Form::G => {
+            if super::western_over(r, b) {
+                return true;
+            }
+            super::western_over(l, b)
+        }
+        Form::J => false,
+    }
+}
+
+// The first of numbers 7 to 10 that holds of a word with readings on both sides.
+fn row_of(
+    form: Form,
+    place: u32,
+    em: u32,
+    bc: &[u32],
+    bs: &[u32],
+    before: &[u32],
+    after: &[u32],
+    rc: &[u32],
+    lc: &[u32],
+) -> Row
+    requires { ⌜ hasRuby form ≡ true ⌝ }
+    ensures { λ r. ⌜ r ≡ rowBy form place em (now (bc .entry)) (now (bs .entry)) (now (before .entry)) (now (after .entry)) (now (rc .entry)) (now (lc .entry)) ⌝ }
+{
+    if super::blank_inside(before, after) {
+        return Row::Holds(Refusal::BlankInside(place));
+    }
+    let b = super::mix_of(bc);
+    if base_wrong(form, em, b, bs) {
+        return Row::Holds(Refusal::JukugoBase(place));
+    }
+    let r = super::mix_of(rc);
+    let l = super::mix_of(lc);
+    if strings_mixed(form, b, r, l) {
+        return Row::Holds(Refusal::Mixed(place));
+    }
+    if western_reading(form, b, r, l) {
+        return Row::Holds(Refusal::WesternOver(place));
+    }
+    Row::None
 }
