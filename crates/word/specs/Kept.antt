@@ -35,7 +35,7 @@ use Rattle.word.specs.Promise as promise
 use Rattle.word.specs.Sized.{Small, Sized, small}
 use Rattle.word.specs.Runs.{first-fits, last-fits}
 use Rattle.word.specs.Both.{Gloss, hasLeft, takes, apart, isGroup, longest}
-use Rattle.word.specs.Sides.{strOf, readingOver, sided, groupsWord, jukugosBy, jukugosWord, wordTwo, wordOf}
+use Rattle.word.specs.Sides.{strOf, readingOver, sided, groupsWord, jukugosBy, jukugosWord, twoBy, wordTwo, wordOf}
 
 -- a reading that lies within the block of its word, or around it; or within another reading
 pub record Inside (v : Word) (u : Reading) : Type 0 where
@@ -271,7 +271,7 @@ by-cond false Q f g = g refl
 
 two-kept : (form : Form) (w : Given) (g : Gloss) → Sized form (w .width) (w .rubyWidth) (w .run) → LeftSized form g → (isJ form ≡ true → w .em ≤ sum (w .width)) → hasLeft (g .kind) ≡ true →
     Kept form w g (wordTwo form w g)
-unfolding wordTwo jukugosBy jukugosWord
+unfolding wordTwo twoBy jukugosBy jukugosWord
 two-kept form.P w g s z j here = absurd (none (g .kind) (z .takes) here)
   where
     none : (k : Left) → takes form.P k ≡ true → hasLeft k ≡ true → ⊥

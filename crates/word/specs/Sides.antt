@@ -8,6 +8,7 @@ use Prim.Native.Nat.{ℕ, _+_, _-_, _*_, _≤_, _<_}
 use lib.Dec.{leb}
 use lib.ListN.{length, getD}
 use Rattle.basics.specs.Lists.{sum, lastOr}
+use Rattle.basics.specs.Laws.{sum-some}
 use Rattle.spread.specs.declared.Way.{Way}
 use Rattle.spread.specs.declared.Way.the-variants.{Solid}
 use Rattle.spread.specs.Gap.{gaps, starts}
@@ -23,7 +24,7 @@ use Rattle.word.specs.declared.Str.{Str}
 use Rattle.class.specs.Class.{western}
 use Rattle.word.specs.declared.Form.{Form}
 use Rattle.word.specs.declared.Form.the-variants as form
-use Rattle.word.specs.Given.{Given}
+use Rattle.word.specs.Given.{Given, isJ}
 use Rattle.word.specs.Sized.{Small}
 use Rattle.word.specs.Alone.{script, rubyWay, baseWay, split, anyLonger}
 use Rattle.word.specs.Word.{none, string, byRuns, plain, runStarts}
@@ -60,6 +61,14 @@ pub record JukugoSized (left : Left) (em : ℕ) (bs runs rs lruns ls : List ℕ)
   pub ems : em ≤ sum bs
   pub whole : sum runs ≤ length rs
   pub wholeLeft : isGroup left ≡ false → sum lruns ≤ length ls
+
+-- a word of its form with a left reading: a J's runs are read, its left runs but for a left G
+pub record TwoSized (form : Form) (left : Left) (em : ℕ) (bs runs rs lruns ls : List ℕ) : Type 0 where
+  pub small : Small bs rs
+  pub gloss : GlossSized ls
+  pub ems : isJ form ≡ true → em ≤ sum bs
+  pub whole : isJ form ≡ true → sum runs ≤ length rs
+  pub wholeLeft : isJ form ≡ true → isGroup left ≡ false → sum lruns ≤ length ls
 
 -- a reading over the length T of its word's longest string
 unfoldable pub readingOver : Way → Ratios → ℕ → ℕ → Str → Reading
@@ -99,13 +108,19 @@ unfolding jukugosWord
 jukugosBy left r l h em bs runs rs lruns ls =
     cond (isGroup left) (groupsWord r l Kana h em (strOf bs) (strOf rs) (strOf ls)) (jukugosWord r l h em bs runs rs lruns ls)
 
--- a word of its form with its left reading
+-- a word of its form with its left reading, by what its strings are made of
+unfoldable pub twoBy : Form → Left → Script → Script → Script → Ratios → ℕ → List ℕ → List ℕ → List ℕ → List ℕ → List ℕ → Word
+unfolding sided jukugosBy plain
+twoBy form.P left r l b h em bs runs rs lruns ls = plain (sum bs)
+twoBy form.M left r l b h em bs runs rs lruns ls = monosWord h em (strOf bs) (strOf rs) (strOf ls)
+twoBy form.G left r l b h em bs runs rs lruns ls = groupsWord r l b h em (strOf bs) (strOf rs) (strOf ls)
+twoBy form.J left r l b h em bs runs rs lruns ls = jukugosBy left r l h em bs runs rs lruns ls
+
+-- the word with a left reading
 unfoldable pub wordTwo : Form → Given → Gloss → Word
-unfolding sided jukugosBy plain western
-wordTwo form.P w g = plain (sum (w .width))
-wordTwo form.M w g = monosWord (w .ratios) (w .em) (strOf (w .width)) (strOf (w .rubyWidth)) (strOf (g .width))
-wordTwo form.G w g = groupsWord (script (w .rubyClass)) (script (g .class)) (script (w .class)) (w .ratios) (w .em) (strOf (w .width)) (strOf (w .rubyWidth)) (strOf (g .width))
-wordTwo form.J w g = jukugosBy (g .kind) (script (w .rubyClass)) (script (g .class)) (w .ratios) (w .em) (w .width) (w .run) (w .rubyWidth) (g .run) (g .width)
+unfolding twoBy western
+wordTwo form w g =
+    twoBy form (g .kind) (script (w .rubyClass)) (script (g .class)) (script (w .class)) (w .ratios) (w .em) (w .width) (w .run) (w .rubyWidth) (g .run) (g .width)
 
 -- every word, with a left reading or without
 unfoldable pub wordOf : Form → Given → Gloss → Word
@@ -137,3 +152,15 @@ fits-longer em B runs ws e = go (anyLonger em (split runs ws)) (byRuns em B (map
     go : (t : Bool) (x : Reading) → cond t Longer (Over x) ≡ Longer → t ≡ true
     go true x e = refl
     go false x e = absurd (let z : _≡_ {A = ℕ} 0 1 = cc in omega arith)
+
+-- the strings of a word with its left characters
+pub strings : (bs rs ls : List ℕ) → Small bs rs → GlossSized ls → Strings (strOf bs) (strOf rs) (strOf ls)
+strings bs rs ls s g =
+    record {
+      base = record { some = sum-some bs (s .some); few = omega (arith, s .few) };
+      right = record { some = s .reads; few = omega (arith, s .fewRuby) };
+      left = record { some = g .some; few = omega (arith, g .few) };
+      narrow = s .narrow;
+      narrowRight = s .narrowRuby;
+      narrowLeft = g .narrow;
+    }

@@ -15,7 +15,7 @@ ghost use Rattle.word.specs.Rows.{rowBy};
 ghost use Rattle.spread.specs.Ratio.{ratiosOf, Housed};
 ghost use Rattle.word.specs.Alone.{baseWay};
 ghost use Rattle.word.specs.Both.{longest};
-ghost use Rattle.word.specs.Sides.{Counted, Strings, GlossSized, JukugoSized, strOf, fitsOf, readingOver, sided, monosWord, groupsWord, jukugosBy};
+ghost use Rattle.word.specs.Sides.{Counted, Strings, GlossSized, JukugoSized, TwoSized, strOf, fitsOf, readingOver, sided, monosWord, groupsWord, jukugosBy, twoBy};
 ghost use Rattle.word.specs.Word.{between};
 use super::Answer;
 use super::Fits;
@@ -304,4 +304,30 @@ fn row_of(
         return Row::Holds(Refusal::WesternOver(place));
     }
     Row::None
+}
+
+// The word of its form with its left reading, by what its strings are made of.
+fn two_of(
+    form: Form,
+    left: Left,
+    r: Script,
+    l: Script,
+    b: Script,
+    ratios: [[u32; 3]; 2],
+    em: u32,
+    bs: &[u32],
+    runs: &[u32],
+    rs: &[u32],
+    lruns: &[u32],
+    ls: &[u32],
+) -> Word
+    requires { ⌜ (TwoSized form left em (now bs) (now runs) (now rs) (now lruns) (now ls)) × (Housed (ratiosOf ratios)) ⌝ }
+    ensures { λ w. ⌜ w ≡ twoBy form left r l b (ratiosOf ratios) em (now (bs .entry)) (now (runs .entry)) (now (rs .entry)) (now (lruns .entry)) (now (ls .entry)) ⌝ }
+{
+    match form {
+        Form::P => super::plain_of(basics::sum_of(bs)),
+        Form::M => monos_of(ratios, em, str_of(bs), str_of(rs), str_of(ls)),
+        Form::G => groups_of(r, l, b, ratios, em, str_of(bs), str_of(rs), str_of(ls)),
+        Form::J => jukugos_of(left, r, l, ratios, em, bs, runs, rs, lruns, ls),
+    }
 }

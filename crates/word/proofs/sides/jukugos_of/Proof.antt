@@ -4,8 +4,7 @@ use mathlib.Core.Bool.{Bool, true, false, cond, _||_}
 use Prim.Native.Nat.{_*_}
 use borrow.Author.Needs.{needs}
 use native.Mathlib.Omega.{arith}
-use Rattle.basics.specs.Laws.{sum-some}
-use Rattle.word.specs.Sides.{jukugosBy, jukugosWord, fits-over, fits-longer}
+use Rattle.word.specs.Sides.{jukugosBy, jukugosWord, fits-over, fits-longer, strings}
 use Rattle.word.proofs.sides.jukugos_of.Statement.{statement}
 use Rattle.word.proofs.sides.jukugos_of.Tie as tie
 
@@ -25,18 +24,8 @@ str-of-requires-3 c κs = search needs
 groups-of-requires : tie.Need-groups-of-requires
 groups-of-requires c κs =
     let s = c .before .before .before .before .before .before .before .before in
-    let z = s .pre .0 in (
-      rw (c .str-of3 .ensures, c .before .str-of2 .ensures, c .before .before .str-of .ensures)
-          (record {
-            base = record { some = sum-some (s .args .bs .now) (z .small .some); few = omega (arith, z .small .few) };
-            right = record { some = z .small .reads; few = omega (arith, z .small .fewRuby) };
-            left = record { some = z .gloss .some; few = omega (arith, z .gloss .few) };
-            narrow = z .small .narrow;
-            narrowRight = z .small .narrowRuby;
-            narrowLeft = z .gloss .narrow;
-          }),
-      s .pre .1,
-    )
+    let z = s .pre .0 in
+    (rw (c .str-of3 .ensures, c .before .str-of2 .ensures, c .before .before .str-of .ensures) (strings _ _ _ (z .small) (z .gloss)), s .pre .1)
 
 is-group-requires : tie.Need-is-group-requires
 is-group-requires c κs = search needs
