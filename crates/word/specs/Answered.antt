@@ -2,21 +2,24 @@
 -- left characters as for right ones, right first]"; 7 and 8 speak of base characters alone.
 use mathlib.Core.Path.{_≡_, refl, sym, _∙_, subst}
 use mathlib.Core.Bool.{Bool, true, false, cond, not, _&&_, _||_}
+use mathlib.Core.List.{List}
 use Prim.Native.Nat.{ℕ, _≤_}
+use lib.ListN.{length}
 use native.Mathlib.Omega.{arith}
 use Rattle.basics.specs.Lists.{sum, any}
 use Rattle.class.specs.Class.{western, kanaLike}
 use Rattle.refusal.specs.declared.Refusal.the-variants.{BlankInside, JukugoBase, Mixed, WesternOver}
 use Rattle.word.specs.declared.Form.{Form}
+use Rattle.word.specs.declared.Left.{Left}
 use Rattle.word.specs.declared.Word.{Word}
 use Rattle.word.specs.declared.Answer.{Answer}
 use Rattle.word.specs.declared.Answer.the-variants.{Set, Refused}
-use Rattle.word.specs.Given.{Given, isG, isJ}
+use Rattle.word.specs.Given.{Given, hasRuby, isG, isJ}
 use Rattle.word.specs.Sized.{Sized}
 use Rattle.word.specs.Answer.{blankInside, jukugoBase, mixed, mixedIn, westernOver}
 use Rattle.word.specs.Promise.{one-em}
-use Rattle.word.specs.Both.{Gloss}
-use Rattle.word.specs.Sides.{wordOf}
+use Rattle.word.specs.Both.{Gloss, hasLeft, isGroup}
+use Rattle.word.specs.Sides.{GlossSized, wordOf}
 use Rattle.word.specs.Kept.{LeftSized, Kept, all-kept}
 
 -- 9, "within the base or the ruby of G or J", of either side
@@ -26,6 +29,14 @@ mixedBoth form w g = mixedIn form w || ((isG form || isJ form) && mixed (g .clas
 -- 10, of either side
 abbrev pub westernBoth : Form → Given → Gloss → Bool
 westernBoth form w g = westernOver form w || (isG form && (any western (g .class) && any western (w .class)))
+
+-- what the callers have made sure of: a word with ruby and a left reading, within their limits; runs of a J, on the left but for a left G
+pub record LeftReady (form : Form) (left : Left) (bs rs runs ls lruns : List ℕ) : Type 0 where
+  pub ruby : hasRuby form ≡ true
+  pub sized : Sized form bs rs runs
+  pub here : hasLeft left ≡ true
+  pub gloss : GlossSized ls
+  pub whole : isJ form ≡ true → isGroup left ≡ false → sum lruns ≡ length ls
 
 -- "in the table's order"
 unfoldable pub answerBoth : Form → ℕ → Given → Gloss → Answer

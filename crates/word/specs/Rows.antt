@@ -51,7 +51,7 @@ module _ (form : Form) (place : ℕ) (w : Given) (g : Gloss) (ruby : hasRuby for
   abbrev row : Row
   row = rowBy form place (w .em) (w .class) (w .width) (w .before) (w .after) (w .rubyClass) (g .class)
 
-  abbrev answered : Row → Answer
+  abbrev pub answered : Row → Answer
   answered None = Set (wordOf form w g)
   answered (Holds r) = Refused r
 

@@ -22,6 +22,7 @@ ghost use Rattle.word.specs.Runs.{runsOf};
 mod sides;
 
 pub use sides::groups_of;
+pub use sides::measure_left;
 pub use sides::monos_of;
 pub use sides::runs_reading;
 

@@ -12,8 +12,9 @@ ghost use Rattle.word.specs.Sized.{Small, Sized};
 ghost use Rattle.word.specs.Both.{isGroup};
 ghost use Rattle.word.specs.Kinds.{notKanaBy, mixedBy};
 ghost use Rattle.word.specs.Rows.{rowBy};
+ghost use Rattle.word.specs.Answered.{LeftReady, answerBoth};
 ghost use Rattle.spread.specs.Ratio.{ratiosOf, Housed};
-ghost use Rattle.word.specs.Alone.{baseWay};
+ghost use Rattle.word.specs.Alone.{script, baseWay};
 ghost use Rattle.word.specs.Both.{longest};
 ghost use Rattle.word.specs.Sides.{Counted, Strings, GlossSized, JukugoSized, TwoSized, strOf, fitsOf, readingOver, sided, monosWord, groupsWord, jukugosBy, twoBy};
 ghost use Rattle.word.specs.Word.{between};
@@ -329,5 +330,43 @@ fn two_of(
         Form::M => monos_of(ratios, em, str_of(bs), str_of(rs), str_of(ls)),
         Form::G => groups_of(r, l, b, ratios, em, str_of(bs), str_of(rs), str_of(ls)),
         Form::J => jukugos_of(left, r, l, ratios, em, bs, runs, rs, lruns, ls),
+    }
+}
+
+fn script_in(cs: &[u32]) -> Script
+    ensures { λ s. ⌜ s ≡ script (now (cs .entry)) ⌝ }
+{
+    super::script_of(super::mix_of(cs))
+}
+
+// A word with a left reading set within itself, or the first refusal that holds of it. "9 and 10 likewise" hold for left characters.
+pub fn measure_left(
+    form: Form,
+    left: Left,
+    place: u32,
+    ratios: [[u32; 3]; 2],
+    em: u32,
+    bc: &[u32],
+    bs: &[u32],
+    before: &[u32],
+    after: &[u32],
+    rc: &[u32],
+    rs: &[u32],
+    runs: &[u32],
+    lc: &[u32],
+    ls: &[u32],
+    lruns: &[u32],
+) -> Answer
+    requires { ⌜ (LeftReady form left (now bs) (now rs) (now runs) (now ls) (now lruns)) × (Housed (ratiosOf ratios)) ⌝ }
+    ensures { λ a. ⌜ a ≡ answerBoth form place (record { em = em; ratios = ratiosOf ratios; class = now (bc .entry); width = now (bs .entry); before = now (before .entry); after = now (after .entry); rubyClass = now (rc .entry); rubyWidth = now (rs .entry); run = now (runs .entry) }) (record { kind = left; class = now (lc .entry); width = now (ls .entry); run = now (lruns .entry) }) ⌝ }
+{
+    match row_of(form, place, em, bc, bs, before, after, rc, lc) {
+        Row::Holds(why) => Answer::Refused(why),
+        Row::None => {
+            let r = script_in(rc);
+            let l = script_in(lc);
+            let b = script_in(bc);
+            Answer::Set(two_of(form, left, r, l, b, ratios, em, bs, runs, rs, lruns, ls))
+        }
     }
 }
