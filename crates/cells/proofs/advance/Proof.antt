@@ -1,4 +1,4 @@
--- Three kinds of row, and each one's word set after the line so far.
+-- Three kinds of row, and each one's word set after the line so far: a part of a J, a word with ruby, a P.
 use borrow.Author.Needs.{needs}
 use mathlib.Core.Path.{_≡_, sym, ap, _∙_, subst}
 use mathlib.Core.Bool.{Bool, true, false, cond}
@@ -42,35 +42,39 @@ returns c =
 
 step-of-requires-2 : tie.Need-step-of-requires-2
 step-of-requires-2 c κs =
-    let a = c .before .before .before .before .before in
+    let e = c .before .before .before in
+    let a = e .before .before .before in
     let x = a .args in
-    let cell = c .before .before .before .cell-at .ensures in
-    let cut = ap (λ r. r .cut) (sym cell) ∙ c .before .before .if1 .left in
+    let cell = e .before .cell-at .ensures in
+    let cut = ap (λ r. r .cut) (sym cell) ∙ e .if1 .left in
     subst (λ w. furthest (x .st) + total (elementOf w (cellAt (x .t .now) (x .i) .before) (cellAt (x .t .now) (x .i) .after)) ≤ 4294967295)
     (whole-word (x .em) (x .t .now) (x .i) (x .c) cut ∙ sym (ap (λ r. r .word) cell)) (fits (x .em) (x .t .now) (x .st) (x .i) (x .c) (a .pre))
 
 returns-2 : tie.Need-returns-2
 returns-2 c =
-    let x = c .before .before .before .before .before .before .args in
-    let cell = c .before .before .before .before .cell-at .ensures in
-    let cut = ap (λ r. r .cut) (sym cell) ∙ c .before .before .before .if1 .left in
+    let e = c .before .before .before .before in
+    let x = e .before .before .before .args in
+    let cell = e .before .cell-at .ensures in
+    let cut = ap (λ r. r .cut) (sym cell) ∙ e .if1 .left in
     c .step-of2 .ensures ∙ rw (cell, whole-word (x .em) (x .t .now) (x .i) (x .c) cut)
 
 plain-step-requires : tie.Need-plain-step-requires
 plain-step-requires c κs =
-    let a = c .before .before .before .before .before in
+    let e = c .before .before .before in
+    let a = e .before .before .before in
     let x = a .args in
-    let cell = c .before .before .before .cell-at .ensures in
-    let cut = ap (λ r. r .cut) (sym cell) ∙ c .before .before .if1 .left in
-    let ruby = ap (λ r. r .word .ruby) (sym cell) ∙ c .if2 .left in
+    let cell = e .before .cell-at .ensures in
+    let cut = ap (λ r. r .cut) (sym cell) ∙ e .if1 .left in
+    let ruby = ap (λ r. r .word .right .there) (sym cell) ∙ c .if2 .left in
     let plain = a .pre .plain ruby cut in
-    rw cell (ruby, plain .0, plain .1, plain-fits (x .em) (x .t .now) (x .st) (x .i) (x .c) (a .pre) cut)
+    rw cell (ruby, plain .left, plain .front, plain .before, plain-fits (x .em) (x .t .now) (x .st) (x .i) (x .c) (a .pre) cut)
 
 returns-3 : tie.Need-returns-3
 returns-3 c =
-    let x = c .before .before .before .before .before .before .args in
-    let cell = c .before .before .before .before .cell-at .ensures in
-    let cut = ap (λ r. r .cut) (sym cell) ∙ c .before .before .before .if1 .left in
+    let e = c .before .before .before .before in
+    let x = e .before .before .before .args in
+    let cell = e .before .cell-at .ensures in
+    let cut = ap (λ r. r .cut) (sym cell) ∙ e .if1 .left in
     c .plain-step .ensures ∙ rw (cell, whole-word (x .em) (x .t .now) (x .i) (x .c) cut)
 
 pub advance-spec : {M : Type 1} → statement M

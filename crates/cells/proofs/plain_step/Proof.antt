@@ -1,4 +1,4 @@
--- A word without ruby is to a line what `place_plain` sets.
+-- A word without readings is to a line what `place_plain` sets.
 use borrow.Author.Needs.{needs}
 use mathlib.Core.Path.{_≡_, refl, _∙_}
 use native.Mathlib.Omega.{arith}
@@ -14,7 +14,7 @@ returns : tie.Need-returns
 returns c =
     let a = c .before .before in
     let e = elementOf (a .args .w) (a .args .before) (a .args .after) in
-    rw (c .before .place-plain .ensures ∙ plain-as (a .args .st) e (a .pre .0) refl (a .pre .1))
+    rw (c .before .place-plain .ensures ∙ plain-as (a .args .st) e (a .pre .0) (a .pre .1) (a .pre .2))
 
 pub plain-step-spec : {M : Type 1} → statement M
 plain-step-spec = tie.close (tie.spec place-plain-requires returns)

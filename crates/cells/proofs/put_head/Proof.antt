@@ -1,9 +1,9 @@
--- Six numbers, each in its own place; the table stays as long as it was.
+-- Seven numbers, each in its own place; the table stays as long as it was.
 use lib.ListN.{length-set}
 use native.Mathlib.Omega.{arith}
 use borrow.Author.Needs.{needs}
-use Rattle.cells.proofs.put_ratios.Statement.{statement}
-use Rattle.cells.proofs.put_ratios.Tie as tie
+use Rattle.cells.proofs.put_head.Statement.{statement}
+use Rattle.cells.proofs.put_head.Tie as tie
 
 index-1-t : tie.Need-index-1-t
 index-1-t c = search needs
@@ -57,7 +57,10 @@ index-2-t-6 : tie.Need-index-2-t-6
 index-2-t-6 c = search needs
 
 slice-write-t-6 : tie.Need-slice-write-t-6
-slice-write-t-6 c = search needs
+slice-write-t-6 c = simp length-set (omega arith)
+
+slice-write-t-7 : tie.Need-slice-write-t-7
+slice-write-t-7 c = simp length-set (omega arith)
 
 same-length : tie.Need-same-length
 same-length c = simp length-set
@@ -65,8 +68,8 @@ same-length c = simp length-set
 returns : tie.Need-returns
 returns c = search needs
 
-pub put-ratios-spec : {M : Type 1} → statement M
-put-ratios-spec =
+pub put-head-spec : {M : Type 1} → statement M
+put-head-spec =
     tie.close
     (tie.spec
     index-1-t
@@ -87,5 +90,6 @@ put-ratios-spec =
     index-1-t-6
     index-2-t-6
     slice-write-t-6
+    slice-write-t-7
     same-length
     returns)
