@@ -26,8 +26,8 @@ use Rattle.line.specs.declared.State.{State}
 use Rattle.line.specs.Setting.{start, furthest, total}
 use Rattle.cells.specs.declared.Cell.{Cell}
 use Rattle.cells.specs.Cells as cells
-use Rattle.cells.specs.Cells.{cellAt, partBy, overWith, wordAt, elementOf, Ran, piece, next, stop, rest, stateAt, mayEnd, lastOf, breaks, endOf, linesOf}
-use Rattle.cells.specs.Sound.{Plain, Row, Sound}
+use Rattle.cells.specs.Cells.{ratiosAt, cellAt, partBy, overWith, wordAt, elementOf, Ran, Plain, piece, next, stop, rest, stateAt, mayEnd, lastOf, breaks, endOf, linesOf}
+use Rattle.cells.specs.Sound.{Row, Sound}
 use Rattle.cells.specs.Walk as walk
 use Rattle.door.specs.declared.Piece.{Piece}
 use Rattle.door.specs.Job.{Job, baseCount, rubyCount, entries, elements, given}
@@ -123,6 +123,15 @@ module _ (job : Job) (passed : Passed job) (t : List ℕ) (table : Holds job t) 
     unfolding rowOf
     many-at j i h l = ap (λ z. z .rubies) (has x at i h l) ∙ rw j
 
+    -- no element has a left reading
+    lefts-at : (i : ℕ) → x .base ≤ i → i < x .base + x .bases → cellAt t i .lefts ≡ 0
+    unfolding rowOf
+    lefts-at i h l = ap (λ z. z .lefts) (has x at i h l)
+
+    own-left-at : (i : ℕ) → x .base ≤ i → i < x .base + x .bases → cellAt t i .ownleft ≡ 0
+    unfolding rowOf
+    own-left-at i h l = ap (λ z. z .ownleft) (has x at i h l)
+
     -- of a J
     pub ruby-at : isJ (x .form) ≡ true → (i : ℕ) → x .base ≤ i → i < x .base + x .bases → cellAt t i .ruby ≡ firstRuby job x (i - x .base)
     unfolding rowOf
@@ -166,7 +175,8 @@ module _ (job : Job) (passed : Passed job) (t : List ℕ) (table : Holds job t) 
         let k = i - x .base in
         let low : x .base ≤ z = omega arith in
         let high : z < x .base + x .bases = omega arith in
-        ap (λ r. byRatios r (cellAt t i) (cellAt t z)) (table .house)
+        ap (λ n. cond (ltb 0 n) (cells.both (job .em) t i c) (byRatios (ratiosAt t) (cellAt t i) (cellAt t z))) (lefts-at i h (omega arith))
+        ∙ ap (λ r. byRatios r (cellAt t i) (cellAt t z)) (table .house)
         ∙ ap₂ (λ a b. byEnds a (cellAt t i .wide) b (cellAt t i .ruby) (cellAt t i .over) (overWith (job .em) (cellAt t z)) (cellAt t i .own) (cellAt t z .own) (cellAt t i .western))
         (wide-with j z low high ∙ ap (wideBefore job x) (top (x .base) h l)) (ruby-with j z low high ∙ ap (firstRuby job x) (top (x .base) h l))
         ∙ ap₂ (λ a b. byEnds (wideBefore job x (k + (c - i))) a (firstRuby job x (k + (c - i))) b (cellAt t i .over) (overWith (job .em) (cellAt t z)) (cellAt t i .own) (cellAt t z .own) (cellAt t i .western))
@@ -317,6 +327,8 @@ module _ (job : Job) (passed : Passed job) (t : List ℕ) (table : Holds job t) 
           narrow = omega (arith, wide-with x at j (c - 1) low high, wide-small j (suc (c - 1 - x .base)) (omega arith));
           few = omega (arith, over-at x at j (c - 1) low high, longer-few job x (c - 1 - x .base), at .good .counts .few);
           ends = omega (arith, r, first-more job x k n, inside, passed .fewRuby);
+          fewLeft = omega (arith, lefts-at x at i h (omega arith));
+          narrowLeft = omega (arith, own-left-at x at i h (omega arith));
         }
       where
         top : (b : ℕ) → b ≤ i → i < c → suc (c - 1 - b) ≡ i - b + (c - i)
@@ -331,17 +343,18 @@ module _ (job : Job) (passed : Passed job) (t : List ℕ) (table : Holds job t) 
         go true = zero-le
         go false = piece-short job x (whole-piece job passed x (at .good))
 
-    row-plain : (i : ℕ) → x .base ≤ i → i < x .base + x .bases → cellAt t i .word .ruby ≡ false → cellAt t i .cut ≡ false → Plain (cellAt t i)
+    row-plain : (i : ℕ) → x .base ≤ i → i < x .base + x .bases → cellAt t i .word .right .there ≡ false → cellAt t i .cut ≡ false → Plain (cellAt t i)
     row-plain i h l r c =
         let e = word-at x at (sym (cut-at x at i h l) ∙ c) i h l in
         let g = whole-piece job passed x (at .good) in
         let k = promise job x g in
-        let p = sym (k .reads) ∙ ap (λ w. w .ruby) (sym e) ∙ r in
+        let p = sym (k .reads) ∙ ap (λ w. w .right .there) (sym e) ∙ r in
         let w = getD (job .width) (x .base) 0 in
         let b = passed .base (x .base) (omega (arith, g .some, g .inside)) in
         let wide : 2 * w ≤ line.wordOf job x .len = omega (arith, k .block, sum-first (job .width) (x .base) (x .bases) (g .some)) in
         let deep = before-within (job .profile) (eqb (x .base) 0) (getD (job .class) (x .base) 0) w (getD (job .before) (x .base) 0) (getD (job .after) (x .base) 0) (job .em) (omega (arith, b .blanks)) in
         record {
+          left = ap (λ w. w .left .there) e ∙ ap (λ r. r .there) (k .one);
           front = ap (λ w. w .front) e ∙ plain-front (x .form) (given job x) p;
           before = omega (arith, before-at x at i h l, ap (λ w. w .len) e, on-le (x .form) (depthsAt job (x .base) .before) (line.wordOf job x .len) (omega (arith, deep)));
         }
