@@ -109,6 +109,32 @@ walking-first job was ready =
       rows = tt;
     }
 
+-- a walk that goes on from where another stands
+pub walking-here : {job : Job} {was t : List ℕ} {k b r u : ℕ} → Walking job was t k b r u → Walking job t t k b r u
+walking-here {job} {was} {t} q =
+    let y = q .ready in
+    record {
+      ready =
+          record {
+            house = y .house;
+            few = y .few;
+            fewRuby = y .fewRuby;
+            fewElements = y .fewElements;
+            some = y .some;
+            narrow = y .narrow;
+            narrowRuby = y .narrowRuby;
+            room = omega (arith, q .long, y .room);
+          };
+      along = q .along;
+      at = q .at;
+      long = refl;
+      head = q .head;
+      rows = q .rows;
+    }
+
+pub walking-from : {job : Job} {was t v : List ℕ} {k b r u l c s w : ℕ} → Walking job was t k b r u → Walking job t v l c s w → Walking job was v l c s w
+walking-from q p = record { ready = q .ready; along = p .along; at = p .at; long = p .long ∙ q .long; head = p .head; rows = p .rows }
+
 stays : (job : Job) (x : Piece) (was t : List ℕ) → Laid job x was t → (ys : List Piece) → All (HasRows job was) ys → All (λ y. y .base + y .bases ≤ x .base) ys → All (HasRows job t) ys
 stays job x was t l [] a b = tt
 stays job x was t l (y ∷ ys) a b = (λ i h g. l .other i (inl (omega (arith, b .0))) ∙ a .0 i h g, stays job x was t l ys (a .1) (b .1))

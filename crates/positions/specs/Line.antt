@@ -1,19 +1,25 @@
 -- One line: what is written so far and what is left to write make up the whole.
 use mathlib.Core.Path.{_≡_, refl, sym, ap, _∙_}
-use mathlib.Core.Bool.{true, false, cond}
+use mathlib.Core.Bool.{Bool, true, false, cond}
 use mathlib.Core.List.{List, [], _∷_, _++_}
 use Prim.Native.Nat.{ℕ, zero, suc, _+_, _-_, _*_, _≤_, _<_, zero-le}
 use native.Mathlib.Omega.{arith}
 use native.Mathlib.Decide.{decLt}
 use borrow.Author.Tests.{lt-ltb}
+use lib.Dec.{eqb, leb}
 use lib.ListN.{length, set}
 use lib.Seq.{sets, length-sets}
 use Rattle.basics.specs.Laws.{sets-append}
-use Rattle.word.specs.Word.{baseStarts}
+use Rattle.spread.specs.declared.Way.{Way}
+use Rattle.spread.specs.Ratio.{Ratios}
+use Rattle.spread.specs.Gap.{gaps}
+use Rattle.word.specs.declared.Word.{Word}
+use Rattle.word.specs.Word.{baseStarts, shortRuby, shortBase}
+use Rattle.word.specs.Numbers.{wordFrom}
 use Rattle.line.specs.declared.State.{State}
 use Rattle.line.specs.Setting.{start, origin, furthest}
 use Rattle.line.specs.Bound.{origin-bound}
-use Rattle.cells.specs.Cells.{size, cellAt, next, stop, Advances}
+use Rattle.cells.specs.Cells.{size, cellAt, overWith, eachOver, partBy, part, wordAt, next, stop, Advances}
 use Rattle.cells.specs.Sound.{advances}
 use Rattle.cells.specs.Walk.{next-near, stop-whole}
 use Rattle.positions.specs.Positions.{Sheet, lent, wordOf, pieceOf, rubyBy, basePut, rubyPut, putFrom, baseOf, rubyOf}
@@ -21,6 +27,31 @@ use Rattle.positions.specs.Lists.{sets-any}
 use Rattle.positions.specs.Ready.{StringReady, Begins, Fits, LineReady}
 use Rattle.positions.specs.Piece.{RubyReady, base-long, ruby-long, base-ready, ruby-ready}
 use Rattle.positions.specs.Walk.{none-from, begins-next, stop-ahead, fits-here}
+
+-- each part of a J has ruby
+from-ruby : (r b : Way) (h : Ratios) (em B n R m : ℕ) → wordFrom r b h em B n R m .ruby ≡ true
+unfolding wordFrom shortRuby shortBase
+from-ruby r b h em B n R m = go (leb R B) (shortRuby B R (gaps r (h .ruby) em (B - R) m)) (shortBase B R (gaps b (h .base) em (R - B) n)) refl refl
+  where
+    go : (x : Bool) (v w : Word) → v .ruby ≡ true → w .ruby ≡ true → cond x v w .ruby ≡ true
+    go true v w e f = e
+    go false v w e f = f
+
+part-ruby : (em : ℕ) (t : List ℕ) (i c : ℕ) → part em t i c .ruby ≡ true
+unfolding part partBy eachOver
+part-ruby em t i c =
+    let a = cellAt t i in
+    let z = cellAt t (c - 1) in
+    go (eqb (c - i) 1) (eqb (a .over) (overWith em z)) _ _ _ (from-ruby _ _ _ _ _ _ _ _) refl (from-ruby _ _ _ _ _ _ _ _)
+  where
+    go : (x y : Bool) (u v w : Word) → u .ruby ≡ true → v .ruby ≡ true → w .ruby ≡ true → cond x u (cond y v w) .ruby ≡ true
+    go true y u v w e f g = e
+    go false true u v w e f g = f
+    go false false u v w e f g = g
+
+pub cut-ruby : (g : Sheet) (i c : ℕ) → cellAt (g .t) i .cut ≡ true → wordOf g i c .ruby ≡ true
+unfolding wordAt
+cut-ruby g i c e = ap (λ b. cond b (part (g .em) (g .t) i c) (cellAt (g .t) i .word) .ruby) e ∙ part-ruby (g .em) (g .t) i c
 
 -- Before the piece from i, the line so far in the state st.
 pub record Along (g : Sheet) (s e : ℕ) (was wasRuby : List ℕ) (i : ℕ) (st : State) (base ruby : List ℕ) : Type 0 where

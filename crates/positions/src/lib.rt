@@ -90,7 +90,7 @@ fn fewer(a: usize, b: usize) -> usize
     if a <= b { a } else { b }
 }
 
-// The line from s up to e. A piece without ruby is a P, one character at its origin.
+// The line from s up to e. A piece without ruby is a P, one character at its origin; a J has a copy of the line's state, as in the filling.
 fn put_line(
     t: &[u32],
     s: usize,
@@ -110,15 +110,24 @@ fn put_line(
         let a = cells::cell_at(t, i);
         let end = i + a.bases as usize;
         let c = fewer(e, end);
-        let step = cells::advance(t, i, c, em, st);
-        let w = step.word;
-        if w.ruby {
+        if a.cut {
+            let here = st;
+            let step = cells::advance_cut(t, i, c, em, here);
+            let w = step.word;
             put_base(w, step.at, i, c, width, base);
             put_ruby(t, i, c, em, w, step.at, rwidth, ruby);
+            st = step.st;
         } else {
-            base[i] = step.at;
+            let step = cells::advance(t, i, c, em, st);
+            let w = step.word;
+            if w.ruby {
+                put_base(w, step.at, i, c, width, base);
+                put_ruby(t, i, c, em, w, step.at, rwidth, ruby);
+            } else {
+                base[i] = step.at;
+            }
+            st = step.st;
         }
-        st = step.st;
         i = end;
     }
 }
