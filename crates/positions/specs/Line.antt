@@ -49,7 +49,7 @@ part-ruby em t i c =
     go false true u v w e f g = f
     go false false u v w e f g = g
 
-pub cut-ruby : (g : Sheet) (i c : ℕ) → cellAt (g .t) i .cut ≡ true → wordOf g i c .ruby ≡ true
+pub cut-ruby : (g : Sheet) (i c : ℕ) → cellAt (g .t) i .cut ≡ true → wordOf g i c .right .there ≡ true
 unfolding wordAt
 cut-ruby g i c e = ap (λ b. cond b (part (g .em) (g .t) i c) (cellAt (g .t) i .word) .ruby) e ∙ part-ruby (g .em) (g .t) i c
 
@@ -114,17 +114,17 @@ module _ {g : Sheet} {s e : ℕ} {was wasRuby : List ℕ} (ready : LineReady g s
       not-far : origin st (pieceOf g i (stop (g .t) i e)) ≤ 536870912
       not-far = omega (arith, origin-bound st (pieceOf g i (stop (g .t) i e)), q .near, in-table, ready .table .sound .few)
 
-      pub asks-base : wordOf g i c .ruby ≡ true → StringReady (o + wordOf g i c .front) (wordOf g i c .inbase) i c (g .width) base
+      pub asks-base : wordOf g i c .right .there ≡ true → StringReady (o + wordOf g i c .front) (wordOf g i c .inbase) i c (g .width) base
       asks-base w = base-ready (ready .table) (ahead .0) (ahead .1) in-table here o not-far w (omega (arith, ready .room, q .longBase))
 
-      pub asks-ruby : wordOf g i c .ruby ≡ true → RubyReady (g .em) (g .t) i c (wordOf g i c) o (g .rubyWidth) ruby
+      pub asks-ruby : wordOf g i c .right .there ≡ true → RubyReady (g .em) (g .t) i c (wordOf g i c) o (g .rubyWidth) ruby
       asks-ruby w = ruby-ready (ready .table) (ahead .0) (ahead .1) in-table here o not-far w (omega (arith, ready .roomRuby, q .longRuby))
 
       pub in-base : i < length base
       in-base = omega (arith, in-table, ready .room, q .longBase)
 
       -- what the piece leaves, by its two cases
-      pub wrote : {base2 ruby2 : List ℕ} → wordOf g i c .ruby ≡ true → base2 ≡ sets base i (baseStarts (wordOf g i c) o (lent (g .width) i c)) →
+      pub wrote : {base2 ruby2 : List ℕ} → wordOf g i c .right .there ≡ true → base2 ≡ sets base i (baseStarts (wordOf g i c) o (lent (g .width) i c)) →
           ruby2 ≡ sets ruby (cellAt (g .t) i .ruby) (rubyBy (g .em) (g .t) (g .rubyWidth) (wordOf g i c) i c o) →
           (base2 ≡ sets base i (basePut g i c o)) × (ruby2 ≡ sets ruby (cellAt (g .t) i .ruby) (rubyPut g i c o))
       unfolding basePut rubyPut
@@ -133,7 +133,7 @@ module _ {g : Sheet} {s e : ℕ} {was wasRuby : List ℕ} (ready : LineReady g s
         y ∙ ap (λ b. sets ruby (cellAt (g .t) i .ruby) (cond b (rubyBy (g .em) (g .t) (g .rubyWidth) (wordOf g i c) i c o) [])) (sym w),
       )
 
-      pub wrote-plain : wordOf g i c .ruby ≡ false → (set base i o ≡ sets base i (basePut g i c o)) × (ruby ≡ sets ruby (cellAt (g .t) i .ruby) (rubyPut g i c o))
+      pub wrote-plain : wordOf g i c .right .there ≡ false → (set base i o ≡ sets base i (basePut g i c o)) × (ruby ≡ sets ruby (cellAt (g .t) i .ruby) (rubyPut g i c o))
       unfolding basePut rubyPut
       wrote-plain w = (
         ap (λ b. sets base i (cond b (baseStarts (wordOf g i c) o (lent (g .width) i c)) (o ∷ []))) (sym w),

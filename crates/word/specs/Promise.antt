@@ -224,3 +224,13 @@ pub kept : (form : Form) (place : ℕ) (w : Given) {v : Word} → Sized form (w 
 kept form place w {v} s e =
     let p = passed form place w e in
     subst (Promise form w) (sym (p .word)) (word-kept form w s (one-em form w (s .some) (p .eight)))
+
+-- no word of one reading has another
+pub one-reading : (form : Form) (w : Given) → wordOf form w .left ≡ none
+unfolding wordOf plain wordBy shortRuby shortBase groupWord jukugoWord overEach
+one-reading P w = refl
+one-reading M w = by-cond (leb (sum (w .rubyWidth)) (sum (w .width))) (λ (v : Word). v .left ≡ none) (λ _. refl) (λ _. refl)
+one-reading G w = by-cond (leb (sum (w .rubyWidth)) (sum (w .width))) (λ (v : Word). v .left ≡ none) (λ _. refl) (λ _. refl)
+one-reading J w =
+    by-cond (anyLonger (w .em) (split (w .run) (w .rubyWidth))) (λ (v : Word). v .left ≡ none)
+    (λ _. by-cond (leb (sum (w .rubyWidth)) (sum (w .width))) (λ (v : Word). v .left ≡ none) (λ _. refl) (λ _. refl)) (λ _. refl)
