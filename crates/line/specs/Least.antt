@@ -140,7 +140,18 @@ module _ (es : List Element) (xs : List ℕ) (f : Follows es xs) where
   under (suc i) h =
       let u = under i (omega arith) in
       let l = at i h u in
-      record { end = omega arith; reach = λ s. omega (arith, reach-put s (after start es (settle es) i) (el es i) (org (settle es) i), reach-put s (after start es xs i) (el es i) (org xs i), u .reach s, end-nearer s (el es i) (org (settle es) i) (org xs i) l); room = refl }
+      record {
+        end = omega arith;
+        reach = λ s.
+            omega (
+              arith,
+              reach-put s (after start es (settle es) i) (el es i) (org (settle es) i),
+              reach-put s (after start es xs i) (el es i) (org xs i),
+              u .reach s,
+              end-nearer s (el es i) (org (settle es) i) (org xs i) l,
+            );
+        room = refl;
+      }
 
   pub settle-least : (i : ℕ) → i < length es → org (settle es) i ≤ org xs i
   settle-least i h = at i h (under i (omega arith))

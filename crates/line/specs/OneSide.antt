@@ -73,7 +73,10 @@ unfolding settleFrom askedFrom
 one-from s st [] n h = refl
 one-from s st (e ∷ es) n h =
     ap (λ x. x ∷ settleFrom (put st e x) es) (one-origin s st e (n 0 (omega arith)) h)
-    ∙ ap (λ xs. asked s st e ∷ xs) (one-from s (put st e (asked s st e)) es (λ i l. n (suc i) (omega arith)) (idle-put (other s) st e _ (n 0 (omega arith)) h (asked-near s st e (asked s st e) (omega arith) .block)))
+    ∙ ap (λ xs. asked s st e ∷ xs) (one-from s (put st e (asked s st e)) es (λ i l. n (suc i) (omega arith)) behind)
+  where
+    behind : reach (other s) (put st e (asked s st e)) ≤ put st e (asked s st e) .end
+    behind = idle-put (other s) st e (asked s st e) (n 0 (omega arith)) h (asked-near s st e (asked s st e) (omega arith) .block)
 
 pub one-side : (s : Side) (es : List Element) → Without (other s) es → settle es ≡ askedFrom s start es
 one-side s es n = one-from s start es n (idle-start (other s))
