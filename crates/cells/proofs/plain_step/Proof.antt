@@ -1,7 +1,6 @@
 -- A word without readings is to a line what `place_plain` sets.
 use borrow.Author.Needs.{needs}
-use mathlib.Core.Path.{_≡_, refl, _∙_}
-use native.Mathlib.Omega.{arith}
+use mathlib.Core.Path.{refl, _∙_}
 use Rattle.line.specs.Plain.{plain-as}
 use Rattle.cells.specs.Cells.{elementOf}
 use Rattle.cells.proofs.plain_step.Statement.{statement}
