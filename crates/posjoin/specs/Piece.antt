@@ -108,7 +108,7 @@ module _ (job : Job) (passed : Passed job) (t : List ℕ) (table : Holds job t) 
               fit =
                   subst (λ (z : ℕ). Runs (job .em) t (job .rubyWidth) (rubyCount job) z c) (low (x .base) from)
                   (subst (λ (z : ℕ). Runs (job .em) t (job .rubyWidth) (rubyCount job) (x .base + k) z) (high (x .base) from)
-                  (runs-fit job passed t table x at j k n (omega arith) (omega arith) (promise job (part job x k n) good .each w)));
+                  (runs-fit job passed t table x at j k n (omega arith) (omega arith) (promise job (part job x k n) good .each w .0)));
               last = is-last;
               put = λ y. ap (λ (z : ℕ). runsPut (job .em) t (job .rubyWidth) (c - i) z y) (sym (low (x .base) from)) ∙ runs-put job passed t table x at j n k y (omega arith);
             };
@@ -177,7 +177,7 @@ module _ (job : Job) (passed : Passed job) (t : List ℕ) (table : Holds job t) 
                 subst (λ (z : ℕ). Runs (job .em) t (job .rubyWidth) (rubyCount job) z c) (low (x .base) f)
                 (subst (λ (z : ℕ). Runs (job .em) t (job .rubyWidth) (rubyCount job) (x .base + 0) z) (high (x .base) l)
                 (runs-fit job passed t table x at j 0 (x .bases) (at .good .counts .some) (omega arith)
-                (ap₂ (λ a b. alone.anyLonger (job .em) (alone.split a b)) run-is widths-is ∙ promise job x (whole-piece job passed x (at .good)) .each w)));
+                (ap₂ (λ a b. alone.anyLonger (job .em) (alone.split a b)) run-is widths-is ∙ promise job x (whole-piece job passed x (at .good)) .each w .0)));
             last = is-own ∙ ap (runEnd t) (omega (arith, lone j));
             put =
                 λ y. ap₂ (λ (m z : ℕ). runsPut (job .em) t (job .rubyWidth) m z y) (long (x .base) (x .bases) f l) (sym (low (x .base) f))
