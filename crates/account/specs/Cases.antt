@@ -1,12 +1,14 @@
 -- Cases K9 to K12 of document 01 ("Settings on both sides of each edge"), with the account of each element computed over the setting.
 use mathlib.Core.Path.{_≡_, refl}
-use mathlib.Core.Bool.{true, false}
+use mathlib.Core.Bool.{true}
 use mathlib.Core.List.{List, [], _∷_, map}
 use Prim.Native.Nat.{ℕ}
 use lib.ListN.{length}
 use Rattle.basics.specs.Lists.{count}
 use Rattle.line.specs.declared.Element.{Element}
+use Rattle.line.specs.Rules.{noReading}
 use Rattle.line.specs.Setting.{origin, settleFrom, settle}
+use Rattle.line.specs.Plain.{plain}
 use Rattle.account.specs.declared.Reason.{Reason}
 use Rattle.account.specs.declared.Reason.the-variants.{Start, Block, Under, Over, Ruby, Edge}
 use Rattle.account.specs.declared.Account.{Account}
@@ -14,11 +16,7 @@ use Rattle.account.specs.Reasons.{beside, neighbour, rubies, reason, acc
 
 -- the word of K1: base 10 units wide under three ruby of 5, so that ruby passes the block by 5 half units at each end
 abbrev k1 : Element
-k1 = record { front = 5; len = 20; ruby = true; from = 0; upto = 30; before = 0; after = 0 }
-
--- a P of so many half units, with the depths to which ruby may lie on it from its start and from its end
-abbrev plain : ℕ → ℕ → ℕ → Element
-plain n b a = record { front = 0; len = n; ruby = false; from = 0; upto = 0; before = b; after = a }
+k1 = record { front = 5; len = 20; right = record { there = true; from = 0; upto = 30 }; left = noReading; before = 0; after = 0 }
 
 abbrev held : ℕ → Reason → Account
 held g r = record { gap = g; reason = r }

@@ -5,6 +5,7 @@ use mathlib.Core.List.{List}
 use Prim.Native.Nat.{ℕ, suc, _+_, _-_, _≤_, _<_}
 use lib.ListN.{length}
 use Rattle.line.specs.declared.Element.{Element}
+use Rattle.line.specs.declared.Side.the-variants as side
 use Rattle.line.specs.Rules.{Span, Off, el, blockAt, rubyAt, HasRuby, kept}
 use Rattle.account.specs.declared.Reason.{Reason}
 use Rattle.account.specs.declared.Reason.the-variants.{Start, Block, Under, Over, Ruby, Edge, Free}
@@ -45,10 +46,10 @@ depth Free = 0
 abbrev pub Holds : List Element → List ℕ → ℕ → Reason → Type 0
 Holds es xs i Start = blockAt es xs i .start ≡ 0
 Holds es xs i (Block j) = (suc j ≡ i) × (blockAt es xs j .end ≡ blockAt es xs i .start)
-Holds es xs i (Under j d) = (suc j ≡ i) × HasRuby es j × (d ≡ el es i .before) × (rubyAt es xs j .end ≡ blockAt es xs i .start + d)
-Holds es xs i (Over j d) = (suc j ≡ i) × HasRuby es i × (d ≡ el es j .after) × (blockAt es xs j .end ≡ rubyAt es xs i .start + d)
-Holds es xs i (Ruby j) = (j < i) × HasRuby es j × HasRuby es i × (rubyAt es xs j .end ≡ rubyAt es xs i .start)
-Holds es xs i Edge = HasRuby es i × (rubyAt es xs i .start ≡ 0)
+Holds es xs i (Under j d) = (suc j ≡ i) × HasRuby side.Right (el es j) × (d ≡ el es i .before) × (rubyAt side.Right es xs j .end ≡ blockAt es xs i .start + d)
+Holds es xs i (Over j d) = (suc j ≡ i) × HasRuby side.Right (el es i) × (d ≡ el es j .after) × (blockAt es xs j .end ≡ rubyAt side.Right es xs i .start + d)
+Holds es xs i (Ruby j) = (j < i) × HasRuby side.Right (el es j) × HasRuby side.Right (el es i) × (rubyAt side.Right es xs j .end ≡ rubyAt side.Right es xs i .start)
+Holds es xs i Edge = HasRuby side.Right (el es i) × (rubyAt side.Right es xs i .start ≡ 0)
 Holds es xs i Free = Unit {0}
 
 -- It is the first that does; of the rubies that it touches the nearest.
@@ -62,10 +63,10 @@ pub record First (es : List Element) (xs : List ℕ) (i : ℕ) (r : Reason) : Ty
 abbrev pub Tight : List Element → List ℕ → ℕ → Reason → Type 0
 Tight es xs i Start = (s : Span) → Nearer s (blockAt es xs i) → ⊥
 Tight es xs i (Block j) = (s : Span) → Nearer s (blockAt es xs i) → blockAt es xs j .end ≤ s .start → ⊥
-Tight es xs i (Under j d) = (s : Span) → Nearer s (kept es xs j i) → Off (rubyAt es xs j) s → ⊥
-Tight es xs i (Over j d) = (s : Span) → Nearer s (rubyAt es xs i) → Off s (kept es xs i j) → ⊥
-Tight es xs i (Ruby j) = (s : Span) → Nearer s (rubyAt es xs i) → Off s (rubyAt es xs j) → ⊥
-Tight es xs i Edge = (s : Span) → Nearer s (rubyAt es xs i) → ⊥
+Tight es xs i (Under j d) = (s : Span) → Nearer s (kept es xs j i) → Off (rubyAt side.Right es xs j) s → ⊥
+Tight es xs i (Over j d) = (s : Span) → Nearer s (rubyAt side.Right es xs i) → Off s (kept es xs i j) → ⊥
+Tight es xs i (Ruby j) = (s : Span) → Nearer s (rubyAt side.Right es xs i) → Off s (rubyAt side.Right es xs j) → ⊥
+Tight es xs i Edge = (s : Span) → Nearer s (rubyAt side.Right es xs i) → ⊥
 Tight es xs i Free = Unit {0}
 
 -- The same of whole settings: the rule that it names, as `Apart` has it, between the element and the other one. Rule 4's first half holds of
@@ -73,9 +74,9 @@ Tight es xs i Free = Unit {0}
 abbrev pub Rule : List Element → List ℕ → ℕ → Reason → Type 0
 Rule es ys i Start = Unit {0}
 Rule es ys i (Block j) = blockAt es ys j .end ≤ blockAt es ys i .start
-Rule es ys i (Under j d) = Off (rubyAt es ys j) (kept es ys j i)
-Rule es ys i (Over j d) = Off (rubyAt es ys i) (kept es ys i j)
-Rule es ys i (Ruby j) = Off (rubyAt es ys i) (rubyAt es ys j)
+Rule es ys i (Under j d) = Off (rubyAt side.Right es ys j) (kept es ys j i)
+Rule es ys i (Over j d) = Off (rubyAt side.Right es ys i) (kept es ys i j)
+Rule es ys i (Ruby j) = Off (rubyAt side.Right es ys i) (rubyAt side.Right es ys j)
 Rule es ys i Edge = Unit {0}
 Rule es ys i Free = ⊥
 
@@ -84,8 +85,8 @@ Rule es ys i Free = ⊥
 abbrev pub width : List Element → List ℕ → ℕ → Reason → ℕ
 width es xs i Start = 0
 width es xs i (Block j) = 0
-width es xs i (Under j d) = el es j .upto - (el es j .front + el es j .len) - d
-width es xs i (Over j d) = el es i .front - el es i .from - d
-width es xs i (Ruby j) = rubyAt es xs j .end + el es i .front - (el es i .from + back es xs i)
-width es xs i Edge = el es i .front - (el es i .from + back es xs i)
+width es xs i (Under j d) = el es j .right .upto - (el es j .front + el es j .len) - d
+width es xs i (Over j d) = el es i .front - el es i .right .from - d
+width es xs i (Ruby j) = rubyAt side.Right es xs j .end + el es i .front - (el es i .right .from + back es xs i)
+width es xs i Edge = el es i .front - (el es i .right .from + back es xs i)
 width es xs i Free = 0

@@ -1,5 +1,5 @@
 -- In a line that is set something holds each element: its origin is the largest of a few lower bounds, and so one of them is met.
-use mathlib.Core.Path.{_≡_, refl, sym, subst, _∙_}
+use mathlib.Core.Path.{_≡_, refl, sym, _∙_}
 use mathlib.Core.Bool.{Bool, true, false, cond}
 use mathlib.Core.List.{List}
 use mathlib.Core.Logic.{_⊎_, inl, inr}
@@ -9,23 +9,25 @@ use native.Mathlib.Decide.{decLt}
 use lib.ListN.{length}
 use lib.Dec.{T}
 use Rattle.line.specs.declared.Element.{Element}
+use Rattle.line.specs.declared.Side.the-variants as side
 use Rattle.line.specs.declared.State.{State}
-use Rattle.line.specs.Rules.{el, org, blockAt, Flush, Sounds}
-use Rattle.line.specs.Setting.{rubyFrom, rubyUpto, start, Near, origin, settle, after}
+use Rattle.line.specs.Rules.{HasRuby, el, org, blockAt, rubyAt, Flush, Sounds}
+use Rattle.line.specs.Setting.{rubyFrom, start, Near, asks, origin, settle, after}
 use Rattle.line.specs.Least.{settle-origin, settle-follows}
+use Rattle.line.specs.OneSide.{one-origin, idle-after}
 use Rattle.line.specs.Theorems.{keeps}
 use Rattle.account.specs.declared.Reason.{Reason}
 use Rattle.account.specs.declared.Reason.the-variants.{Start, Block, Under, Over, Ruby, Edge}
 use Rattle.account.specs.Claims.{number, Holds}
-use Rattle.account.specs.Sides.{ordered}
+use Rattle.account.specs.Sides.{RightOnly}
 
 -- a lower bound that is met: none but the line's start, or one of the four that the state asks
 data Met (st : State) (e : Element) (x : ℕ) : Type 0 where
   free : x ≡ 0 → Met st e x
   block : st .end ≡ x + e .front → Met st e x
-  under : st .reach ≡ x + e .front + e .before → Met st e x
-  clear : st .reach ≡ x + rubyFrom e → Met st e x
-  over : st .end ≡ x + rubyFrom e + st .room → Met st e x
+  under : st .right ≡ x + e .front + e .before → Met st e x
+  clear : st .right ≡ x + rubyFrom side.Right e → Met st e x
+  over : st .end ≡ x + rubyFrom side.Right e + st .room → Met st e x
 
 half : (x a b : ℕ) → x ≡ max a b → (x ≡ a) ⊎ (x ≡ b)
 half x a b e = elim (decLt a b) [ yes h ↦ inr (omega arith) | no h ↦ inl (omega arith) ]
@@ -33,9 +35,9 @@ half x a b e = elim (decLt a b) [ yes h ↦ inr (omega arith) | no h ↦ inl (om
 lower : (x a b : ℕ) → x ≡ a - b → (x ≡ 0) ⊎ (a ≡ x + b)
 lower x a b e = elim (decLt a b) [ yes h ↦ inl (omega arith) | no h ↦ inr (omega arith) ]
 
-met : (st : State) (e : Element) (x : ℕ) → x ≡ origin st e → Met st e x
-unfolding origin
-met st e x q = all (half x _ _ q)
+met : (st : State) (e : Element) (x : ℕ) → (HasRuby side.Left e → ⊥) → st .left ≤ st .end → x ≡ origin st e → Met st e x
+unfolding asks
+met st e x n l q = all (half x _ _ (q ∙ one-origin side.Right st e n l))
   where
     one : (a b : ℕ) → (a ≡ x + b → Met st e x) → x ≡ a - b → Met st e x
     one a b f h = go (lower x a b h)
@@ -44,15 +46,15 @@ met st e x q = all (half x _ _ q)
         go (inl z) = free z
         go (inr m) = f m
 
-    blocks : (x ≡ st .end - e .front) ⊎ (x ≡ st .reach - (e .front + e .before)) → Met st e x
+    blocks : (x ≡ st .end - e .front) ⊎ (x ≡ st .right - (e .front + e .before)) → Met st e x
     blocks (inl h) = one _ _ block h
     blocks (inr h) = one _ _ (λ m. under (omega arith)) h
 
-    rubies : (x ≡ st .reach - rubyFrom e) ⊎ (x ≡ st .end - (rubyFrom e + st .room)) → Met st e x
+    rubies : (x ≡ st .right - rubyFrom side.Right e) ⊎ (x ≡ st .end - (rubyFrom side.Right e + st .room)) → Met st e x
     rubies (inl h) = one _ _ clear h
     rubies (inr h) = one _ _ (λ m. over (omega arith)) h
 
-    all : (x ≡ max (st .end - e .front) (st .reach - (e .front + e .before))) ⊎ (x ≡ max (st .reach - rubyFrom e) (st .end - (rubyFrom e + st .room))) → Met st e x
+    all : (x ≡ max (st .end - e .front) (st .right - (e .front + e .before))) ⊎ (x ≡ max (st .right - rubyFrom side.Right e) (st .end - (rubyFrom side.Right e + st .room))) → Met st e x
     all (inl h) = blocks (half x _ _ h)
     all (inr h) = rubies (half x _ _ h)
 
@@ -66,27 +68,31 @@ flag true = with tt (λ u v. refl)
 flag false = without (λ u v. refl)
 
 -- the furthest end of the rubies so far is that of one of them
-attained : (es : List Element) (xs : List ℕ) (n : ℕ) →
-    (after start es xs n .reach ≡ 0) ⊎ ((k : ℕ) × (k < n) × (org xs k + rubyUpto (el es k) ≡ after start es xs n .reach))
+abbrev Attained : List Element → List ℕ → ℕ → ℕ → Type 0
+Attained es xs n z = (z ≡ 0) ⊎ ((k : ℕ) × (k < n) × HasRuby side.Right (el es k) × (rubyAt side.Right es xs k .end ≡ z))
+
+attained : (es : List Element) (xs : List ℕ) (n : ℕ) → Attained es xs n (after start es xs n .right)
 unfolding after
 attained es xs zero = inl refl
-attained es xs (suc n) = go (half _ _ _ refl) (attained es xs n)
+attained es xs (suc n) = go (half _ _ _ refl) (attained es xs n) (flag (el es n .right .there))
   where
-    z : ℕ
-    z = max (after start es xs n .reach) (org xs n + rubyUpto (el es n))
+    last : ℕ
+    last = cond (el es n .right .there) (rubyAt side.Right es xs n .end) 0
 
-    go : (z ≡ after start es xs n .reach) ⊎ (z ≡ org xs n + rubyUpto (el es n)) →
-        (after start es xs n .reach ≡ 0) ⊎ ((k : ℕ) × (k < n) × (org xs k + rubyUpto (el es k) ≡ after start es xs n .reach)) →
-        (z ≡ 0) ⊎ ((k : ℕ) × (k < suc n) × (org xs k + rubyUpto (el es k) ≡ z))
-    go (inr h) q = inr (n, omega arith, sym h)
-    go (inl h) (inl q) = inl (h ∙ q)
-    go (inl h) (inr (k, l, q)) = inr (k, omega arith, q ∙ sym h)
+    z : ℕ
+    z = max (after start es xs n .right) last
+
+    go : (z ≡ after start es xs n .right) ⊎ (z ≡ last) → Attained es xs n (after start es xs n .right) → Flag (el es n .right .there) → Attained es xs (suc n) z
+    go (inl h) (inl q) f = inl (h ∙ q)
+    go (inl h) (inr (k, l, t, q)) f = inr (k, omega arith, t, q ∙ sym h)
+    go (inr h) q (with t c) = inr (n, omega arith, t, sym (h ∙ c (rubyAt side.Right es xs n .end) 0))
+    go (inr h) q (without c) = inl (h ∙ c (rubyAt side.Right es xs n .end) 0)
 
 -- some reason holds of the element with the number i
 abbrev pub Held : List Element → List ℕ → ℕ → Type 0
 Held es xs i = (r : Reason) × Holds es xs i r × (number r < 7)
 
-module _ (es : List Element) (s : Sounds es) where
+module _ (es : List Element) (s : Sounds es) (only : RightOnly es) where
   abbrev xs : List ℕ
   xs = settle es
 
@@ -95,7 +101,8 @@ module _ (es : List Element) (s : Sounds es) where
     where
       go : Flush (el es i) → Held es xs i
       go (inl f) = (Start, omega arith, omega arith)
-      go (inr (t, f)) = (Edge, (t, omega arith), omega arith)
+      go (inr (side.Right, t, f)) = (Edge, (t, omega arith), omega arith)
+      go (inr (side.Left, t, f)) = absurd (only i h t)
 
   module _ (j : ℕ) (h : suc j < length es) where
     abbrev i : ℕ
@@ -107,58 +114,44 @@ module _ (es : List Element) (s : Sounds es) where
     abbrev x : ℕ
     x = org xs i
 
-    near : Near (after start es xs i) e x
-    near = settle-follows es .near i h
+    near : Near side.Right (after start es xs i) e x
+    near = settle-follows es .near i h side.Right
 
     past : blockAt es xs j .end ≤ blockAt es xs i .start
     past = keeps es s .blocks j h
 
     -- the ruby of j reaches as deep into the block as it may; no earlier ruby passes j's block
-    by-under : after start es xs i .reach ≡ x + e .front + e .before → Held es xs i
+    by-under : after start es xs i .right ≡ x + e .front + e .before → Held es xs i
     unfolding after
-    by-under q = go (flag (el es j .ruby)) (half _ _ _ refl)
+    by-under q = go (flag (el es j .right .there)) (half _ _ _ refl)
       where
-        go : Flag (el es j .ruby) → (after start es xs i .reach ≡ after start es xs j .reach) ⊎ (after start es xs i .reach ≡ org xs j + rubyUpto (el es j)) → Held es xs i
-        go f (inl m) = (Block j, (refl, omega (arith, past, settle-follows es .near j (omega arith) .under, s j (omega arith) .before)), omega arith)
-        go (with t c) (inr m) = (Under j (e .before), (refl, t, refl, omega (arith, c (el es j .upto) (el es j .front))), omega arith)
-        go (without c) (inr m) = absurd (omega (arith, c (el es j .upto) (el es j .front), past, s j (omega arith) .some))
+        last : ℕ
+        last = cond (el es j .right .there) (rubyAt side.Right es xs j .end) 0
 
-    by-over : blockAt es xs j .end ≡ x + rubyFrom e + el es j .after → Held es xs i
-    by-over q = go (flag (e .ruby))
+        go : Flag (el es j .right .there) → (after start es xs i .right ≡ after start es xs j .right) ⊎ (after start es xs i .right ≡ last) → Held es xs i
+        go f (inl m) = (Block j, (refl, omega (arith, past, settle-follows es .near j (omega arith) side.Right .under, s j (omega arith) .before)), omega arith)
+        go (with t c) (inr m) = (Under j (e .before), (refl, t, refl, omega (arith, c (rubyAt side.Right es xs j .end) 0)), omega arith)
+        go (without c) (inr m) = absurd (omega (arith, c (rubyAt side.Right es xs j .end) 0, past, s j (omega arith) .some))
+
+    by-over : blockAt es xs j .end ≡ x + rubyFrom side.Right e + el es j .after → Held es xs i
+    by-over q = go (flag (e .right .there))
       where
-        go : Flag (e .ruby) → Held es xs i
-        go (with t c) = (Over j (el es j .after), (refl, t, refl, omega (arith, c (e .from) (e .front + e .len))), omega arith)
-        go (without c) = absurd (omega (arith, c (e .from) (e .front + e .len), past, s i h .some))
+        go : Flag (e .right .there) → Held es xs i
+        go (with t c) = (Over j (el es j .after), (refl, t, refl, omega (arith, c (e .right .from) (e .front + e .len))), omega arith)
+        go (without c) = absurd (omega (arith, c (e .right .from) (e .front + e .len), past, s i h .some))
 
-    -- Its ruby starts where the furthest ends. That is ruby, or the start of a block without any, on which it then lies as deep as it may.
-    by-clear : after start es xs i .reach ≡ x + rubyFrom e → Held es xs i
-    unfolding after
-    by-clear q = go (flag (e .ruby)) (attained es xs i)
+    -- its ruby starts where the furthest ends
+    by-clear : after start es xs i .right ≡ x + rubyFrom side.Right e → Held es xs i
+    by-clear q = go (flag (e .right .there)) (attained es xs i)
       where
-        plain : (k : ℕ) → k < i → org xs k + el es k .front ≡ x + rubyFrom e → Held es xs i
-        plain k l m =
-            elim (decLt k j) [
-              | yes w ↦ absurd (omega (arith, ordered es xs (keeps es s) k j w (omega arith), near .over, s j (omega arith) .after, s k (omega arith) .some))
-              | no w ↦ by-over (same k w l m)
-            ]
-          where
-            same : (k : ℕ) → (k < j → ⊥) → k < i → org xs k + el es k .front ≡ x + rubyFrom e → blockAt es xs j .end ≡ x + rubyFrom e + el es j .after
-            same k w l m =
-                let p : org xs j + el es j .front ≡ x + rubyFrom e = subst (λ a. org xs a + el es a .front ≡ x + rubyFrom e) (omega arith) m in
-                omega (arith, near .over, s j (omega arith) .after)
-
-        touch : T (e .ruby) → rubyFrom e ≡ e .from → (k : ℕ) → k < i → org xs k + rubyUpto (el es k) ≡ x + rubyFrom e → Flag (el es k .ruby) → Held es xs i
-        touch t c k l m (with w d) = (Ruby k, (l, w, t, omega (arith, d (el es k .upto) (el es k .front))), omega arith)
-        touch t c k l m (without d) = plain k l (omega (arith, d (el es k .upto) (el es k .front)))
-
-        go : Flag (e .ruby) → (after start es xs i .reach ≡ 0) ⊎ ((k : ℕ) × (k < i) × (org xs k + rubyUpto (el es k) ≡ after start es xs i .reach)) → Held es xs i
-        go (without c) a = by-under (omega (arith, c (e .from) (e .front + e .len), near .under, s i h .before))
-        go (with t c) (inl z) = (Edge, (t, omega (arith, c (e .from) (e .front + e .len))), omega arith)
-        go (with t c) (inr (k, l, m)) = touch t (c (e .from) (e .front + e .len)) k l (m ∙ q) (flag (el es k .ruby))
+        go : Flag (e .right .there) → Attained es xs i (after start es xs i .right) → Held es xs i
+        go (without c) a = by-under (omega (arith, c (e .right .from) (e .front + e .len), near .under, s i h .before))
+        go (with t c) (inl z) = (Edge, (t, omega (arith, c (e .right .from) (e .front + e .len))), omega arith)
+        go (with t c) (inr (k, l, w, m)) = (Ruby k, (l, w, t, omega (arith, c (e .right .from) (e .front + e .len))), omega arith)
 
     next : Held es xs i
     unfolding after
-    next = go (met (after start es xs i) e x (settle-origin start es i h))
+    next = go (met (after start es xs i) e x (only i h) (idle-after side.Left es xs (settle-follows es) only i (omega arith)) (settle-origin start es i h))
       where
         go : Met (after start es xs i) e x → Held es xs i
         go (free z) = at-start i h z
@@ -169,7 +162,7 @@ module _ (es : List Element) (s : Sounds es) where
 
   first : (h : 0 < length es) → org xs 0 ≡ 0
   unfolding after
-  first h = go (met start (el es 0) (org xs 0) (settle-origin start es 0 h))
+  first h = go (met start (el es 0) (org xs 0) (only 0 h) (omega arith) (settle-origin start es 0 h))
     where
       go : Met start (el es 0) (org xs 0) → org xs 0 ≡ 0
       go (free z) = z

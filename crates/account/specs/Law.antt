@@ -9,6 +9,7 @@ use borrow.Author.Tests.{ne-eqb, leb-true, leb-false, eqb-true, eqb-false}
 use lib.ListN.{length}
 use lib.Dec.{T, eqb, leb}
 use Rattle.line.specs.declared.Element.{Element}
+use Rattle.line.specs.declared.Side.the-variants as side
 use Rattle.line.specs.Rules.{rubyOf, el, org, blockAt, rubyAt, HasRuby, Apart, Sounds}
 use Rattle.account.specs.declared.Reason.{Reason}
 use Rattle.account.specs.declared.Reason.the-variants.{Start, Ruby}
@@ -16,7 +17,7 @@ use Rattle.account.specs.declared.Far.{Far}
 use Rattle.account.specs.declared.Far.the-variants.{Nothing, Ends}
 use Rattle.account.specs.Reasons.{meets, edge, neighbour, rubies, byRuby, reason, back, accountOf}
 use Rattle.account.specs.Step.{touched, rubyAfter, besideLast, reasonAfter, endBefore, accountAfter, longer, further, standing}
-use Rattle.account.specs.Sides.{past}
+use Rattle.line.specs.Pairs.{rubies-order}
 
 -- the furthest ruby ends at or before z
 abbrev Below : ℕ → Far → Type 0
@@ -26,10 +27,10 @@ Below z (Ends k end) = end ≤ z
 -- one element more, p with the number k at y, before ruby that starts at z
 module _ (z : ℕ) (rest : Reason) (k : ℕ) (p : Element) (y : ℕ) where
   abbrev u : ℕ
-  u = rubyOf p y .end
+  u = rubyOf side.Right p y .end
 
-  below-more : (far : Far) → Below z far → (T (p .ruby) → u ≤ z) → Below z (further k far p y)
-  below-more far b h = go (p .ruby) h
+  below-more : (far : Far) → Below z far → (T (p .right .there) → u ≤ z) → Below z (further k far p y)
+  below-more far b h = go (p .right .there) h
     where
       pick : (c : Bool) (j end : ℕ) → u ≤ z → end ≤ z → Below z (cond c (Ends k u) (Ends j end))
       pick true j end h l = h
@@ -43,8 +44,8 @@ module _ (z : ℕ) (rest : Reason) (k : ℕ) (p : Element) (y : ℕ) where
       go false h = b
       go true h = last far b (h tt)
 
-  touched-more : (far : Far) → Below z far → (T (p .ruby) → u ≤ z) → touched (further k far p y) z rest ≡ cond (meets p y z) (Ruby k) (touched far z rest)
-  touched-more far b h = go (p .ruby) h
+  touched-more : (far : Far) → Below z far → (T (p .right .there) → u ≤ z) → touched (further k far p y) z rest ≡ cond (meets p y z) (Ruby k) (touched far z rest)
+  touched-more far b h = go (p .right .there) h
     where
       pick : (c d : Bool) (j end : ℕ) → u ≤ z → end ≤ z → leb end u ≡ c → eqb u z ≡ d →
           touched (cond c (Ends k u) (Ends j end)) z rest ≡ cond d (Ruby k) (touched (Ends j end) z rest)
@@ -64,7 +65,7 @@ module _ (z : ℕ) (rest : Reason) (k : ℕ) (p : Element) (y : ℕ) where
 -- all elements before it
 module _ (es : List Element) (xs : List ℕ) (z : ℕ) (rest : Reason) where
   abbrev Past : ℕ → Type 0
-  Past n = (k : ℕ) → k < n → HasRuby es k → rubyAt es xs k .end ≤ z
+  Past n = (k : ℕ) → k < n → HasRuby side.Right (el es k) → rubyAt side.Right es xs k .end ≤ z
 
   fewer : (n : ℕ) → Past (suc n) → Past n
   fewer n h k l = h k (omega arith)
@@ -87,7 +88,7 @@ same-flag false r q o h = refl
 
 module _ (es : List Element) (xs : List ℕ) (s : Sounds es) (a : Apart es xs) (i : ℕ) (h : i < length es) where
   step-ruby : rubyAfter (standing es xs i .far) (el es i) (org xs i) ≡ byRuby es xs i
-  step-ruby = same-flag (el es i .ruby) _ _ _ (λ t. touched-rubies es xs (rubyAt es xs i .start) (edge (rubyAt es xs i .start)) i (λ k l w. past es xs s a i h k l w t))
+  step-ruby = same-flag (el es i .right .there) _ _ _ (λ t. touched-rubies es xs (rubyAt side.Right es xs i .start) (edge (rubyAt side.Right es xs i .start)) i (λ k l w. rubies-order es xs s a k i l h side.Right w t))
 
   step-reason : reasonAfter i (standing es xs i) (el es i) (org xs i) ≡ reason es xs i
   unfolding reasonAfter reason standing neighbour

@@ -7,6 +7,7 @@ use native.Mathlib.Omega.{arith}
 use lib.ListN.{length, getD, length-append, List·getD-append}
 use lib.Dec.{eqb}
 use Rattle.line.specs.declared.Element.{Element}
+use Rattle.line.specs.declared.Side.the-variants as side
 use Rattle.line.specs.Rules.{blockOf, rubyOf, el, org, Apart, Sounds}
 use Rattle.account.specs.declared.Reason.{Reason}
 use Rattle.account.specs.declared.Reason.the-variants.{Start, Ruby, Free}
@@ -66,8 +67,8 @@ module _ (es : List Element) (xs : List ℕ) (e : Element) (x : ℕ) (each : len
   module _ (i : ℕ) (h : i < length es) where
     ruby-old : byRuby es′ xs′ i ≡ byRuby es xs i
     ruby-old =
-        ap₂ (λ (p : Element) (y : ℕ). cond (p .ruby) (rubies es′ xs′ (rubyOf p y .start) i (edge (rubyOf p y .start))) Free) (el-old i h) (org-old i h)
-        ∙ ap (λ o. cond (el es i .ruby) o Free) (rubies-old _ i _ (omega arith))
+        ap₂ (λ (p : Element) (y : ℕ). cond (p .right .there) (rubies es′ xs′ (rubyOf side.Right p y .start) i (edge (rubyOf side.Right p y .start))) Free) (el-old i h) (org-old i h)
+        ∙ ap (λ o. cond (el es i .right .there) o Free) (rubies-old _ i _ (omega arith))
 
     neighbour-old : (rest : Reason) → neighbour es′ xs′ i rest ≡ neighbour es xs i rest
     unfolding neighbour

@@ -10,6 +10,7 @@ use native.Mathlib.Decide.{decLt}
 use borrow.Author.Tests.{eq-eqb, eqb-true}
 use lib.Dec.{T, eqb}
 use Rattle.line.specs.declared.Element.{Element}
+use Rattle.line.specs.declared.Side.the-variants as side
 use Rattle.line.specs.Rules.{el, org, blockAt, rubyAt}
 use Rattle.account.specs.declared.Reason.{Reason}
 use Rattle.account.specs.declared.Reason.the-variants.{Start, Block, Under, Over, Ruby, Edge, Free}
@@ -90,11 +91,11 @@ module _ (es : List Element) (xs : List ℕ) where
   -- What is picked holds.
   holds-ruby : (i : ℕ) → Holds es xs i (byRuby es xs i)
   holds-ruby i =
-      by (Holds es xs i) (el es i .ruby) _ Free
-      (λ r. let t = flagged (el es i .ruby) r in
-      rubies-by (Holds es xs i) es xs (rubyAt es xs i .start) i (edge (rubyAt es xs i .start))
-      (λ k h m. let q = both (el es k .ruby) _ m in (h, q .0, t, eqb-true _ _ (q .1)))
-      (by (Holds es xs i) (eqb (rubyAt es xs i .start) 0) Edge Free (λ m. (t, eqb-true _ _ m)) tt))
+      by (Holds es xs i) (el es i .right .there) _ Free
+      (λ r. let t = flagged (el es i .right .there) r in
+      rubies-by (Holds es xs i) es xs (rubyAt side.Right es xs i .start) i (edge (rubyAt side.Right es xs i .start))
+      (λ k h m. let q = both (el es k .right .there) _ m in (h, q .0, t, eqb-true _ _ (q .1)))
+      (by (Holds es xs i) (eqb (rubyAt side.Right es xs i .start) 0) Edge Free (λ m. (t, eqb-true _ _ m)) tt))
       tt
 
   holds-neighbour : (i : ℕ) (rest : Reason) → Holds es xs i rest → Holds es xs i (neighbour es xs i rest)
@@ -103,8 +104,8 @@ module _ (es : List Element) (xs : List ℕ) where
   holds-neighbour (suc j) rest r =
       beside-by (Holds es xs (suc j)) j (el es j) (org xs j) (el es (suc j)) (org xs (suc j)) rest
       (λ m. (refl, eqb-true _ _ m))
-      (λ m. let q = both (el es j .ruby) _ m in (refl, q .0, refl, eqb-true _ _ (q .1)))
-      (λ m. let q = both (el es (suc j) .ruby) _ m in (refl, q .0, refl, eqb-true _ _ (q .1)))
+      (λ m. let q = both (el es j .right .there) _ m in (refl, q .0, refl, eqb-true _ _ (q .1)))
+      (λ m. let q = both (el es (suc j) .right .there) _ m in (refl, q .0, refl, eqb-true _ _ (q .1)))
       r
 
   holds-reason : (i : ℕ) → Holds es xs i (reason es xs i)
@@ -141,14 +142,14 @@ module _ (es : List Element) (xs : List ℕ) where
 
   found-reason : (P : Reason → Type 0) (i k : ℕ) → Holds es xs i (Ruby k) → ((j : ℕ) → k ≤ j → P (Ruby j)) → P (byRuby es xs i)
   found-reason P i k (h, t, w, m) f =
-      pick P (el es i .ruby) _ Free (flag-true _ w)
-      (found P (rubyAt es xs i .start) i (edge (rubyAt es xs i .start)) k h (and-true (el es k .ruby) _ t (eq-eqb _ _ m)) f)
+      pick P (el es i .right .there) _ Free (flag-true _ w)
+      (found P (rubyAt side.Right es xs i .start) i (edge (rubyAt side.Right es xs i .start)) k h (and-true (el es k .right .there) _ t (eq-eqb _ _ m)) f)
 
   edge-upto : (i : ℕ) → Holds es xs i Edge → UpTo 6 (byRuby es xs i)
   edge-upto i (t, m) =
-      pick (UpTo 6) (el es i .ruby) _ Free (flag-true _ t)
-      (rubies-by (UpTo 6) es xs (rubyAt es xs i .start) i (edge (rubyAt es xs i .start)) (λ k h n. omega arith)
-      (pick (UpTo 6) (eqb (rubyAt es xs i .start) 0) Edge Free (eq-eqb _ _ m) (omega arith)))
+      pick (UpTo 6) (el es i .right .there) _ Free (flag-true _ t)
+      (rubies-by (UpTo 6) es xs (rubyAt side.Right es xs i .start) i (edge (rubyAt side.Right es xs i .start)) (λ k h n. omega arith)
+      (pick (UpTo 6) (eqb (rubyAt side.Right es xs i .start) 0) Edge Free (eq-eqb _ _ m) (omega arith)))
 
   neighbour-first : (i : ℕ) (rest q : Reason) → Holds es xs i q → 2 ≤ number q → number q ≤ 4 → UpTo (number q) (neighbour es xs i rest)
   unfolding neighbour
@@ -162,11 +163,11 @@ module _ (es : List Element) (xs : List ℕ) where
   neighbour-first (suc i) rest (Under j d) (e, t, v, m) l u =
       under-upto i (el es i) (org xs i) (el es (suc i)) (org xs (suc i)) rest
       (subst (λ a. under (el es a) (org xs a) (el es (suc i)) (org xs (suc i)) ≡ true) (down e)
-      (and-true (el es j .ruby) _ t (eq-eqb _ _ (m ∙ ap (λ a. blockAt es xs (suc i) .start + a) v))))
+      (and-true (el es j .right .there) _ t (eq-eqb _ _ (m ∙ ap (λ a. blockAt es xs (suc i) .start + a) v))))
   neighbour-first (suc i) rest (Over j d) (e, t, v, m) l u =
       over-upto i (el es i) (org xs i) (el es (suc i)) (org xs (suc i)) rest
       (subst (λ a. over (el es a) (org xs a) (el es (suc i)) (org xs (suc i)) ≡ true) (down e)
-      (and-true (el es (suc i) .ruby) _ t (eq-eqb _ _ (m ∙ ap (λ a. rubyAt es xs (suc i) .start + a) v))))
+      (and-true (el es (suc i) .right .there) _ t (eq-eqb _ _ (m ∙ ap (λ a. rubyAt side.Right es xs (suc i) .start + a) v))))
   neighbour-first i rest (Ruby j) h l u = absurd (omega arith)
   neighbour-first i rest Edge h l u = absurd (omega arith)
   neighbour-first i rest Free h l u = absurd (omega arith)

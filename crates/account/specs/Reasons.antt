@@ -5,6 +5,7 @@ use mathlib.Core.List.{List}
 use Prim.Native.Nat.{ℕ, zero, suc, _+_, _-_}
 use lib.Dec.{eqb}
 use Rattle.line.specs.declared.Element.{Element}
+use Rattle.line.specs.declared.Side.the-variants as side
 use Rattle.line.specs.Rules.{blockOf, rubyOf, el, org, blockAt, rubyAt}
 use Rattle.account.specs.declared.Reason.{Reason}
 use Rattle.account.specs.declared.Reason.the-variants.{Start, Block, Under, Over, Ruby, Edge, Free}
@@ -16,15 +17,15 @@ touches p y e x = eqb (blockOf p y .end) (blockOf e x .start)
 
 -- 2: p's ruby ends as far past the start of e's block as it may,
 abbrev pub under : Element → ℕ → Element → ℕ → Bool
-under p y e x = p .ruby && eqb (rubyOf p y .end) (blockOf e x .start + e .before)
+under p y e x = p .right .there && eqb (rubyOf side.Right p y .end) (blockOf e x .start + e .before)
 
 -- and e's ruby starts as far short of the end of p's block.
 abbrev pub over : Element → ℕ → Element → ℕ → Bool
-over p y e x = e .ruby && eqb (blockOf p y .end) (rubyOf e x .start + p .after)
+over p y e x = e .right .there && eqb (blockOf p y .end) (rubyOf side.Right e x .start + p .after)
 
 -- Of any p at y and ruby behind it that starts at z. 3: it starts where p's ends.
 abbrev pub meets : Element → ℕ → ℕ → Bool
-meets p y z = p .ruby && eqb (rubyOf p y .end) z
+meets p y z = p .right .there && eqb (rubyOf side.Right p y .end) z
 
 -- 4: it starts at the line's start.
 abbrev pub edge : ℕ → Reason
@@ -48,7 +49,7 @@ rubies es xs z (suc k) rest = cond (meets (el es k) (org xs k) z) (Ruby k) (rubi
 
 -- rules 3 and 4, where the element with the number i has ruby
 abbrev pub byRuby : List Element → List ℕ → ℕ → Reason
-byRuby es xs i = cond (el es i .ruby) (rubies es xs (rubyAt es xs i .start) i (edge (rubyAt es xs i .start))) Free
+byRuby es xs i = cond (el es i .right .there) (rubies es xs (rubyAt side.Right es xs i .start) i (edge (rubyAt side.Right es xs i .start))) Free
 
 -- What holds the element with the number i: the line's start, rules 1 and 2, rule 3, rule 4.
 unfoldable pub reason : List Element → List ℕ → ℕ → Reason

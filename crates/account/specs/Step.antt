@@ -8,7 +8,8 @@ use native.Mathlib.Omega.{arith}
 use borrow.Author.Tests.{ne-eqb, le-leb, lt-leb}
 use lib.Dec.{eqb, leb}
 use Rattle.line.specs.declared.Element.{Element}
-use Rattle.line.specs.Rules.{blockOf, rubyOf, el, org}
+use Rattle.line.specs.declared.Side.the-variants as side
+use Rattle.line.specs.Rules.{noReading, blockOf, rubyOf, el, org}
 use Rattle.account.specs.declared.Reason.{Reason}
 use Rattle.account.specs.declared.Reason.the-variants.{Start, Ruby, Free}
 use Rattle.account.specs.declared.Account.{Account}
@@ -24,7 +25,7 @@ touched (Ends k end) z rest = cond (eqb end z) (Ruby k) rest
 
 -- rules 3 and 4, where e has ruby
 abbrev pub rubyAfter : Far → Element → ℕ → Reason
-rubyAfter far e x = cond (e .ruby) (touched far (rubyOf e x .start) (edge (rubyOf e x .start))) Free
+rubyAfter far e x = cond (e .right .there) (touched far (rubyOf side.Right e x .start) (edge (rubyOf side.Right e x .start))) Free
 
 -- rules 1 and 2 with the element just before, if there is one
 abbrev pub besideLast : ℕ → Before → Element → ℕ → Reason → Reason
@@ -47,14 +48,14 @@ longer i Nothing upto = Ends i upto
 longer i (Ends k end) upto = cond (leb end upto) (Ends i upto) (Ends k end)
 
 abbrev pub further : ℕ → Far → Element → ℕ → Far
-further i far e x = cond (e .ruby) (longer i far (rubyOf e x .end)) far
+further i far e x = cond (e .right .there) (longer i far (rubyOf side.Right e x .end)) far
 
 abbrev pub passed : ℕ → Before → Element → ℕ → Before
 passed i b e x = record { last = e; at = x; far = further i (b .far) e x }
 
 -- what stands before the element with the number i of a line
 abbrev pub nothing : Before
-nothing = record { last = record { front = 0; len = 0; ruby = false; from = 0; upto = 0; before = 0; after = 0 }; at = 0; far = Nothing }
+nothing = record { last = record { front = 0; len = 0; right = noReading; left = noReading; before = 0; after = 0 }; at = 0; far = Nothing }
 
 unfoldable pub standing : List Element → List ℕ → ℕ → Before
 standing es xs zero = nothing
@@ -85,10 +86,10 @@ end-next (suc j) b z = refl
 
 module _ (far : Far) (e : Element) (x : ℕ) where
   module _ (i : ℕ) where
-    pub further-plain : e .ruby ≡ false → far ≡ further i far e x
+    pub further-plain : e .right .there ≡ false → far ≡ further i far e x
     further-plain h = rw h
 
-    module _ (upto : ℕ) (h : e .ruby ≡ true) (u : upto ≡ rubyOf e x .end) where
+    module _ (upto : ℕ) (h : e .right .there ≡ true) (u : upto ≡ rubyOf side.Right e x .end) where
       pub further-first : far ≡ Nothing → Ends i upto ≡ further i far e x
       further-first q = rw (h, q, u)
 

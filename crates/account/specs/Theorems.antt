@@ -1,5 +1,5 @@
 -- What is proved of the account of a line. (The reviewer's question: show that every reading stands clear of its neighbours, and say why each gap
--- is as wide as it is. The first half is `keeps` of line; this is the second.)
+-- is as wide as it is. The first half is `keeps` of line; this is the second.) The reasons are of readings on the right, and the line has no others (`RightOnly`).
 use mathlib.Core.Path.{_≡_}
 use mathlib.Core.List.{List}
 use Prim.Native.Nat.{ℕ, suc, _<_}
@@ -12,6 +12,7 @@ use Rattle.line.specs.Theorems.{keeps}
 use Rattle.account.specs.declared.Reason.{Reason}
 use Rattle.account.specs.declared.Reason.the-variants.{Free}
 use Rattle.account.specs.Reasons.{reason, gap, accountOf}
+use Rattle.account.specs.Sides.{RightOnly}
 use Rattle.account.specs.Step.{accountAfter, standing}
 use Rattle.account.specs.Claims.{number, First, Tight, Rule, width}
 use Rattle.account.specs.Law as law
@@ -29,27 +30,27 @@ determined es xs i r q f g = order.only es xs i q g r f
 
 -- The named rule is tight: in any setting that keeps rules 1 to 3 it is broken once the element's block or ruby is one half unit nearer the
 -- line's start and all else stands as it does.
-pub tight : (es : List Element) (xs : List ℕ) → Sounds es → Apart es xs → (i : ℕ) → i < length es → Tight es xs i (reason es xs i)
-tight es xs s a i h = tightness.tight es xs s a i h (reason es xs i) (first es xs i)
+pub tight : (es : List Element) (xs : List ℕ) → Sounds es → RightOnly es → Apart es xs → (i : ℕ) → i < length es → Tight es xs i (reason es xs i)
+tight es xs s o a i h = tightness.tight es xs s o a i h (reason es xs i) (first es xs i)
 
 -- So in every other setting that has the element one half unit nearer, and all elements before it where they are, that very rule fails between
 -- that very pair.
-pub broken : (es : List Element) (xs : List ℕ) → Sounds es → Apart es xs → (i : ℕ) → i < length es →
+pub broken : (es : List Element) (xs : List ℕ) → Sounds es → RightOnly es → Apart es xs → (i : ℕ) → i < length es →
     (ys : List ℕ) → ((k : ℕ) → k < i → org ys k ≡ org xs k) → suc (org ys i) ≡ org xs i → Rule es ys i (reason es xs i) → ⊥
-broken es xs s a i h ys same less = tightness.broken es xs ys i same less (reason es xs i) (first es xs i .holds) (tight es xs s a i h)
+broken es xs s o a i h ys same less = tightness.broken es xs ys i same less (reason es xs i) (first es xs i .holds) (tight es xs s o a i h)
 
 -- Every element of every line that is set has a reason, and the reason's own numbers make the gap as wide as it is.
 pub record Accounted (es : List Element) (xs : List ℕ) (i : ℕ) : Type 0 where
   pub named : reason es xs i ≡ Free → ⊥
   pub wide : gap es xs i ≡ width es xs i (reason es xs i)
 
-pub accounted : (es : List Element) → Sounds es → (i : ℕ) → i < length es → Accounted es (settle es) i
-accounted es s i h =
-    let some = held es s i h in
+pub accounted : (es : List Element) → Sounds es → RightOnly es → (i : ℕ) → i < length es → Accounted es (settle es) i
+accounted es s o i h =
+    let some = held es s o i h in
     let l : number (reason es (settle es) i) < 7 = omega (arith, first es (settle es) i .first (some .0) (some .1), some .2) in
     record {
       named = λ e. free (reason es (settle es) i) e l;
-      wide = tightness.wide es (settle es) s (keeps es s) i h (reason es (settle es) i) (first es (settle es) i .holds) l;
+      wide = tightness.wide es (settle es) s o (keeps es s) i h (reason es (settle es) i) (first es (settle es) i .holds) l;
     }
   where
     free : (r : Reason) → r ≡ Free → number r < 7 → ⊥

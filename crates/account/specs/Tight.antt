@@ -11,12 +11,14 @@ use borrow.Author.Tests.{eq-eqb, ne-eqb}
 use lib.ListN.{length}
 use lib.Dec.{eqb}
 use Rattle.line.specs.declared.Element.{Element}
+use Rattle.line.specs.declared.Side.the-variants as side
+use Rattle.line.specs.Pairs.{ordered}
 use Rattle.line.specs.Rules.{Span, Off, blockOf, rubyOf, el, org, blockAt, rubyAt, kept, Apart, Sounds}
 use Rattle.account.specs.declared.Reason.{Reason}
 use Rattle.account.specs.declared.Reason.the-variants.{Start, Block, Under, Over, Ruby, Edge, Free}
 use Rattle.account.specs.Reasons.{back, gap}
 use Rattle.account.specs.Claims.{number, Holds, First, Tight, Rule, width}
-use Rattle.account.specs.Sides.{ordered, Nearer, word, ruby-tight, under-tight, over-tight}
+use Rattle.account.specs.Sides.{RightOnly, Nearer, word, ruby-tight, under-tight, over-tight}
 
 here : (m n a : ℕ) → m ≡ n → cond (eqb m n) a 0 ≡ a
 here m n a e = rw (eq-eqb m n e)
@@ -24,13 +26,13 @@ here m n a e = rw (eq-eqb m n e)
 elsewhere : (m n a : ℕ) → (m ≡ n → ⊥) → cond (eqb m n) a 0 ≡ 0
 elsewhere m n a e = rw (ne-eqb m n e)
 
-module _ (es : List Element) (xs : List ℕ) (s : Sounds es) (a : Apart es xs) where
+module _ (es : List Element) (xs : List ℕ) (s : Sounds es) (only : RightOnly es) (a : Apart es xs) where
   -- some space lies before its block
   spaced : (i : ℕ) → i < length es → (r : Reason) → First es xs i r → 2 < number r → (k : ℕ) → k < i → blockAt es xs k .end < blockAt es xs i .start
   spaced zero h r f n k l = absurd (omega arith)
   spaced (suc j) h r f n k l =
       elim (decLt k j) [
-        | yes w ↦ omega (arith, ordered es xs a k j w (omega arith), last)
+        | yes w ↦ omega (arith, ordered es xs (a .blocks) k j w (omega arith), last)
         | no w ↦ subst (λ m. blockAt es xs m .end < blockAt es xs (suc j) .start) (same w) last
       ]
     where
@@ -55,7 +57,7 @@ module _ (es : List Element) (xs : List ℕ) (s : Sounds es) (a : Apart es xs) w
     tight (Under j d) f = λ t n o.
         let l : j < i = omega (arith, f .holds .0) in
         let b : j < length es = omega arith in
-        under-tight (blockAt es xs j) (rubyAt es xs j) (blockAt es xs i) (rubyAt es xs i) (word (el es j) (org xs j) (s j b) (f .holds .1))
+        under-tight (blockAt es xs j) (rubyAt side.Right es xs j) (blockAt es xs i) (rubyAt side.Right es xs i) (word (el es j) (org xs j) (s j b) (only j b) (f .holds .1))
         (omega (arith, s i h .some)) (spaced i h (Under j d) f (omega arith) j l) d (f .holds .3) t
         (record {
           start = omega (arith, n .start, here i (suc j) (el es i .before) (sym (f .holds .0)), f .holds .2);
@@ -64,13 +66,13 @@ module _ (es : List Element) (xs : List ℕ) (s : Sounds es) (a : Apart es xs) w
     tight (Over j d) f = λ t n o.
         let l : j < i = omega (arith, f .holds .0) in
         let b : j < length es = omega arith in
-        over-tight (blockAt es xs j) (rubyAt es xs j) (blockAt es xs i) (rubyAt es xs i) (word (el es i) (org xs i) (s i h) (f .holds .1))
+        over-tight (blockAt es xs j) (rubyAt side.Right es xs j) (blockAt es xs i) (rubyAt side.Right es xs i) (word (el es i) (org xs i) (s i h) (only i h) (f .holds .1))
         (omega (arith, s j b .some)) (spaced i h (Over j d) f (omega arith) j l) d (f .holds .3) t n
         (kept-off j d (f .holds .0) (f .holds .2) t o)
     tight (Ruby j) f = λ t n o.
         let b : j < length es = omega (arith, f .holds .0) in
-        ruby-tight (blockAt es xs j) (rubyAt es xs j) (blockAt es xs i) (rubyAt es xs i) (word (el es j) (org xs j) (s j b) (f .holds .1))
-        (word (el es i) (org xs i) (s i h) (f .holds .2)) (spaced i h (Ruby j) f (omega arith) j (f .holds .0)) (f .holds .3) t n o
+        ruby-tight (blockAt es xs j) (rubyAt side.Right es xs j) (blockAt es xs i) (rubyAt side.Right es xs i) (word (el es j) (org xs j) (s j b) (only j b) (f .holds .1))
+        (word (el es i) (org xs i) (s i h) (only i h) (f .holds .2)) (spaced i h (Ruby j) f (omega arith) j (f .holds .0)) (f .holds .3) t n o
     tight Edge f = λ t n. omega (arith, f .holds .1, n .start)
     tight Free f = tt
 
@@ -83,7 +85,7 @@ module _ (es : List Element) (xs : List ℕ) (s : Sounds es) (a : Apart es xs) w
         down = omega arith
 
     past : (j : ℕ) → suc j ≡ i → blockAt es xs j .end ≤ blockAt es xs i .start
-    past j e = ordered es xs a j i (omega arith) h
+    past j e = ordered es xs (a .blocks) j i (omega arith) h
 
     pub wide : (r : Reason) → Holds es xs i r → number r < 7 → gap es xs i ≡ width es xs i r
     wide Start f n = omega arith
@@ -103,7 +105,7 @@ module _ (es : List Element) (xs ys : List ℕ) (i : ℕ) (same : (k : ℕ) → 
   block-nearer : Nearer (blockAt es ys i) (blockAt es xs i)
   block-nearer = record { start = omega arith; end = omega arith }
 
-  ruby-nearer : Nearer (rubyAt es ys i) (rubyAt es xs i)
+  ruby-nearer : Nearer (rubyAt side.Right es ys i) (rubyAt side.Right es xs i)
   ruby-nearer = record { start = omega arith; end = omega arith }
 
   kept-nearer : (j : ℕ) → j < i → Nearer (kept es ys j i) (kept es xs j i)
@@ -115,15 +117,15 @@ module _ (es : List Element) (xs ys : List ℕ) (i : ℕ) (same : (k : ℕ) → 
       t (blockAt es ys i) block-nearer (stands (λ o. blockOf (el es j) o .end ≤ blockAt es ys i .start) j (omega (arith, f .0)) k)
   broken (Under j d) f t k =
       let l : j < i = omega (arith, f .0) in
-      t (kept es ys j i) (kept-nearer j l) (stands (λ o. Off (rubyOf (el es j) o) (kept es ys j i)) j l k)
+      t (kept es ys j i) (kept-nearer j l) (stands (λ o. Off (rubyOf side.Right (el es j) o) (kept es ys j i)) j l k)
   broken (Over j d) f t k =
-      t (rubyAt es ys i) ruby-nearer
+      t (rubyAt side.Right es ys i) ruby-nearer
       (stands
-      (λ o. Off (rubyAt es ys i)
+      (λ o. Off (rubyAt side.Right es ys i)
       (record {
         start = blockOf (el es j) o .start + cond (eqb j (suc i)) (el es j .before) 0;
         end = blockOf (el es j) o .end - cond (eqb i (suc j)) (el es j .after) 0;
       })) j (omega (arith, f .0)) k)
-  broken (Ruby j) f t k = t (rubyAt es ys i) ruby-nearer (stands (λ o. Off (rubyAt es ys i) (rubyOf (el es j) o)) j (f .0) k)
-  broken Edge f t k = t (rubyAt es ys i) ruby-nearer
+  broken (Ruby j) f t k = t (rubyAt side.Right es ys i) ruby-nearer (stands (λ o. Off (rubyAt side.Right es ys i) (rubyOf side.Right (el es j) o)) j (f .0) k)
+  broken Edge f t k = t (rubyAt side.Right es ys i) ruby-nearer
   broken Free f t k = k

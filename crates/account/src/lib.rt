@@ -1,9 +1,11 @@
 // Why each gap of a line is as wide as it is. An element stands no nearer the line's start because some rule of clearance (document
 // 01, level two) already holds with equality; the account of an element names the gap before its block, that rule, the other element
 // and the permitted depth (specs/Reasons.antt). specs/Theorems.antt has what is proved of it: the named rule would be broken one half
-// unit nearer, and in a line that is set every element has such a reason. It relies on line for the elements, the rules and the setting.
+// unit nearer, and in a line that is set every element has such a reason. It speaks of readings on the right, and its theorems of lines that have no others.
+// It relies on line for the elements, the rules and the setting.
 ghost use mathlib.Core.Path.{_≡_};
 ghost use Prim.Native.Nat.{_-_, _≤_};
+ghost use Rattle.line.specs.declared.Side.the-variants as side;
 ghost use Rattle.line.specs.Rules.{blockOf, rubyOf};
 ghost use Rattle.account.specs.Reasons.{touches, under, over, edge, beside};
 ghost use Rattle.account.specs.Claims.{number, depth};
@@ -52,9 +54,8 @@ pub const START: Before = Before {
     last: Element {
         front: 0,
         len: 0,
-        ruby: false,
-        from: 0,
-        upto: 0,
+        right: line::NO_READING,
+        left: line::NO_READING,
         before: 0,
         after: 0,
     },
@@ -76,15 +77,17 @@ fn block_end(e: Element, x: u32) -> u64
 }
 
 fn ruby_start(e: Element, x: u32) -> u64
-    ensures { λ r. ⌜ (r ≡ rubyOf e x .start) × (r ≤ 8589934590) ⌝ }
+    ensures { λ r. ⌜ (r ≡ rubyOf side.Right e x .start) × (r ≤ 8589934590) ⌝ }
 {
-    x as u64 + e.from as u64
+    let r = e.right;
+    x as u64 + r.from as u64
 }
 
 fn ruby_end(e: Element, x: u32) -> u64
-    ensures { λ r. ⌜ r ≡ rubyOf e x .end ⌝ }
+    ensures { λ r. ⌜ r ≡ rubyOf side.Right e x .end ⌝ }
 {
-    x as u64 + e.upto as u64
+    let r = e.right;
+    x as u64 + r.upto as u64
 }
 
 // Rule 1 between p at y and e at x just after it.
@@ -98,7 +101,8 @@ fn block_touches(p: Element, y: u32, e: Element, x: u32) -> bool
 fn lies_under(p: Element, y: u32, e: Element, x: u32) -> bool
     ensures { λ r. ⌜ r ≡ under p y e x ⌝ }
 {
-    let ruby = p.ruby;
+    let r = p.right;
+    let ruby = r.there;
     if ruby {
         ruby_end(p, y) == block_start(e, x) + e.before as u64
     } else {
@@ -110,7 +114,8 @@ fn lies_under(p: Element, y: u32, e: Element, x: u32) -> bool
 fn lies_over(p: Element, y: u32, e: Element, x: u32) -> bool
     ensures { λ r. ⌜ r ≡ over p y e x ⌝ }
 {
-    let ruby = e.ruby;
+    let r = e.right;
+    let ruby = r.there;
     if ruby {
         block_end(p, y) == ruby_start(e, x) + p.after as u64
     } else {
@@ -155,7 +160,8 @@ fn touching(far: Far, z: u64, rest: Reason) -> Reason
 fn by_ruby(far: Far, e: Element, x: u32) -> Reason
     ensures { λ r. ⌜ r ≡ rubyAfter far e x ⌝ }
 {
-    let ruby = e.ruby;
+    let r = e.right;
+    let ruby = r.there;
     if ruby {
         let z = ruby_start(e, x);
         touching(far, z, at_edge(z))
@@ -212,7 +218,8 @@ pub fn account_of(i: u32, b: Before, e: Element, x: u32) -> Account
 fn furthest(i: u32, far: Far, e: Element, x: u32) -> Far
     ensures { λ r. ⌜ r ≡ further i far e x ⌝ }
 {
-    let ruby = e.ruby;
+    let r = e.right;
+    let ruby = r.there;
     if ruby {
         let upto = ruby_end(e, x);
         match far {

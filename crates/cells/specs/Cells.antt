@@ -9,17 +9,29 @@ use lib.ListN.{length, getD}
 use Rattle.spread.specs.declared.Way.{Way}
 use Rattle.spread.specs.declared.Way.the-variants.{Solid, Spread, Limited}
 use Rattle.spread.specs.Ratio.{Ratios, Housed}
+use Rattle.word.specs.declared.Reading.{Reading}
+use Rattle.word.specs.declared.Str.{Str}
 use Rattle.word.specs.declared.Word.{Word}
+use Rattle.word.specs.Word.{none, between}
 use Rattle.word.specs.Numbers.{wordFrom}
+use Rattle.word.specs.Sides.{sided, monosWord}
 use Rattle.line.specs.declared.Element.{Element}
+use Rattle.line.specs.declared.Reading as line
+use Rattle.line.specs.declared.Side.{Side}
+use Rattle.line.specs.declared.Side.the-variants.{Right, Left}
 use Rattle.line.specs.declared.State.{State}
 use Rattle.line.specs.Setting.{start, put, origin, furthest, total}
 use Rattle.cells.specs.declared.Cell.{Cell}
+use Rattle.cells.specs.declared.LeftRow.{LeftRow}
+use Rattle.cells.specs.declared.Share.{Share}
 use Rattle.cells.specs.declared.Step.{Step}
 
--- how many numbers a table of n rows has: six at its head, and nineteen a row
+-- how many numbers a table of n rows has: seven at its head, and nineteen a row; and how many the left rows of n base characters have
 abbrev pub size : ℕ → ℕ
-size n = 6 + 19 * n
+size n = 7 + 19 * n
+
+abbrev pub leftSize : ℕ → ℕ
+leftSize n = 8 * n
 
 -- the house ratios, at its head
 abbrev pub ratiosAt : List ℕ → Ratios
@@ -29,9 +41,59 @@ ratiosAt t =
       base = record { a = getD t 3 0; m = getD t 4 0; c = getD t 5 0 };
     }
 
--- row i
-abbrev pub cellAt : List ℕ → ℕ → Cell
-cellAt t i =
+-- where the left readings begin, behind the rows; 0 where there are none
+abbrev pub leftsAt : List ℕ → ℕ
+leftsAt t = getD t 6 0
+
+abbrev pub noLeft : LeftRow
+noLeft = record { from = 0; upto = 0; within = 0; runs = false; first = 0; many = 0; own = 0; more = false }
+
+abbrev pub leftRowAt : List ℕ → ℕ → LeftRow
+leftRowAt t at =
+    record {
+      from = getD t at 0;
+      upto = getD t (at + 1) 0;
+      within = getD t (at + 2) 0;
+      runs = eqb (getD t (at + 3) 0) 1;
+      first = getD t (at + 4) 0;
+      many = getD t (at + 5) 0;
+      own = getD t (at + 6) 0;
+      more = eqb (getD t (at + 7) 0) 1;
+    }
+
+-- the left row of base character i, where the table has one
+unfoldable pub leftAt : List ℕ → ℕ → LeftRow
+leftAt t i = let at = leftsAt t + leftSize i in cond (eqb (leftsAt t) 0) noLeft (cond (ltb (length t) (at + 8)) noLeft (leftRowAt t at))
+
+-- a left reading is there where it has characters
+abbrev pub leftReading : LeftRow → Reading
+leftReading l = record { there = ltb 0 (l .many); from = l .from; upto = l .upto; within = l .within; runs = l .runs }
+
+-- a row with this left reading
+abbrev pub beside : Cell → LeftRow → Cell
+beside c l =
+    record {
+      bases = c .bases;
+      cut = c .cut;
+      ends = c .ends;
+      word = record { front = c .word .front; len = c .word .len; inbase = c .word .inbase; right = c .word .right; left = leftReading l };
+      before = c .before;
+      after = c .after;
+      ruby = c .ruby;
+      rubies = c .rubies;
+      left = l .first;
+      lefts = l .many;
+      own = c .own;
+      wide = c .wide;
+      over = c .over;
+      western = c .western;
+      ownleft = l .own;
+      more = l .more;
+    }
+
+-- row i, without its left reading and with it
+abbrev pub rowAt : List ℕ → ℕ → Cell
+rowAt t i =
     let at = size i in
     record {
       bases = getD t at 0;
@@ -41,26 +103,42 @@ cellAt t i =
           record {
             front = getD t (at + 3) 0;
             len = getD t (at + 4) 0;
-            ruby = eqb (getD t (at + 5) 0) 1;
-            from = getD t (at + 6) 0;
-            upto = getD t (at + 7) 0;
-            inbase = getD t (at + 8) 0;
-            inruby = getD t (at + 9) 0;
-            runs = eqb (getD t (at + 10) 0) 1;
+            inbase = getD t (at + 5) 0;
+            right =
+                record {
+                  there = eqb (getD t (at + 6) 0) 1;
+                  from = getD t (at + 7) 0;
+                  upto = getD t (at + 8) 0;
+                  within = getD t (at + 9) 0;
+                  runs = eqb (getD t (at + 10) 0) 1;
+                };
+            left = none;
           };
       before = getD t (at + 11) 0;
       after = getD t (at + 12) 0;
       ruby = getD t (at + 13) 0;
       rubies = getD t (at + 14) 0;
+      left = 0;
+      lefts = 0;
       own = getD t (at + 15) 0;
       wide = getD t (at + 16) 0;
       over = getD t (at + 17) 0;
       western = eqb (getD t (at + 18) 0) 1;
+      ownleft = 0;
+      more = false;
     }
 
--- each run over its own character of one em
-unfoldable pub eachOver : ℕ → ℕ → ℕ → ℕ → Word
-eachOver em b first last = record { front = 0; len = 2 * b; ruby = true; from = em - first; upto = 2 * b - (em - last); inbase = 0; inruby = 0; runs = true }
+abbrev pub cellAt : List ℕ → ℕ → Cell
+cellAt t i = beside (rowAt t i) (leftAt t i)
+
+-- what a row says of the characters of one side: the first, how many, and the width of its own run
+abbrev pub shareOf : Side → Cell → Share
+shareOf Right a = record { first = a .ruby; many = a .rubies; own = a .own }
+shareOf Left a = record { first = a .left; many = a .lefts; own = a .ownleft }
+
+-- readings each over their own characters of one em
+unfoldable pub eachOver : ℕ → Reading → Reading → Word
+eachOver b right left = record { front = 0; len = 2 * b; inbase = 0; right = right; left = left }
 
 abbrev pub rubyWay : Bool → Way
 rubyWay western = cond western Solid Limited
@@ -70,20 +148,36 @@ unfoldable pub partBy : Ratios → ℕ → ℕ → ℕ → ℕ → Bool → ℕ 
 unfolding eachOver
 partBy h em n r m same first last western =
     cond (eqb n 1) (wordFrom Solid Solid h em (em * n) n r m)
-    (cond same (eachOver em (em * n) first last)
+    (cond same (eachOver (em * n) (between em (em * n) first last) none)
     (wordFrom (rubyWay western) Spread h em (em * n) n r m))
+
+-- n base characters of a J with a left J, no run of which is longer than one em: their first runs on either side, and the widths of the last. A part of one
+-- character is M with a mono left reading
+unfoldable pub bothBy : Ratios → ℕ → ℕ → Str → Str → ℕ → ℕ → Word
+unfolding eachOver sided
+bothBy h em n r l last lastLeft =
+    cond (eqb n 1) (monosWord h em (record { width = em * n; count = n }) r l)
+    (eachOver (em * n) (between em (em * n) (r .width) last) (between em (em * n) (l .width) lastLeft))
 
 -- how many runs of its J up to and with its own are longer than one em
 abbrev pub overWith : ℕ → Cell → ℕ
 overWith em z = z .over + cond (ltb em (z .own)) 1 0
 
--- the base characters i up to c of a J, by the rows of the first and the last of them
+-- the base characters i up to c of a J, by the rows of the first and the last of them: with a left reading, and without
+unfoldable pub both : ℕ → List ℕ → ℕ → ℕ → Word
+unfolding bothBy
+both em t i c =
+    let a = cellAt t i in
+    let z = cellAt t (c - 1) in
+    bothBy (ratiosAt t) em (c - i) (record { width = a .own; count = a .rubies }) (record { width = a .ownleft; count = a .lefts }) (z .own) (z .ownleft)
+
 unfoldable pub part : ℕ → List ℕ → ℕ → ℕ → Word
-unfolding partBy
+unfolding partBy both
 part em t i c =
     let a = cellAt t i in
     let z = cellAt t (c - 1) in
-    partBy (ratiosAt t) em (c - i) (z .wide + z .own - a .wide) (z .ruby + z .rubies - a .ruby) (eqb (a .over) (overWith em z)) (a .own) (z .own) (a .western)
+    cond (ltb 0 (a .lefts)) (both em t i c)
+    (partBy (ratiosAt t) em (c - i) (z .wide + z .own - a .wide) (z .ruby + z .rubies - a .ruby) (eqb (a .over) (overWith em z)) (a .own) (z .own) (a .western))
 
 -- the word of the piece from i up to c, its element's end or a break within it: no other element than a J is ever cut
 unfoldable pub wordAt : ℕ → List ℕ → ℕ → ℕ → Word
@@ -91,8 +185,11 @@ unfolding part
 wordAt em t i c = cond (cellAt t i .cut) (part em t i c) (cellAt t i .word)
 
 -- a word as a line sees it
+abbrev pub seen : Reading → line.Reading
+seen v = record { there = v .there; from = v .from; upto = v .upto }
+
 abbrev pub elementOf : Word → ℕ → ℕ → Element
-elementOf w before after = record { front = w .front; len = w .len; ruby = w .ruby; from = w .from; upto = w .upto; before = before; after = after }
+elementOf w before after = record { front = w .front; len = w .len; right = seen (w .right); left = seen (w .left); before = before; after = after }
 
 abbrev pub piece : ℕ → List ℕ → ℕ → ℕ → Element
 piece em t i c = elementOf (wordAt em t i c) (cellAt t i .before) (cellAt t i .after)
@@ -158,13 +255,15 @@ unfoldable pub linesOf : ℕ → ℕ → List ℕ → ℕ → List ℕ
 unfolding endsFrom
 linesOf em limit t n = endsFrom em limit t n n 0
 
--- What a part is measured by: the ruby from the run of one row up to and with that of another.
+-- What a part is measured by: the ruby from the run of one row up to and with that of another, and the first one's left run.
 
 pub record Ran (a z : Cell) : Type 0 where
   pub more : a .ruby < z .ruby + z .rubies
   pub narrow : z .wide + z .own ≤ 262144
   pub few : z .over ≤ 1024
   pub ends : z .ruby + z .rubies ≤ 4096
+  pub fewLeft : a .lefts ≤ 4096
+  pub narrowLeft : a .ownleft ≤ 262144
 
 pub record Cuts (em : ℕ) (t : List ℕ) (i c : ℕ) : Type 0 where
   pub small : em ≤ 4096
@@ -174,10 +273,29 @@ pub record Cuts (em : ℕ) (t : List ℕ) (i c : ℕ) : Type 0 where
   pub held : size c ≤ length t
   pub ran : Ran (cellAt t i) (cellAt t (c - 1))
 
+-- a piece that has ruby: a word, or a part of a J
+abbrev pub hasRuby : Cell → Bool
+hasRuby a = a .cut || a .word .right .there
+
+-- a word without readings, of the length len in half units
+abbrev pub bare : ℕ → Word
+bare len = record { front = 0; len = len; inbase = 0; right = none; left = none }
+
+-- of a P: its word is no more than its length, and ruby lies on it no deeper than it is long
+pub record Plain (a : Cell) : Type 0 where
+  pub word : a .word ≡ bare (a .word .len)
+  pub before : a .before ≤ a .word .len
+
+-- of any other: no ruby lies on it
+pub record Flat (a : Cell) : Type 0 where
+  pub before : a .before ≡ 0
+  pub after : a .after ≡ 0
+
 -- What a line asks for, to be taken on by the piece from i up to c.
 pub record Advances (em : ℕ) (t : List ℕ) (st : State) (i c : ℕ) : Type 0 where
   pub held : size (i + 1) ≤ length t
   pub cuts : cellAt t i .cut ≡ true → Cuts em t i c
-  pub plain : cellAt t i .word .ruby ≡ false → cellAt t i .cut ≡ false → (cellAt t i .word .front ≡ 0) × (cellAt t i .before ≤ cellAt t i .word .len)
+  pub plain : hasRuby (cellAt t i) ≡ false → Plain (cellAt t i)
+  pub flat : hasRuby (cellAt t i) ≡ true → Flat (cellAt t i)
   pub short : total (piece em t i c) ≤ 524288
   pub near : furthest st ≤ 536870912

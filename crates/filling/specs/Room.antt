@@ -9,6 +9,7 @@ use borrow.Author.Tests.{lt-leb}
 use lib.Dec.{leb}
 use Rattle.line.specs.declared.Element.{Element}
 use Rattle.line.specs.declared.State.{State}
+use Rattle.line.specs.declared.Side.the-variants.{Right}
 use Rattle.line.specs.Setting.{furthest, origin}
 use Rattle.line.specs.Least.{origin-near}
 use Rattle.cells.specs.Cells.{cellAt, part, wordAt, piece, next}
@@ -18,7 +19,7 @@ use Rattle.filling.specs.Search.{extentUpto, fitsUpto, innerBreak, mostO
 
 -- a block stands behind the last one
 block-far : (st : State) (e : Element) → st .end + e .len ≤ furthest (next st e)
-block-far st e = omega (arith, origin-near st e .block)
+block-far st e = omega (arith, origin-near st e Right .block)
 
 beyond : (em end limit m : ℕ) → 0 < em → (limit - end) / (2 * em) < m → limit < end + 2 * (em * m)
 beyond em end limit m h l =

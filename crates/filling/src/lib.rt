@@ -25,7 +25,7 @@ const NONE: Break = Break { at: 0, extent: 0 };
 fn extent_of(st: line::State) -> u32
     ensures { λ r. ⌜ r ≡ setting.furthest st ⌝ }
 {
-    basics::larger(st.end, st.reach)
+    basics::larger(st.end, basics::larger(st.right, st.left))
 }
 
 // How many of a J's first characters a line may have at most that ends within the J, its block so far at `end`: each is one em wide.

@@ -1,6 +1,6 @@
 -- Every line of a job that passes the door is a line of elements that are set within themselves: what level one promises of a word is what level two asks
 -- of an element. So the theorems of `line` hold of it.
-use mathlib.Core.Path.{_≡_, refl, sym, _∙_}
+use mathlib.Core.Path.{_≡_, refl, sym, ap, _∙_, subst}
 use mathlib.Core.Bool.{Bool, true, false, true≢false}
 use mathlib.Core.List.{List, [], _∷_, map}
 use mathlib.Core.Logic.{_⊎_, inl, inr}
@@ -15,7 +15,9 @@ use Rattle.word.specs.declared.Form.the-variants.{P, M, G, J}
 use Rattle.word.specs.Given.{Given, hasRuby}
 use Rattle.word.specs.Word as words
 use Rattle.word.specs.Promise as word
-use Rattle.line.specs.Rules.{Inside, Around, Flush, Sound, Sounds}
+use Rattle.line.specs.declared.Side.{Side}
+use Rattle.line.specs.declared.Side.the-variants.{Right, Left}
+use Rattle.line.specs.Rules.{other, ruby, HasRuby, Shape, Fits, Flush, Sound, Sounds}
 use Rattle.door.specs.declared.Piece.{Piece}
 use Rattle.door.specs.Job.{Job, given}
 use Rattle.door.specs.Entries.{sum-first}
@@ -28,6 +30,12 @@ on-le P depth n h = h
 on-le M depth n h = zero-le
 on-le G depth n h = zero-le
 on-le J depth n h = zero-le
+
+on-none : (form : Form) (depth : ℕ) → hasRuby form ≡ true → onP form depth ≡ 0
+on-none P depth h = absurd (true≢false (sym h))
+on-none M depth h = refl
+on-none G depth h = refl
+on-none J depth h = refl
 
 -- a P is all block
 plain-front : (form : Form) (g : Given) → hasRuby form ≡ false → words.wordOf form g .front ≡ 0
@@ -60,17 +68,23 @@ module _ (job : Job) (passed : Passed job) where
         flush = flush (k .edge) (hasRuby (p .form)) refl (k .reads);
         before = on-le (p .form) _ _ (omega (arith, before-within (job .profile) (eqb (p .base) 0) c w (getD (job .before) (p .base) 0) (getD (job .after) (p .base) 0) (job .em) (omega (arith, b .blanks))));
         after = on-le (p .form) _ _ (omega (arith, after-within (job .profile) (eqb (p .base) 0) c w (getD (job .before) (p .base) 0) (getD (job .after) (p .base) 0) (job .em) (omega (arith, b .blanks))));
-        shape = λ t. shape (k .shape (is-true (wordOf job p .ruby) t));
+        reading = reading k;
       }
     where
-      flush : (wordOf job p .front ≡ 0) ⊎ (wordOf job p .from ≡ 0) → (b : Bool) → hasRuby (p .form) ≡ b → wordOf job p .ruby ≡ hasRuby (p .form) → Flush (seen job p)
+      flush : (wordOf job p .front ≡ 0) ⊎ (wordOf job p .right .from ≡ 0) → (b : Bool) → hasRuby (p .form) ≡ b → wordOf job p .right .there ≡ hasRuby (p .form) → Flush (seen job p)
       flush (inl f) b e r = inl f
-      flush (inr f) true e r = inr (is (wordOf job p .ruby) (r ∙ e), f)
+      flush (inr f) true e r = inr (Right, is (wordOf job p .right .there) (r ∙ e), f)
       flush (inr f) false e r = inl (plain-front (p .form) (given job p) e)
 
-      shape : word.Inside (wordOf job p) ⊎ word.Around (wordOf job p) → Inside (seen job p) ⊎ Around (seen job p)
+      shape : word.Inside (wordOf job p) ⊎ word.Around (wordOf job p) → Shape (seen job p) (seen job p .left) (seen job p .right)
       shape (inl h) = inl (record { enters = h .enters; runs = h .runs; leaves = h .leaves })
-      shape (inr h) = inr (record { leads = h .leads; trails = h .trails })
+      shape (inr h) = inr (inl (record { leads = h .leads; trails = h .trails }))
+
+      reading : word.Promise (p .form) (given job p) (wordOf job p) → (s : Side) → HasRuby s (seen job p) → Fits (seen job p) (ruby (other s) (seen job p)) (ruby s (seen job p))
+      reading k Right t =
+          let r = is-true (wordOf job p .right .there) t in
+          record { before = on-none (p .form) _ (sym (k .reads) ∙ r); after = on-none (p .form) _ (sym (k .reads) ∙ r); shape = shape (k .shape r) }
+      reading k Left t = absurd (subst T (ap (λ r. r .there) (k .one)) t)
 
   sounds-of : (ps : List Piece) → All (GoodPiece job) ps → Sounds (map (seen job) ps)
   sounds-of [] a i h = absurd (none i h)

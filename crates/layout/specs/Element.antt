@@ -32,7 +32,8 @@ use Rattle.door.specs.Elements.{countedAs, countedBy, partsOnly, Reads, own-rea
 use Rattle.door.specs.Walk as walk
 use Rattle.job.specs.Line.{wordOf, onP, depthsAt}
 use Rattle.join.specs.Rows.{rowBy, rowOf, endsBehind, HasRows}
-use Rattle.layout.specs.Lay.{Filled, HasRuns, WordReady, JukugoReady, Judged, judged-as, wordRow, word-row, Standing, Laid, Stepped, runsOnly, wordsOnly}
+use Rattle.cells.specs.Cells.{noLeft, beside}
+use Rattle.layout.specs.Lay.{Filled, row-alone, HasRuns, WordReady, JukugoReady, Judged, judged-as, wordRow, word-row, Standing, Laid, Stepped, runsOnly, wordsOnly}
 
 -- no step both stops and goes on
 stop-next : {q : Refusal} {p : Piece} → Stop q ≡ Next p → ⊥
@@ -208,7 +209,14 @@ module _ (bases rubies : ℕ) (job : Job) (k b r u : ℕ) (was : List ℕ) (h : 
               ∙ ap₂ (λ c d. rowBy job x (wordOf job x) (endsBehind job x) c d i) (sym (on-none (x .form) _ ruby)) (sym (on-none (x .form) _ ruby))
 
           laid : Laid job x was t
-          laid = record { long = filled .long; head = filled .head; rows = λ i l m. filled .here i l m ∙ row i; other = filled .other }
+          laid =
+              record {
+                long = filled .long;
+                head = filled .head;
+                lefts = filled .lefts;
+                rows = λ i l m. filled .here (h .none) i l m ∙ ap (λ c. beside c noLeft) (row i) ∙ row-alone job x i;
+                other = filled .other (h .none);
+              }
 
       judged : {t : List ℕ} {s : Step} → Judged (answer (p .form) k (given (partsIn job) p)) (λ w. rowBy (runsIn job) p w (endsBehind job p) 0 0) p was t s → Stepped bases rubies job k b r u was t s
       judged {t} {s} j = go (answer (p .form) k (given (partsIn job) p)) refl

@@ -15,6 +15,9 @@ use Rattle.class.specs.Class.{western, depthsBy}
 use Rattle.refusal.specs.declared.Refusal.{Refusal}
 use Rattle.spread.specs.Ratio.{Ratios, usual, Housed}
 use Rattle.word.specs.Word.{plain, wordOf}
+use Rattle.word.specs.Word as word
+use Rattle.word.specs.Promise.{one-reading}
+use Rattle.job.specs.Line as line
 use Rattle.word.specs.declared.Form.the-variants.{M, G, J}
 use Rattle.word.specs.declared.Answer.{Answer}
 use Rattle.word.specs.declared.Answer.the-variants as answered
@@ -23,8 +26,8 @@ use Rattle.word.specs.Sized.{Small}
 use Rattle.word.specs.declared.Word.{Word}
 use Rattle.word.specs.Given.{isJ}
 use Rattle.cells.specs.declared.Cell.{Cell}
-use Rattle.cells.specs.Cells.{size, ratiosAt, cellAt}
-use Rattle.cells.specs.Put.{Puts}
+use Rattle.cells.specs.Cells.{size, ratiosAt, leftsAt, noLeft, beside, cellAt}
+use Rattle.cells.specs.Put.{no-left, Behind, Puts}
 use Rattle.door.specs.declared.Piece.{Piece}
 use Rattle.door.specs.declared.Step.{Step}
 use Rattle.door.specs.declared.Step.the-variants.{Next, Stop}
@@ -36,32 +39,43 @@ use Rattle.join.specs.Rows.{taken, firstRuby, runAt, runWidth, wideBefore, long
 use Rattle.join.specs.Part.{first-next, first-more, wide-next, wide-more, longer-next, longer-few}
 use Rattle.layout.specs.declared.Cursor.{Cursor}
 
--- Rows from a up to e are those of f, and all else is as it was.
+-- without left readings there are no left rows to touch
+pub none-behind : (t : List ℕ) (i : ℕ) → leftsAt t ≡ 0 → Behind t i
+none-behind t i e h = absurd (omega arith)
+
+-- Rows from a up to e are those of f, in a table without left readings, and all else is as it was.
 pub record Filled (f : ℕ → Cell) (a e : ℕ) (was t : List ℕ) : Type 0 where
   pub long : length t ≡ length was
   pub head : ratiosAt t ≡ ratiosAt was
-  pub here : (i : ℕ) → a ≤ i → i < e → cellAt t i ≡ f i
-  pub other : (i : ℕ) → (i < a) ⊎ (e ≤ i) → cellAt t i ≡ cellAt was i
+  pub lefts : leftsAt t ≡ leftsAt was
+  pub here : leftsAt was ≡ 0 → (i : ℕ) → a ≤ i → i < e → cellAt t i ≡ beside (f i) noLeft
+  pub other : leftsAt was ≡ 0 → (i : ℕ) → (i < a) ⊎ (e ≤ i) → cellAt t i ≡ cellAt was i
 
 pub filled-none : (f : ℕ → Cell) (a : ℕ) (was : List ℕ) → Filled f a a was was
-filled-none f a was = record { long = refl; head = refl; here = λ i h l. absurd (omega arith); other = λ i z. refl }
+filled-none f a was = record { long = refl; head = refl; lefts = refl; here = λ z i h l. absurd (omega arith); other = λ z i h. refl }
 
 pub filled-more : (f : ℕ → Cell) (a e : ℕ) (was t u : List ℕ) → a ≤ e → Filled f a e was t → Puts t e (f e) u → Filled f a (e + 1) was u
 filled-more f a e was t u l q p =
     record {
       long = p .long ∙ q .long;
       head = p .head ∙ q .head;
-      here = λ i h m. row i h m (decLt i e);
-      other = λ i z. other i z;
+      lefts = p .lefts ∙ q .lefts;
+      here = λ z i h m. row z i h m (decLt i e);
+      other = λ z i h. other z i h;
     }
   where
-    row : (i : ℕ) → a ≤ i → i < e + 1 → Dec (i < e) → cellAt u i ≡ f i
-    row i h m (yes g) = p .other i (λ z. omega arith) ∙ q .here i h g
-    row i h m (no g) = let s : i ≡ e = omega arith in ap (cellAt u) s ∙ p .here ∙ ap f (sym s)
+    behind : leftsAt was ≡ 0 → Behind t e
+    behind z = none-behind t e (q .lefts ∙ z)
 
-    other : (i : ℕ) → (i < a) ⊎ (e + 1 ≤ i) → cellAt u i ≡ cellAt was i
-    other i (inl z) = p .other i (λ s. omega arith) ∙ q .other i (inl z)
-    other i (inr z) = p .other i (λ s. omega arith) ∙ q .other i (inr (omega arith))
+    row : leftsAt was ≡ 0 → (i : ℕ) → a ≤ i → i < e + 1 → Dec (i < e) → cellAt u i ≡ beside (f i) noLeft
+    row z i h m (yes g) = p .other (behind z) i (λ y. omega arith) ∙ q .here z i h g
+    row z i h m (no g) =
+        let s : i ≡ e = omega arith in
+        ap (cellAt u) s ∙ p .here ∙ ap (beside (f e)) (no-left u e (p .lefts ∙ q .lefts ∙ z)) ∙ ap (λ k. beside (f k) noLeft) (sym s)
+
+    other : leftsAt was ≡ 0 → (i : ℕ) → (i < a) ⊎ (e + 1 ≤ i) → cellAt u i ≡ cellAt was i
+    other z i (inl h) = p .other (behind z) i (λ s. omega arith) ∙ q .other z i (inl h)
+    other z i (inr h) = p .other (behind z) i (λ s. omega arith) ∙ q .other z i (inr (omega arith))
 
 -- the row of base character i of an element that is no J
 abbrev pub wordRow : Piece → Word → Bool → ℕ → ℕ → ℕ → Cell
@@ -75,10 +89,14 @@ wordRow p w ends before after i =
       after = after;
       ruby = p .ruby;
       rubies = p .rubies;
+      left = 0;
+      lefts = 0;
       own = 0;
       wide = 0;
       over = 0;
       western = false;
+      ownleft = 0;
+      more = false;
     }
 
 pub word-row : (job : Job) (x : Piece) (w : Word) (ends : Bool) (before after i : ℕ) → isJ (x .form) ≡ false → wordRow x w ends before after i ≡ rowBy job x w ends before after i
@@ -86,7 +104,8 @@ word-row job x w ends before after i j = rw (j, add-zero (x .ruby))
 
 -- by another name
 pub filled-as : (f g : ℕ → Cell) (a e : ℕ) (was t : List ℕ) → ((i : ℕ) → f i ≡ g i) → Filled f a e was t → Filled g a e was t
-filled-as f g a e was t h q = record { long = q .long; head = q .head; here = λ i l m. q .here i l m ∙ h i; other = q .other }
+filled-as f g a e was t h q =
+    record { long = q .long; head = q .head; lefts = q .lefts; here = λ z i l m. q .here z i l m ∙ ap (λ c. beside c noLeft) (h i); other = q .other }
 
 -- rows up to the end are all rows
 pub upto-end : (f : ℕ → Cell) {a i e : ℕ} {was t : List ℕ} → i ≡ e → Filled f a i was t → Filled f a e was t
@@ -122,10 +141,14 @@ runRow p w ends i at run own west =
       after = 0;
       ruby = at .ruby;
       rubies = run;
+      left = 0;
+      lefts = 0;
       own = own;
       wide = at .wide;
       over = at .over;
       western = west;
+      ownleft = 0;
+      more = false;
     }
 
 -- the row of a J of one character
@@ -140,10 +163,14 @@ singleRow p w ends rubyClass rubyWidth run =
       after = 0;
       ruby = p .ruby;
       rubies = getD run (p .run) 0;
+      left = 0;
+      lefts = 0;
       own = sum (entries rubyWidth (p .ruby) (getD run (p .run) 0));
       wide = 0;
       over = 0;
       western = western (getD rubyClass (p .ruby) 0);
+      ownleft = 0;
+      more = false;
     }
 
 abbrev pub pastRun : Cursor → ℕ → ℕ → ℕ → Cursor
@@ -432,8 +459,12 @@ single-laid em rubyClass rubyWidth run x w ends was t j one p =
     record {
       long = p .long;
       head = p .head;
-      here = λ i l m. let e : i ≡ x .base = omega (arith, one) in ap (cellAt t) e ∙ p .here ∙ row ∙ ap (rowBy (runsOnly em rubyClass rubyWidth run) x w ends 0 0) (sym e);
-      other = λ i z. p .other i (λ e. not-here i e z);
+      lefts = p .lefts;
+      here =
+          λ z i l m. let e : i ≡ x .base = omega (arith, one) in
+          ap (cellAt t) e ∙ p .here ∙ ap (beside (singleRow x w ends rubyClass rubyWidth run)) (no-left t (x .base) (p .lefts ∙ z))
+          ∙ ap (λ c. beside c noLeft) (row ∙ ap (rowBy (runsOnly em rubyClass rubyWidth run) x w ends 0 0) (sym e));
+      other = λ z i h. p .other (none-behind was (x .base) z) i (λ e. not-here i e h);
     }
   where
     not-here : (i : ℕ) → i ≡ x .base → (i < x .base) ⊎ (x .base + x .bases ≤ i) → ⊥
@@ -454,10 +485,14 @@ single-laid em rubyClass rubyWidth run x w ends was t j one p =
               after = 0;
               ruby = firstRuby job x (cond (isJ (x .form)) k 0);
               rubies = cond (isJ (x .form)) (runAt job x (cond (isJ (x .form)) k 0)) (x .rubies);
+              left = 0;
+              lefts = 0;
               own = cond (isJ (x .form)) (runWidth job x (cond (isJ (x .form)) k 0)) 0;
               wide = cond (isJ (x .form)) (wideBefore job x (cond (isJ (x .form)) k 0)) 0;
               over = cond (isJ (x .form)) (longer job x (cond (isJ (x .form)) k 0)) 0;
               western = isJ (x .form) && western (getD rubyClass (firstRuby job x (cond (isJ (x .form)) k 0)) 0);
+              ownleft = 0;
+              more = false;
             })
         go m n k e f g = rw (e, f, g, j, add-zero (x .ruby), add-zero (x .run))
 
@@ -491,11 +526,47 @@ plainRow profile b r em class width before after flag =
       after = d .after;
       ruby = r;
       rubies = 0;
+      left = 0;
+      lefts = 0;
       own = 0;
       wide = 0;
       over = 0;
       western = false;
+      ownleft = 0;
+      more = false;
     }
+
+-- a row of a job has no left reading
+pub row-alone : (job : Job) (x : Piece) (i : ℕ) → beside (rowOf job x i) noLeft ≡ rowOf job x i
+unfolding rowOf
+row-alone job x i = go (isCut x)
+  where
+    same : (v : Word) → v .left ≡ word.none → record { front = v .front; len = v .len; inbase = v .inbase; right = v .right; left = word.none } ≡ v
+    same v e = ap {B = Word} (λ r. record { front = v .front; len = v .len; inbase = v .inbase; right = v .right; left = r }) (sym e)
+
+    with : Word → Cell
+    with v = let c = rowOf job x i in record {
+      bases = c .bases;
+      cut = c .cut;
+      ends = c .ends;
+      word = v;
+      before = c .before;
+      after = c .after;
+      ruby = c .ruby;
+      rubies = c .rubies;
+      left = 0;
+      lefts = 0;
+      own = c .own;
+      wide = c .wide;
+      over = c .over;
+      western = c .western;
+      ownleft = 0;
+      more = false;
+    }
+
+    go : (b : Bool) → let v = cond b none (line.wordOf job x) in with (record { front = v .front; len = v .len; inbase = v .inbase; right = v .right; left = word.none }) ≡ with v
+    go true = refl
+    go false = ap with (same (line.wordOf job x) (one-reading (x .form) (given job x)))
 
 -- Elements in turn.
 
@@ -505,12 +576,14 @@ pub record Standing (bases rubies : ℕ) (job : Job) (k b r u : ℕ) (t : List �
   pub house : Housed (job .ratios)
   pub flags : bases ≤ length (job .flag)
   pub room : size bases ≤ length t
+  pub none : leftsAt t ≡ 0
   pub ruby : getD (job .kind) k 0 ≡ 80 → ⊥
 
 -- the rows of an element are written, and no other
 pub record Laid (job : Job) (x : Piece) (was t : List ℕ) : Type 0 where
   pub long : length t ≡ length was
   pub head : ratiosAt t ≡ ratiosAt was
+  pub lefts : leftsAt t ≡ leftsAt was
   pub rows : HasRows job t x
   pub other : (j : ℕ) → (j < x .base) ⊎ (x .base + x .bases ≤ j) → cellAt t j ≡ cellAt was j
 

@@ -30,12 +30,9 @@ use refusal::Refusal;
 const NONE: word::Word = word::Word {
     front: 0,
     len: 0,
-    ruby: false,
-    from: 0,
-    upto: 0,
     inbase: 0,
-    inruby: 0,
-    runs: false,
+    right: word::NONE,
+    left: word::NONE,
 };
 
 // The rows of an M or a G.
@@ -58,10 +55,14 @@ fn put_word(t: &mut [u32], p: door::Piece, w: word::Word, ends: bool)
                 after: 0,
                 ruby: p.ruby as u32,
                 rubies: p.rubies as u32,
+                left: 0,
+                lefts: 0,
                 own: 0,
                 wide: 0,
                 over: 0,
                 western: false,
+                ownleft: 0,
+                more: false,
             },
         );
         i += 1;
@@ -105,10 +106,14 @@ fn run_row(
         after: 0,
         ruby: at.ruby as u32,
         rubies: run,
+        left: 0,
+        lefts: 0,
         own,
         wide: at.wide,
         over: at.over,
         western,
+        ownleft: 0,
+        more: false,
     }
 }
 
@@ -195,10 +200,14 @@ fn put_single(
             after: 0,
             ruby: r as u32,
             rubies: run,
+            left: 0,
+            lefts: 0,
             own,
             wide: 0,
             over: 0,
             western,
+            ownleft: 0,
+            more: false,
         },
     );
 }
@@ -236,10 +245,14 @@ fn put_plain(
             after: d.after,
             ruby: r as u32,
             rubies: 0,
+            left: 0,
+            lefts: 0,
             own: 0,
             wide: 0,
             over: 0,
             western: false,
+            ownleft: 0,
+            more: false,
         },
     );
 }
@@ -494,7 +507,7 @@ pub fn layout(
     requires { let job = jobOf em 0 ratios profile (now class) (now width) (now before) (now after) (now flag) (now rclass) (now rwidth) (now kind) (now ebase) (now eruby) (now runs) in ⌜ Ready job (now t) ⌝ }
     ensures { λ c. let job = jobOf em 0 ratios profile (now (class .entry)) (now (width .entry)) (now (before .entry)) (now (after .entry)) (now (flag .entry)) (now (rclass .entry)) (now (rwidth .entry)) (now (kind .entry)) (now (ebase .entry)) (now (eruby .entry)) (now (runs .entry)) in ⌜ (c ≡ verdict (elementsFaults job 0 (elements job) ++ leftFaults job)) × (c ≡ Passed → Holds job (now (t .exit))) ⌝ }
 {
-    cells::put_ratios(t, ratios);
+    cells::put_head(t, ratios, 0);
     let elements = door::element_count(kind, ebase, eruby);
     let bases = door::base_count(class, width, before, after, flag);
     let rubies = door::ruby_count(rclass, rwidth);

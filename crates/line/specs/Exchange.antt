@@ -9,9 +9,10 @@ use lib.ListN.{length, length-append}
 use lib.Seq.{ext-getD}
 use Rattle.line.specs.declared.Element.{Element}
 use Rattle.line.specs.declared.State.{State}
-use Rattle.line.specs.Rules.{el, org, blockAt, rubyAt, Least, Sounds}
+use Rattle.line.specs.declared.Side.{Side}
+use Rattle.line.specs.Rules.{ruby, el, org, blockAt, rubyAt, Least, Sounds}
 use Rattle.line.specs.Setting.{start, put, origin, settleFrom, settle, run}
-use Rattle.line.specs.Theorems.{exact, settled, unique}
+use Rattle.line.specs.Theorems.{the-setting}
 use Rattle.line.specs.Onward.{tail, Alike, alike}
 
 -- It stays: it stands where it stood.
@@ -23,13 +24,13 @@ abbrev pub Moved : (forth back was now : ℕ) → Type 0
 Moved forth back was now = now + back ≡ was + forth
 
 -- Element i of the line es and element j of the line es′, whose origins are xs and ys: H holds of where the one stands and where the other stands, of the
--- origins, and of both ends of the blocks and of the rubies.
+-- origins, and of both ends of the blocks and of the rubies of each side.
 pub record Throughout (H : (was now : ℕ) → Type 0) (es es′ : List Element) (xs ys : List ℕ) (i j : ℕ) : Type 0 where
   pub origin : H (org xs i) (org ys j)
   pub blockStart : H (blockAt es xs i .start) (blockAt es′ ys j .start)
   pub blockEnd : H (blockAt es xs i .end) (blockAt es′ ys j .end)
-  pub rubyStart : H (rubyAt es xs i .start) (rubyAt es′ ys j .start)
-  pub rubyEnd : H (rubyAt es xs i .end) (rubyAt es′ ys j .end)
+  pub rubyStart : (s : Side) → H (rubyAt s es xs i .start) (rubyAt s es′ ys j .start)
+  pub rubyEnd : (s : Side) → H (rubyAt s es xs i .end) (rubyAt s es′ ys j .end)
 
 -- The part b between a and c exchanged for b′; one of the two may be empty, where elements are put in or taken out. The first element after it has the number 0
 -- in c, the second the number 1.
@@ -81,23 +82,31 @@ second-sounds : (a b : List Element) → Sounds (a ++ b) → Sounds b
 second-sounds [] b w = w
 second-sounds (e ∷ a) b w = second-sounds a b (tail e (a ++ b) w)
 
--- one element at two origins: its block and its ruby stand as its origin does
+-- one element at two origins: its block and its readings stand as its origin does
 stayed : (es es′ : List Element) (xs ys : List ℕ) (i j : ℕ) → el es′ j ≡ el es i → Stayed (org xs i) (org ys j) → Throughout Stayed es es′ xs ys i j
 stayed es es′ xs ys i j e h =
     let f = ap (λ (x : Element). x .front) e in
     let l = ap (λ (x : Element). x .len) e in
-    let r = ap (λ (x : Element). x .from) e in
-    let u = ap (λ (x : Element). x .upto) e in
-    record { origin = h; blockStart = omega arith; blockEnd = omega arith; rubyStart = omega arith; rubyEnd = omega arith }
+    record {
+      origin = h;
+      blockStart = omega arith;
+      blockEnd = omega arith;
+      rubyStart = λ s. omega (arith, ap (λ (x : Element). ruby s x .from) e);
+      rubyEnd = λ s. omega (arith, ap (λ (x : Element). ruby s x .upto) e);
+    }
 
 moved : (forth back : ℕ) (es es′ : List Element) (xs ys : List ℕ) (i j : ℕ) → el es′ j ≡ el es i → Moved forth back (org xs i) (org ys j) →
     Throughout (Moved forth back) es es′ xs ys i j
 moved forth back es es′ xs ys i j e h =
     let f = ap (λ (x : Element). x .front) e in
     let l = ap (λ (x : Element). x .len) e in
-    let r = ap (λ (x : Element). x .from) e in
-    let u = ap (λ (x : Element). x .upto) e in
-    record { origin = h; blockStart = omega arith; blockEnd = omega arith; rubyStart = omega arith; rubyEnd = omega arith }
+    record {
+      origin = h;
+      blockStart = omega arith;
+      blockEnd = omega arith;
+      rubyStart = λ s. omega (arith, ap (λ (x : Element). ruby s x .from) e);
+      rubyEnd = λ s. omega (arith, ap (λ (x : Element). ruby s x .upto) e);
+    }
 
 -- It holds of the settings that we give whether they fit the measure or not, and asks nothing of a, b and b′.
 pub exchanged : (a b b′ c : List Element) → Sounds c → Exchanged a b b′ c (settle (a ++ (b ++ c))) (settle (a ++ (b′ ++ c)))
@@ -121,10 +130,6 @@ exchanged a b b′ c w =
 
     same : (b : List Element) (i : ℕ) → el (a ++ (b ++ c)) (length a + length b + i) ≡ el c i
     same b i = el-second a (b ++ c) (length b + i) (length a + length b + i) (omega arith) ∙ el-second b c i (length b + i) refl
-
--- a least setting is the one that we give
-the-setting : (m : ℕ) (es : List Element) (xs : List ℕ) → Sounds es → Least m es xs → xs ≡ settle es
-the-setting m es xs w l = unique m es xs (settle es) l (settled m es w (exact m es w .1 (xs, l .clear)))
 
 -- And so of any two least settings, by the rules alone, of lines that can be set, each to its measure.
 pub exchange : (m m′ : ℕ) (a b b′ c : List Element) (xs ys : List ℕ) → Sounds (a ++ (b ++ c)) → Sounds (a ++ (b′ ++ c)) →

@@ -7,11 +7,11 @@ use mathlib.Core.Logic.{_↔_, inl, inr}
 use Prim.Native.Nat.{ℕ, _+_, _*_, _≤_, _<_}
 use native.Mathlib.Omega.{arith}
 use native.Mathlib.Nat.{le-antisymm}
-use lib.Dec.{T}
 use lib.ListN.{length}
 use lib.Seq.{ext-getD}
 use Rattle.line.specs.declared.Element.{Element}
-use Rattle.line.specs.Rules.{org, Apart, Clear, Least, extent, Flush, Sound, Sounds}
+use Rattle.line.specs.declared.Side.{Side}
+use Rattle.line.specs.Rules.{ruby, HasRuby, org, Apart, Clear, Least, extent, Flush, Sound, Sounds}
 use Rattle.line.specs.Setting.{start, settleFrom, settle, run, furthest, Follows}
 use Rattle.line.specs.Pairs as pairs
 use Rattle.line.specs.Least.{settle-follows, settle-least, settle-append}
@@ -54,6 +54,10 @@ unique m es xs ys p q =
     ext-getD 0 xs ys (p .clear .apart .each ∙ sym (q .clear .apart .each))
     (λ i h. let l : i < length es = omega (arith, p .clear .apart .each) in le-antisymm (p .first ys (q .clear) i l) (q .first xs (p .clear) i l))
 
+-- So the setting of a line, by the rules alone, is the one that we give.
+pub the-setting : (m : ℕ) (es : List Element) (xs : List ℕ) → Sounds es → Least m es xs → xs ≡ settle es
+the-setting m es xs s l = unique m es xs (settle es) l (settled m es s (exact m es s .1 (xs, l .clear)))
+
 -- A longer line begins as the shorter one, which decides the rest by its last state alone.
 pub prefix : (a b : List Element) → settle (a ++ b) ≡ settle a ++ settleFrom (run start a) b
 prefix a b = settle-append start a b
@@ -62,18 +66,12 @@ prefix a b = settle-append start a b
 pub extent-state : (es : List Element) → extent es (settle es) ≡ furthest (run start es)
 extent-state es = omega (arith, extent-run start es)
 
--- Natural numbers for origins lose nothing: an element whose block and ruby start at or after the line's start, wherever they stand together, has its origin
--- there too. Without ruby its block is all there is.
-pub natural : (e : Element) → Sound e → T (e .ruby) → (b r : ℕ) → b + e .from ≡ r + e .front → (x : ℕ) × (b ≡ x + e .front) × (r ≡ x + e .from)
-natural e s t b r h = go (s .flush)
+-- Natural numbers for origins lose nothing: an element whose block and readings start at or after the line's start, wherever they stand together, has its origin
+-- there too.
+pub natural : (e : Element) → Sound e → (b : ℕ) (r : Side → ℕ) → ((s : Side) → HasRuby s e → b + ruby s e .from ≡ r s + e .front) →
+    (x : ℕ) × (b ≡ x + e .front) × ((s : Side) → HasRuby s e → r s ≡ x + ruby s e .from)
+natural e w b r h = go (w .flush)
   where
-    go : Flush e → (x : ℕ) × (b ≡ x + e .front) × (r ≡ x + e .from)
-    go (inl f) = (b, omega arith, omega arith)
-    go (inr (_, f)) = (r, omega arith, omega arith)
-
-pub natural-block : (e : Element) → Sound e → (T (e .ruby) → ⊥) → (b : ℕ) → (x : ℕ) × (b ≡ x + e .front)
-natural-block e s n b = go (s .flush)
-  where
-    go : Flush e → (x : ℕ) × (b ≡ x + e .front)
-    go (inl f) = (b, omega arith)
-    go (inr (t, f)) = absurd (n t)
+    go : Flush e → (x : ℕ) × (b ≡ x + e .front) × ((s : Side) → HasRuby s e → r s ≡ x + ruby s e .from)
+    go (inl f) = (b, omega arith, λ s t. omega (arith, h s t))
+    go (inr (o, u, f)) = (r o, omega (arith, h o u), λ s t. omega (arith, h s t, h o u))

@@ -6,7 +6,7 @@ use Prim.Native.Nat.{ℕ, zero, suc, _+_, _-_, _*_, _≤_, _<_, zero-le}
 use native.Mathlib.Omega.{arith}
 use native.Mathlib.Decide.{decLt}
 use borrow.Author.Tests.{lt-ltb}
-use lib.Dec.{eqb, leb}
+use lib.Dec.{eqb, leb, ltb}
 use lib.ListN.{length, set}
 use lib.Seq.{sets, length-sets}
 use Rattle.basics.specs.Laws.{sets-append}
@@ -17,9 +17,10 @@ use Rattle.word.specs.declared.Word.{Word}
 use Rattle.word.specs.Word.{baseStarts, shortRuby, shortBase}
 use Rattle.word.specs.Numbers.{wordFrom}
 use Rattle.line.specs.declared.State.{State}
+use Rattle.word.specs.Sides.{readingOver, sided}
 use Rattle.line.specs.Setting.{start, origin, furthest}
 use Rattle.line.specs.Bound.{origin-bound}
-use Rattle.cells.specs.Cells.{size, cellAt, overWith, eachOver, partBy, part, wordAt, next, stop, Advances}
+use Rattle.cells.specs.Cells.{size, cellAt, overWith, eachOver, partBy, bothBy, both, part, wordAt, next, stop, Advances}
 use Rattle.cells.specs.Sound.{advances}
 use Rattle.cells.specs.Walk.{next-near, stop-whole}
 use Rattle.positions.specs.Positions.{Sheet, lent, wordOf, pieceOf, rubyBy, basePut, rubyPut, putFrom, baseOf, rubyOf}
@@ -29,29 +30,32 @@ use Rattle.positions.specs.Piece.{RubyReady, base-long, ruby-long, base-
 use Rattle.positions.specs.Walk.{none-from, begins-next, stop-ahead, fits-here}
 
 -- each part of a J has ruby
-from-ruby : (r b : Way) (h : Ratios) (em B n R m : ℕ) → wordFrom r b h em B n R m .ruby ≡ true
-unfolding wordFrom shortRuby shortBase
-from-ruby r b h em B n R m = go (leb R B) (shortRuby B R (gaps r (h .ruby) em (B - R) m)) (shortBase B R (gaps b (h .base) em (R - B) n)) refl refl
-  where
-    go : (x : Bool) (v w : Word) → v .ruby ≡ true → w .ruby ≡ true → cond x v w .ruby ≡ true
-    go true v w e f = e
-    go false v w e f = f
+abbrev HasRuby : Word → Type 0
+HasRuby w = w .right .there ≡ true
 
-part-ruby : (em : ℕ) (t : List ℕ) (i c : ℕ) → part em t i c .ruby ≡ true
+either : (x : Bool) (v w : Word) → HasRuby v → HasRuby w → HasRuby (cond x v w)
+either true v w e f = e
+either false v w e f = f
+
+from-ruby : (r b : Way) (h : Ratios) (em B n R m : ℕ) → HasRuby (wordFrom r b h em B n R m)
+unfolding wordFrom shortRuby shortBase
+from-ruby r b h em B n R m = either (leb R B) _ _ refl refl
+
+both-ruby : (em : ℕ) (t : List ℕ) (i c : ℕ) → HasRuby (both em t i c)
+unfolding both bothBy eachOver sided readingOver
+both-ruby em t i c = either (eqb (c - i) 1) _ _ refl refl
+
+part-ruby : (em : ℕ) (t : List ℕ) (i c : ℕ) → HasRuby (part em t i c)
 unfolding part partBy eachOver
 part-ruby em t i c =
     let a = cellAt t i in
     let z = cellAt t (c - 1) in
-    go (eqb (c - i) 1) (eqb (a .over) (overWith em z)) _ _ _ (from-ruby _ _ _ _ _ _ _ _) refl (from-ruby _ _ _ _ _ _ _ _)
-  where
-    go : (x y : Bool) (u v w : Word) → u .ruby ≡ true → v .ruby ≡ true → w .ruby ≡ true → cond x u (cond y v w) .ruby ≡ true
-    go true y u v w e f g = e
-    go false true u v w e f g = f
-    go false false u v w e f g = g
+    either (ltb 0 (a .lefts)) _ _ (both-ruby em t i c)
+    (either (eqb (c - i) 1) _ _ (from-ruby _ _ _ _ _ _ _ _) (either (eqb (a .over) (overWith em z)) _ _ refl (from-ruby _ _ _ _ _ _ _ _)))
 
-pub cut-ruby : (g : Sheet) (i c : ℕ) → cellAt (g .t) i .cut ≡ true → wordOf g i c .ruby ≡ true
+pub cut-ruby : (g : Sheet) (i c : ℕ) → cellAt (g .t) i .cut ≡ true → HasRuby (wordOf g i c)
 unfolding wordAt
-cut-ruby g i c e = ap (λ b. cond b (part (g .em) (g .t) i c) (cellAt (g .t) i .word) .ruby) e ∙ part-ruby (g .em) (g .t) i c
+cut-ruby g i c e = ap (λ b. cond b (part (g .em) (g .t) i c) (cellAt (g .t) i .word) .right .there) e ∙ part-ruby (g .em) (g .t) i c
 
 -- Before the piece from i, the line so far in the state st.
 pub record Along (g : Sheet) (s e : ℕ) (was wasRuby : List ℕ) (i : ℕ) (st : State) (base ruby : List ℕ) : Type 0 where
@@ -114,17 +118,17 @@ module _ {g : Sheet} {s e : ℕ} {was wasRuby : List ℕ} (ready : LineReady g s
       not-far : origin st (pieceOf g i (stop (g .t) i e)) ≤ 536870912
       not-far = omega (arith, origin-bound st (pieceOf g i (stop (g .t) i e)), q .near, in-table, ready .table .sound .few)
 
-      pub asks-base : wordOf g i c .ruby ≡ true → StringReady (o + wordOf g i c .front) (wordOf g i c .inbase) i c (g .width) base
+      pub asks-base : wordOf g i c .right .there ≡ true → StringReady (o + wordOf g i c .front) (wordOf g i c .inbase) i c (g .width) base
       asks-base w = base-ready (ready .table) (ahead .0) (ahead .1) in-table here o not-far w (omega (arith, ready .room, q .longBase))
 
-      pub asks-ruby : wordOf g i c .ruby ≡ true → RubyReady (g .em) (g .t) i c (wordOf g i c) o (g .rubyWidth) ruby
+      pub asks-ruby : wordOf g i c .right .there ≡ true → RubyReady (g .em) (g .t) i c (wordOf g i c) o (g .rubyWidth) ruby
       asks-ruby w = ruby-ready (ready .table) (ahead .0) (ahead .1) in-table here o not-far w (omega (arith, ready .roomRuby, q .longRuby))
 
       pub in-base : i < length base
       in-base = omega (arith, in-table, ready .room, q .longBase)
 
       -- what the piece leaves, by its two cases
-      pub wrote : {base2 ruby2 : List ℕ} → wordOf g i c .ruby ≡ true → base2 ≡ sets base i (baseStarts (wordOf g i c) o (lent (g .width) i c)) →
+      pub wrote : {base2 ruby2 : List ℕ} → wordOf g i c .right .there ≡ true → base2 ≡ sets base i (baseStarts (wordOf g i c) o (lent (g .width) i c)) →
           ruby2 ≡ sets ruby (cellAt (g .t) i .ruby) (rubyBy (g .em) (g .t) (g .rubyWidth) (wordOf g i c) i c o) →
           (base2 ≡ sets base i (basePut g i c o)) × (ruby2 ≡ sets ruby (cellAt (g .t) i .ruby) (rubyPut g i c o))
       unfolding basePut rubyPut
@@ -133,7 +137,7 @@ module _ {g : Sheet} {s e : ℕ} {was wasRuby : List ℕ} (ready : LineReady g s
         y ∙ ap (λ b. sets ruby (cellAt (g .t) i .ruby) (cond b (rubyBy (g .em) (g .t) (g .rubyWidth) (wordOf g i c) i c o) [])) (sym w),
       )
 
-      pub wrote-plain : wordOf g i c .ruby ≡ false → (set base i o ≡ sets base i (basePut g i c o)) × (ruby ≡ sets ruby (cellAt (g .t) i .ruby) (rubyPut g i c o))
+      pub wrote-plain : wordOf g i c .right .there ≡ false → (set base i o ≡ sets base i (basePut g i c o)) × (ruby ≡ sets ruby (cellAt (g .t) i .ruby) (rubyPut g i c o))
       unfolding basePut rubyPut
       wrote-plain w = (
         ap (λ b. sets base i (cond b (baseStarts (wordOf g i c) o (lent (g .width) i c)) (o ∷ []))) (sym w),

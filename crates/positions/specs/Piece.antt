@@ -19,8 +19,8 @@ pub record RubyReady (em : ℕ) (t : List ℕ) (i c : ℕ) (w : Word) (x : ℕ) 
   pub ahead : i < c
   pub rows : c ≤ 1024
   pub held : size c ≤ length t
-  pub runs : w .runs ≡ true → RunsReady em t i c x ws ruby
-  pub string : w .runs ≡ false → StringReady (x + w .from) (w .inruby) (cellAt t i .ruby) (rubyEnd t i c) ws ruby
+  pub runs : w .right .runs ≡ true → RunsReady em t i c x ws ruby
+  pub string : w .right .runs ≡ false → StringReady (x + w .right .from) (w .right .within) (cellAt t i .ruby) (rubyEnd t i c) ws ruby
 
 -- where the piece's base characters are few
 module _ {g : Sheet} {n m : ℕ} (table : Writable g n m) {i c : ℕ} (l : i < c) (u : c ≤ i + cellAt (g .t) i .bases) (h : i < n) (f : Fits g n m i c) where
@@ -30,16 +30,16 @@ module _ {g : Sheet} {n m : ℕ} (table : Writable g n m) {i c : ℕ} (l : i < c
   -- a position for each base character
   pub base-long : (x : ℕ) → length (basePut g i c x) ≡ c - i
   unfolding basePut baseStarts
-  base-long x = go (wordOf g i c .ruby) refl
+  base-long x = go (wordOf g i c .right .there) refl
     where
-      go : (b : Bool) → wordOf g i c .ruby ≡ b → length (cond b (baseStarts (wordOf g i c) x (lent (g .width) i c)) (x ∷ [])) ≡ c - i
+      go : (b : Bool) → wordOf g i c .right .there ≡ b → length (cond b (baseStarts (wordOf g i c) x (lent (g .width) i c)) (x ∷ [])) ≡ c - i
       go true e = length-starts _ _ (lent (g .width) i c) ∙ lent-long (g .width) i c (omega arith) (omega (arith, inside, table .widths))
       go false e = omega (arith, f .plain e)
 
   -- and one for each ruby character
   pub ruby-long : (x : ℕ) → cellAt (g .t) i .ruby + length (rubyPut g i c x) ≡ rubyEnd (g .t) i c
   unfolding rubyPut rubyBy
-  ruby-long x = go (wordOf g i c .ruby) (wordOf g i c .runs) refl refl
+  ruby-long x = go (wordOf g i c .right .there) (wordOf g i c .right .runs) refl refl
     where
       r : ℕ
       r = cellAt (g .t) i .ruby
@@ -56,7 +56,7 @@ module _ {g : Sheet} {n m : ℕ} (table : Writable g n m) {i c : ℕ} (l : i < c
       adds : (a b : ℕ) → r ≤ b → a ≡ b - r → r + a ≡ b
       adds a b k e = omega arith
 
-      go : (b d : Bool) → wordOf g i c .ruby ≡ b → wordOf g i c .runs ≡ d →
+      go : (b d : Bool) → wordOf g i c .right .there ≡ b → wordOf g i c .right .runs ≡ d →
           r + length (cond b (rubyBy (g .em) (g .t) (g .rubyWidth) (wordOf g i c) i c x) []) ≡ rubyEnd (g .t) i c
       go false d e k = omega (arith, f .none e)
       go true true e k =
@@ -68,7 +68,7 @@ module _ {g : Sheet} {n m : ℕ} (table : Writable g n m) {i c : ℕ} (l : i < c
           ∙ lent-long (g .rubyWidth) r (rubyEnd (g .t) i c) (f .ahead) (omega (arith, f .within, table .rubyWidths))))
 
   -- its strings can be written from an origin that is not too far
-  module _ (x : ℕ) (near : x ≤ 536870912) (e : wordOf g i c .ruby ≡ true) where
+  module _ (x : ℕ) (near : x ≤ 536870912) (e : wordOf g i c .right .there ≡ true) where
     pub base-ready : {base : List ℕ} → n ≤ length base → StringReady (x + wordOf g i c .front) (wordOf g i c .inbase) i c (g .width) base
     base-ready room =
         record {

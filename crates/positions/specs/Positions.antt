@@ -53,7 +53,7 @@ runsPut em t ws (suc k) i x = starts 0 (x + (em - cellAt t i .own)) (runLent t w
 -- the ruby of the piece from i up to c of which w is the word, its origin at x: run by run, or as one string
 unfoldable pub rubyBy : ℕ → List ℕ → List ℕ → Word → ℕ → ℕ → ℕ → List ℕ
 unfolding starts runsPut
-rubyBy em t ws w i c x = cond (w .runs) (runsPut em t ws (c - i) i x) (starts (w .inruby) (x + w .from) (rubyLent t ws i c))
+rubyBy em t ws w i c x = cond (w .right .runs) (runsPut em t ws (c - i) i x) (starts (w .right .within) (x + w .right .from) (rubyLent t ws i c))
 
 abbrev pub wordOf : Sheet → ℕ → ℕ → Word
 wordOf g i c = wordAt (g .em) (g .t) i c
@@ -65,11 +65,11 @@ pieceOf g i c = piece (g .em) (g .t) i c
 -- where the characters of the piece from i up to c stand, its origin at x; one without ruby is a P, one character at its origin
 unfoldable pub basePut : Sheet → ℕ → ℕ → ℕ → List ℕ
 unfolding baseStarts wordAt
-basePut g i c x = let w = wordOf g i c in cond (w .ruby) (baseStarts w x (lent (g .width) i c)) (x ∷ [])
+basePut g i c x = let w = wordOf g i c in cond (w .right .there) (baseStarts w x (lent (g .width) i c)) (x ∷ [])
 
 unfoldable pub rubyPut : Sheet → ℕ → ℕ → ℕ → List ℕ
 unfolding rubyBy wordAt
-rubyPut g i c x = let w = wordOf g i c in cond (w .ruby) (rubyBy (g .em) (g .t) (g .rubyWidth) w i c x) []
+rubyPut g i c x = let w = wordOf g i c in cond (w .right .there) (rubyBy (g .em) (g .t) (g .rubyWidth) w i c x) []
 
 -- what f gives for each piece and its origin, of at most k pieces from i on up to e
 unfoldable pub putFrom : (ℕ → ℕ → ℕ → List ℕ) → Sheet → ℕ → State → ℕ → ℕ → List ℕ

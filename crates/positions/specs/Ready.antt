@@ -34,15 +34,15 @@ pub record Runs (em : ℕ) (t ws : List ℕ) (m i c : ℕ) : Type 0 where
 
 -- The piece from i up to c of n base and m ruby characters: one without ruby has one base character and no other; the next piece's ruby begins where its own ends.
 pub record Fits (g : Sheet) (n m i c : ℕ) : Type 0 where
-  pub plain : wordOf g i c .ruby ≡ false → c ≡ i + 1
-  pub none : wordOf g i c .ruby ≡ false → rubyEnd (g .t) i c ≡ cellAt (g .t) i .ruby
-  pub base : wordOf g i c .ruby ≡ true → wordOf g i c .front + 2 * sum (lent (g .width) i c) + wordOf g i c .inbase ≤ 1048576
+  pub plain : wordOf g i c .right .there ≡ false → c ≡ i + 1
+  pub none : wordOf g i c .right .there ≡ false → rubyEnd (g .t) i c ≡ cellAt (g .t) i .ruby
+  pub base : wordOf g i c .right .there ≡ true → wordOf g i c .front + 2 * sum (lent (g .width) i c) + wordOf g i c .inbase ≤ 1048576
   pub ahead : cellAt (g .t) i .ruby ≤ rubyEnd (g .t) i c
   pub few : rubyEnd (g .t) i c ≤ cellAt (g .t) i .ruby + 64
   pub within : rubyEnd (g .t) i c ≤ m
-  pub string : wordOf g i c .ruby ≡ true → wordOf g i c .runs ≡ false → wordOf g i c .from + 2 * sum (rubyLent (g .t) (g .rubyWidth) i c) + wordOf g i c .inruby ≤ 1048576
-  pub runs : wordOf g i c .runs ≡ true → Runs (g .em) (g .t) (g .rubyWidth) m i c
-  pub last : wordOf g i c .runs ≡ true → rubyEnd (g .t) i c ≡ runEnd (g .t) (c - 1)
+  pub string : wordOf g i c .right .there ≡ true → wordOf g i c .right .runs ≡ false → wordOf g i c .right .from + 2 * sum (rubyLent (g .t) (g .rubyWidth) i c) + wordOf g i c .right .within ≤ 1048576
+  pub runs : wordOf g i c .right .runs ≡ true → Runs (g .em) (g .t) (g .rubyWidth) m i c
+  pub last : wordOf g i c .right .runs ≡ true → rubyEnd (g .t) i c ≡ runEnd (g .t) (c - 1)
   pub follows : c < n → cellAt (g .t) c .ruby ≡ rubyEnd (g .t) i c
 
 -- a piece may begin at i, where an element begins or inside one that may be cut; it ends with its element, or inside such a one

@@ -74,14 +74,14 @@ fn put_ruby(
     requires { ⌜ RubyReady em (now t) i c w at (now rwidth) (now ruby) ⌝ }
     ensures { λ _. let u = now (t .entry) in ⌜ now (ruby .exit) ≡ sets (now (ruby .entry)) (cellAt u i .ruby) (rubyBy em u (now (rwidth .entry)) w i c at) ⌝ }
 {
-    if w.runs {
+    if w.right.runs {
         put_runs(t, i, c, em, at, rwidth, ruby);
         return;
     }
     let a = cells::cell_at(t, i);
     let r = a.ruby as usize;
     let e = rubies_upto(t, i, c);
-    put_string(at + w.from, w.inruby, r, e, rwidth, ruby);
+    put_string(at + w.right.from, w.right.within, r, e, rwidth, ruby);
 }
 
 fn fewer(a: usize, b: usize) -> usize
@@ -120,7 +120,7 @@ fn put_line(
         } else {
             let step = cells::advance(t, i, c, em, st);
             let w = step.word;
-            if w.ruby {
+            if w.right.there {
                 put_base(w, step.at, i, c, width, base);
                 put_ruby(t, i, c, em, w, step.at, rwidth, ruby);
             } else {

@@ -18,7 +18,7 @@ const LARGEST: u32 = 4294967295;
 fn lesser(st: line::State, least: u32) -> u32
     ensures { λ r. ⌜ r ≡ min (setting.furthest st) least ⌝ }
 {
-    let extent = basics::larger(st.end, st.reach);
+    let extent = basics::larger(st.end, basics::larger(st.right, st.left));
     if extent <= least { extent } else { least }
 }
 

@@ -32,7 +32,7 @@ abbrev pub baseAlone : Word → List ℕ → List ℕ
 baseAlone v bs = starts (v .inbase) (v .front) bs
 
 abbrev pub rubyAlone : Word → ℕ → List ℕ → List ℕ → List ℕ
-rubyAlone v em runs rs = cond (v .runs) (runStarts em 0 (split runs rs)) (starts (v .inruby) (v .from) rs)
+rubyAlone v em runs rs = cond (v .right .runs) (runStarts em 0 (split runs rs)) (starts (v .right .within) (v .right .from) rs)
 
 -- Two strings, each by its way where it is the shorter.
 
@@ -164,8 +164,8 @@ runs-moved x em at (run ∷ runs) =
 
 pub ruby-moved : (v : Word) (em x : ℕ) (runs rs : List ℕ) → rubyStarts v em x runs rs ≡ map (λ y. x + y) (rubyAlone v em runs rs)
 unfolding rubyStarts
-ruby-moved v em x runs rs = go (v .runs)
+ruby-moved v em x runs rs = go (v .right .runs)
   where
-    go : (t : Bool) → cond t (runStarts em x (split runs rs)) (starts (v .inruby) (x + v .from) rs) ≡ map (λ y. x + y) (cond t (runStarts em 0 (split runs rs)) (starts (v .inruby) (v .from) rs))
+    go : (t : Bool) → cond t (runStarts em x (split runs rs)) (starts (v .right .within) (x + v .right .from) rs) ≡ map (λ y. x + y) (cond t (runStarts em 0 (split runs rs)) (starts (v .right .within) (v .right .from) rs))
     go true = ap (λ (n : ℕ). runStarts em n (split runs rs)) (sym (add-zero x)) ∙ runs-moved x em 0 (split runs rs)
-    go false = starts-moved x (v .inruby) (v .from) rs
+    go false = starts-moved x (v .right .within) (v .right .from) rs

@@ -1,6 +1,6 @@
 -- What level one promises of a word to those above: lengths, protrusions and limits. Lines, the filling and the writing use these laws; the job's meaning names
 -- the definitions that they are about (`answer`, `wordOf`, `places`).
-use mathlib.Core.Path.{_≡_, refl, sym, subst}
+use mathlib.Core.Path.{_≡_, refl, sym, _∙_, subst}
 use mathlib.Core.Bool.{Bool, true, false, cond, not, false≢true, true≢false}
 use mathlib.Core.List.{List, map}
 use mathlib.Core.Logic.{_⊎_, inl, inr}
@@ -27,35 +27,37 @@ use Rattle.word.specs.declared.Word.{Word}
 use Rattle.word.specs.declared.Answer.the-variants.{Set, Refused}
 use Rattle.word.specs.Given.{Given, hasRuby, isJ}
 use Rattle.word.specs.Alone.{script, rubyWay, baseWay, split, anyLonger}
-use Rattle.word.specs.Word.{shortRuby, shortBase, wordBy, plain, groupWord, overEach, jukugoWord, wordOf, total, protrusionFront, protrusionBehind}
+use Rattle.word.specs.Word.{none, byRuns, shortRuby, shortBase, wordBy, plain, groupWord, overEach, jukugoWord, wordOf, total, protrusionFront, protrusionBehind}
 use Rattle.word.specs.Answer.{blankInside, jukugoBase, mixedIn, westernOver, answer}
 use Rattle.word.specs.Sized.{Small, Sized, small}
 use Rattle.word.specs.Runs.{first-fits, last-fits}
 
 -- ruby lies within its block, or around it
 pub record Inside (v : Word) : Type 0 where
-  pub enters : v .front ≤ v .from
-  pub runs : v .from ≤ v .upto
-  pub leaves : v .upto ≤ v .front + v .len
+  pub enters : v .front ≤ v .right .from
+  pub runs : v .right .from ≤ v .right .upto
+  pub leaves : v .right .upto ≤ v .front + v .len
 
 pub record Around (v : Word) : Type 0 where
-  pub leads : v .from ≤ v .front
-  pub trails : v .front + v .len ≤ v .upto
+  pub leads : v .right .from ≤ v .front
+  pub trails : v .front + v .len ≤ v .right .upto
 
 -- The promises. `equal` is document 01's "It is equal at both ends", which R-4 leaves to base ratios whose a is their c, as 1:2:1; the others from `block` on are what the writers ask for.
 pub record Promise (form : Form) (w : Given) (v : Word) : Type 0 where
   pub some : 0 < v .len
-  pub reads : v .ruby ≡ hasRuby form
-  pub shape : v .ruby ≡ true → Inside v ⊎ Around v
-  pub edge : (v .front ≡ 0) ⊎ (v .from ≡ 0)
+  pub reads : v .right .there ≡ hasRuby form
+  pub shape : v .right .there ≡ true → Inside v ⊎ Around v
+  pub edge : (v .front ≡ 0) ⊎ (v .right .from ≡ 0)
   pub equal : Even (w .ratios .base) → v .front + v .len + v .front ≡ total v
   pub limit : total v ≤ 524288
   pub sums : total v ≤ 2 * (sum (w .width) + sum (w .rubyWidth))
   pub block : v .len ≡ 2 * sum (w .width) + v .inbase
-  pub string : v .runs ≡ false → hasRuby form ≡ true → v .upto ≡ v .from + 2 * sum (w .rubyWidth) + v .inruby
-  pub each : v .runs ≡ true → anyLonger (w .em) (split (w .run) (w .rubyWidth)) ≡ false
+  pub string : v .right .runs ≡ false → hasRuby form ≡ true → v .right .upto ≡ v .right .from + 2 * sum (w .rubyWidth) + v .right .within
+  pub each : v .right .runs ≡ true → (anyLonger (w .em) (split (w .run) (w .rubyWidth)) ≡ false) × (v .right ≡ byRuns (w .em) (sum (w .width)) (map sum (split (w .run) (w .rubyWidth))))
   pub single : length (w .width) ≡ 1 → v .inbase ≡ 0
-  pub singleRuby : length (w .rubyWidth) ≡ 1 → v .inruby ≡ 0
+  pub singleRuby : length (w .rubyWidth) ≡ 1 → v .right .within ≡ 0
+  pub one : v .left ≡ none
+  pub plain : hasRuby form ≡ false → v .front ≡ 0
 
 by-cond : (t : Bool) (Q : Word → Type 0) {a b : Word} → (t ≡ true → Q a) → (t ≡ false → Q b) → Q (cond t a b)
 by-cond true Q f g = f refl
@@ -81,6 +83,8 @@ by-ways form h w r b s =
       each = λ q. absurd (false≢true q);
       single = λ q. refl;
       singleRuby = λ q. within-one r (w .ratios .ruby) (w .em) _ (length (w .rubyWidth)) q;
+      one = refl;
+      plain = λ q. absurd (true≢false (sym h ∙ q));
     })
     (λ t.
     let l : sum (w .width) < sum (w .rubyWidth) = leb-false _ _ t in
@@ -98,6 +102,8 @@ by-ways form h w r b s =
       each = λ q. absurd (false≢true q);
       single = λ q. within-one b (w .ratios .base) (w .em) _ (length (w .width)) q;
       singleRuby = λ q. refl;
+      one = refl;
+      plain = λ q. absurd (true≢false (sym h ∙ q));
     })
 
 -- Protrusions of two strings by their ways: a ruby no longer than its base passes it nowhere; a longer one by the end gaps of the base, in front and behind.
@@ -146,13 +152,15 @@ by-runs w s h e =
       sums = omega arith;
       block = omega arith;
       string = λ q k. absurd (true≢false q);
-      each = λ q. e;
+      each = λ q. (e, refl);
       single = λ q. refl;
       singleRuby = λ q. refl;
+      one = refl;
+      plain = λ q. refl;
     }
 
 -- the word of each form, once a J's base characters are one em wide
-word-kept : (form : Form) (w : Given) → Sized form (w .width) (w .rubyWidth) (w .run) → (isJ form ≡ true → w .em ≤ sum (w .width)) → Promise form w (wordOf form w)
+pub word-kept : (form : Form) (w : Given) → Sized form (w .width) (w .rubyWidth) (w .run) → (isJ form ≡ true → w .em ≤ sum (w .width)) → Promise form w (wordOf form w)
 unfolding wordOf plain groupWord jukugoWord
 word-kept P w s j =
     record {
@@ -168,6 +176,8 @@ word-kept P w s j =
       each = λ q. absurd (false≢true q);
       single = λ q. refl;
       singleRuby = λ q. refl;
+      one = refl;
+      plain = λ q. refl;
     }
 word-kept M w s j = by-ways M refl w Solid Solid (small M _ _ _ refl s)
 word-kept G w s j = by-ways G refl w (rubyWay (script (w .rubyClass)) (script (w .class))) (baseWay (script (w .rubyClass)) (script (w .class))) (small G _ _ _ refl s)
@@ -203,7 +213,7 @@ unfolding answer
 set form place w f g h i = rw (f, g, h, i)
 
 -- a J that passes has base characters of one em
-one-em : (form : Form) (w : Given) → 0 < sum (w .width) → jukugoBase form w ≡ false → isJ form ≡ true → w .em ≤ sum (w .width)
+pub one-em : (form : Form) (w : Given) → 0 < sum (w .width) → jukugoBase form w ≡ false → isJ form ≡ true → w .em ≤ sum (w .width)
 one-em J w s e h = all-least (w .em) (w .width) (sum-some (w .width) s) (or-none (any (λ c. not (kanaLike c)) (w .class)) (any (other (w .em)) (w .width)) e .1)
 one-em P w s e h = absurd (false≢true h)
 one-em M w s e h = absurd (false≢true h)
@@ -214,3 +224,13 @@ pub kept : (form : Form) (place : ℕ) (w : Given) {v : Word} → Sized form (w 
 kept form place w {v} s e =
     let p = passed form place w e in
     subst (Promise form w) (sym (p .word)) (word-kept form w s (one-em form w (s .some) (p .eight)))
+
+-- no word of one reading has another
+pub one-reading : (form : Form) (w : Given) → wordOf form w .left ≡ none
+unfolding wordOf plain wordBy shortRuby shortBase groupWord jukugoWord overEach
+one-reading P w = refl
+one-reading M w = by-cond (leb (sum (w .rubyWidth)) (sum (w .width))) (λ (v : Word). v .left ≡ none) (λ _. refl) (λ _. refl)
+one-reading G w = by-cond (leb (sum (w .rubyWidth)) (sum (w .width))) (λ (v : Word). v .left ≡ none) (λ _. refl) (λ _. refl)
+one-reading J w =
+    by-cond (anyLonger (w .em) (split (w .run) (w .rubyWidth))) (λ (v : Word). v .left ≡ none)
+    (λ _. by-cond (leb (sum (w .rubyWidth)) (sum (w .width))) (λ (v : Word). v .left ≡ none) (λ _. refl) (λ _. refl)) (λ _. refl)

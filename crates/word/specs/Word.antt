@@ -14,16 +14,31 @@ use Rattle.word.specs.declared.Script.{Script}
 use Rattle.word.specs.declared.Script.the-variants.{Kana}
 use Rattle.word.specs.declared.Form.{Form}
 use Rattle.word.specs.declared.Form.the-variants.{P, M, G, J}
+use Rattle.word.specs.declared.Reading.{Reading}
 use Rattle.word.specs.declared.Word.{Word}
 use Rattle.word.specs.Given.{Given}
 use Rattle.word.specs.Alone.{script, rubyWay, baseWay, split, anyLonger}
 
+-- a reading that is not there; one that is a string from here to there, with this space within; and one of runs of these lengths, each over its own character of one em,
+-- over a base of the width B: it lies within the block, from the first run's start to the last run's end
+abbrev pub none : Reading
+none = record { there = false; from = 0; upto = 0; within = 0; runs = false }
+
+abbrev pub string : ℕ → ℕ → ℕ → Reading
+string from upto within = record { there = true; from = from; upto = upto; within = within; runs = false }
+
+abbrev pub between : ℕ → ℕ → ℕ → ℕ → Reading
+between em B first last = record { there = true; from = em - first; upto = 2 * B - (em - last); within = 0; runs = true }
+
+abbrev pub byRuns : ℕ → ℕ → List ℕ → Reading
+byRuns em B lengths = between em B (getD lengths 0 0) (lastOr 0 lengths)
+
 -- the word whose ruby is no longer than its base, by the gaps of the ruby; and the word whose base is the shorter, by those of the base
 unfoldable pub shortRuby : ℕ → ℕ → Gaps → Word
-shortRuby B R g = record { front = 0; len = 2 * B; ruby = true; from = g .front; upto = g .front + 2 * R + g .within; inbase = 0; inruby = g .within; runs = false }
+shortRuby B R g = record { front = 0; len = 2 * B; inbase = 0; right = string (g .front) (g .front + 2 * R + g .within) (g .within); left = none }
 
 unfoldable pub shortBase : ℕ → ℕ → Gaps → Word
-shortBase B R g = record { front = g .front; len = 2 * B + g .within; ruby = true; from = 0; upto = 2 * R; inbase = g .within; inruby = 0; runs = false }
+shortBase B R g = record { front = g .front; len = 2 * B + g .within; inbase = g .within; right = string 0 (2 * R) 0; left = none }
 
 unfoldable pub wordBy : Way → Way → Ratios → ℕ → List ℕ → List ℕ → Word
 unfolding shortRuby shortBase gaps
@@ -34,23 +49,23 @@ wordBy r b h em bs rs =
 
 -- "A word now protrudes by different amounts in front and behind": how far ruby passes the block at either end, 0 if it doesn't
 abbrev pub protrusionFront : Word → ℕ
-protrusionFront v = v .front - v .from
+protrusionFront v = v .front - v .right .from
 
 abbrev pub protrusionBehind : Word → ℕ
-protrusionBehind v = v .upto - (v .front + v .len)
+protrusionBehind v = v .right .upto - (v .front + v .len)
 
 -- a word without ruby
 unfoldable pub plain : ℕ → Word
-plain B = record { front = 0; len = 2 * B; ruby = false; from = 0; upto = 0; inbase = 0; inruby = 0; runs = false }
+plain B = record { front = 0; len = 2 * B; inbase = 0; right = none; left = none }
 
 unfoldable pub groupWord : Script → Script → Ratios → ℕ → List ℕ → List ℕ → Word
 unfolding wordBy
 groupWord r b h em bs rs = wordBy (rubyWay r b) (baseWay r b) h em bs rs
 
--- each run over its own character of one em: the ruby lies within the block, from the first run's start to the last run's end; lengths are those of the runs
+-- each run over its own character
 unfoldable pub overEach : ℕ → ℕ → List ℕ → Word
 overEach em B lengths =
-    record { front = 0; len = 2 * B; ruby = true; from = em - getD lengths 0 0; upto = 2 * B - (em - lastOr 0 lengths); inbase = 0; inruby = 0; runs = true }
+    record { front = 0; len = 2 * B; inbase = 0; right = byRuns em B lengths; left = none }
 
 unfoldable pub jukugoWord : Script → Ratios → ℕ → List ℕ → List ℕ → List ℕ → Word
 unfolding groupWord overEach
@@ -63,9 +78,9 @@ wordOf M w = wordBy Solid Solid (w .ratios) (w .em) (w .width) (w .rubyWidth)
 wordOf G w = groupWord (script (w .rubyClass)) (script (w .class)) (w .ratios) (w .em) (w .width) (w .rubyWidth)
 wordOf J w = jukugoWord (script (w .rubyClass)) (w .ratios) (w .em) (w .width) (w .run) (w .rubyWidth)
 
--- from the start of the longer string to its end
+-- from the start of the longest string to its end
 abbrev pub total : Word → ℕ
-total w = max (w .front + w .len) (w .upto)
+total w = max (w .front + w .len) (max (w .right .upto) (w .left .upto))
 
 -- each run solid over its own character, the first of which starts at `at`
 unfoldable pub runStarts : ℕ → ℕ → List (List ℕ) → List ℕ
@@ -80,4 +95,4 @@ baseStarts w x bs = starts (w .inbase) (x + w .front) bs
 
 unfoldable pub rubyStarts : Word → ℕ → ℕ → List ℕ → List ℕ → List ℕ
 unfolding starts runStarts
-rubyStarts w em x runs rs = cond (w .runs) (runStarts em x (split runs rs)) (starts (w .inruby) (x + w .from) rs)
+rubyStarts w em x runs rs = cond (w .right .runs) (runStarts em x (split runs rs)) (starts (w .right .within) (x + w .right .from) rs)

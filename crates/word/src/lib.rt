@@ -1,4 +1,4 @@
-// Level one: the word alone (document 01, "Level one"). `measure` answers a word's record by value and writes nothing; where its characters stand at a given origin the definitions
+// Level one: the word alone (document 01, "Level one"). Each form's function answers a word's record by value and writes nothing; where its characters stand at a given origin the definitions
 // `baseStarts` and `rubyStarts` say (specs/Word.antt). A word is set in its own coordinates, in half units from the start of its longer string. Nothing but the word comes
 // in (em, the house ratios, form, its own characters), so no neighbour can alter what it decides. It relies on `class` for kinds, on `spread` for one string, on `refusal`
 // and on `basics`.
@@ -13,11 +13,18 @@ ghost use Rattle.word.specs.Alone.{rubyWay, baseWay, split};
 ghost use Rattle.word.specs.Word.{plain, wordBy, groupWord, jukugoWord};
 ghost use Rattle.word.specs.Numbers.{wordFrom, Measured};
 ghost use Rattle.word.specs.Answer.{answer};
-ghost use Rattle.word.specs.Sized.{Small, Sized};
+ghost use Rattle.word.specs.Sized.{Small};
 ghost use Rattle.class.specs.Class.{kanaLike};
 ghost use Rattle.word.specs.Kinds.{mixOf, mixedBy, scriptBy, notKanaBy, with};
 ghost use Rattle.word.specs.declared.Answer.the-variants.{Set};
 ghost use Rattle.word.specs.Runs.{runsOf};
+
+mod sides;
+
+pub use sides::groups_of;
+pub use sides::measure_left;
+pub use sides::monos_of;
+pub use sides::runs_reading;
 
 // The kinds of element (document 01, "The job").
 pub enum Form {
@@ -27,23 +34,57 @@ pub enum Form {
     J,
 }
 
-// A word: its block is [front, front + len), its ruby, if it has one, [from, upto). inbase and inruby are the half units of
-// space within each string; with runs, each ruby run stands solid over its own character instead.
+// The kind of a left reading; N is none.
+pub enum Left {
+    N,
+    M,
+    G,
+    J,
+}
+
+// A reading in its word's coordinates: [from, upto), where it is there. `within` is the space within it; with runs, each run stands solid over its own character instead.
+pub struct Reading {
+    pub there: bool,
+    pub from: u32,
+    pub upto: u32,
+    pub within: u32,
+    pub runs: bool,
+}
+
+// No reading.
+pub const NONE: Reading = Reading {
+    there: false,
+    from: 0,
+    upto: 0,
+    within: 0,
+    runs: false,
+};
+
+// A word: its block is [front, front + len), with `inbase` half units of space within its base, and a reading on either side.
 pub struct Word {
     pub front: u32,
     pub len: u32,
-    pub ruby: bool,
-    pub from: u32,
-    pub upto: u32,
     pub inbase: u32,
-    pub inruby: u32,
-    pub runs: bool,
+    pub right: Reading,
+    pub left: Reading,
+}
+
+// A string by its width in units and its count of characters.
+pub struct Str {
+    pub width: u32,
+    pub count: u32,
 }
 
 // An element set within itself, or its refusal with the element's place.
 pub enum Answer {
     Set(Word),
     Refused(refusal::Refusal),
+}
+
+// Whether a row of numbers 7 to 10 holds of a word, and which.
+pub enum Row {
+    None,
+    Holds(refusal::Refusal),
 }
 
 // What a string is made of, once number 9 has let it pass.
@@ -63,6 +104,12 @@ pub struct Mix {
 // The runs of a J: the length in units of the last, where none is longer than one em.
 pub enum Runs {
     Fit(u32),
+    Longer,
+}
+
+// The runs of one side of a J, each over its own character, where none is longer than one em.
+pub enum Fits {
+    Over(Reading),
     Longer,
 }
 
@@ -220,12 +267,9 @@ fn plain_of(b: u32) -> Word
     Word {
         front: 0,
         len: 2 * b,
-        ruby: false,
-        from: 0,
-        upto: 0,
         inbase: 0,
-        inruby: 0,
-        runs: false,
+        right: NONE,
+        left: NONE,
     }
 }
 
@@ -248,24 +292,30 @@ pub fn word_from(
         return Word {
             front: 0,
             len: 2 * b,
-            ruby: true,
-            from: g.front,
-            upto: g.front + 2 * r + g.within,
             inbase: 0,
-            inruby: g.within,
-            runs: false,
+            right: Reading {
+                there: true,
+                from: g.front,
+                upto: g.front + 2 * r + g.within,
+                within: g.within,
+                runs: false,
+            },
+            left: NONE,
         };
     }
     let g = spread::gaps_of(spread::Which::Base, base, ratios, em, r - b, n);
     Word {
         front: g.front,
         len: 2 * b + g.within,
-        ruby: true,
-        from: 0,
-        upto: 2 * r,
         inbase: g.within,
-        inruby: 0,
-        runs: false,
+        right: Reading {
+            there: true,
+            from: 0,
+            upto: 2 * r,
+            within: 0,
+            runs: false,
+        },
+        left: NONE,
     }
 }
 
@@ -348,12 +398,9 @@ fn jukugo_of(
             Word {
                 front: 0,
                 len: 2 * b,
-                ruby: true,
-                from: em - first,
-                upto: 2 * b - (em - last),
                 inbase: 0,
-                inruby: 0,
-                runs: true,
+                right: runs_reading(em, b, first, last),
+                left: NONE,
             }
         }
     }
@@ -466,29 +513,4 @@ pub fn jukugo_answer(
         return Answer::Refused(refusal::Refusal::Mixed(place));
     }
     Answer::Set(jukugo_of(script_of(r), ratios, em, bs, runs, rs))
-}
-
-// An element set within itself, or the first refusal that holds of it. What its form does not have is not read: ruby and blanks of a P, runs but a J's.
-pub fn measure(
-    form: Form,
-    place: u32,
-    ratios: [[u32; 3]; 2],
-    em: u32,
-    bc: &[u32],
-    bs: &[u32],
-    before: &[u32],
-    after: &[u32],
-    rc: &[u32],
-    rs: &[u32],
-    runs: &[u32],
-) -> Answer
-    requires { ⌜ (Sized form (now bs) (now rs) (now runs)) × (Housed (ratiosOf ratios)) ⌝ }
-    ensures { λ a. ⌜ a ≡ answer form place (record { em = em; ratios = ratiosOf ratios; class = now (bc .entry); width = now (bs .entry); before = now (before .entry); after = now (after .entry); rubyClass = now (rc .entry); rubyWidth = now (rs .entry); run = now (runs .entry) }) ⌝ }
-{
-    match form {
-        Form::P => plain_answer(basics::sum_of(bs)),
-        Form::M => mono_answer(place, ratios, em, bs, before, after, rs),
-        Form::G => group_answer(place, ratios, em, bc, bs, before, after, rc, rs),
-        Form::J => jukugo_answer(place, ratios, em, bc, bs, before, after, rc, rs, runs),
-    }
 }

@@ -61,10 +61,10 @@ start l = counts l .before .before .before .before .before .before .before .befo
 
 -- the table as the walk finds it, with its head
 abbrev headedTable : tie.At-loop Inv-loop2 μ-loop2 Inv-loop μ-loop → List ℕ
-headedTable l = counts l .before .before .before .before .before .put-ratios .last .0
+headedTable l = counts l .before .before .before .before .before .put-head .last .0
 
 long : (l : tie.At-loop Inv-loop2 μ-loop2 Inv-loop μ-loop) → length (headedTable l) ≡ length (start l .args .t .now)
-long l = ap length (counts l .before .before .before .before .before .put-ratios .ensures) ∙ length-headed (start l .args .t .now) (job (start l) .ratios)
+long l = ap length (counts l .before .before .before .before .before .put-head .ensures) ∙ length-headed (start l .args .t .now) (job (start l) .ratios) 0
 
 bases-are : (l : tie.At-loop Inv-loop2 μ-loop2 Inv-loop μ-loop) → counts l .before .base-count .result ≡ baseCount (job (start l))
 unfolding baseCount
@@ -182,8 +182,8 @@ on c =
     let j = job (start l) in
     loop.along-next (baseCount j) (rubyCount j) j (elementCount j) (l .loop .k) (l .loop .b) (l .loop .r) (l .loop .u) (before-end i) (l .loop .inv .along) (at i) (went c)
 
-put-ratios-requires : tie.Need-put-ratios-requires Inv-loop2 μ-loop2 Inv-loop μ-loop
-put-ratios-requires c κs = let a = c .before .before .before .before .before .before .before .before .before .before .before .before .before in omega (arith, a .pre .room)
+put-head-requires : tie.Need-put-head-requires Inv-loop2 μ-loop2 Inv-loop μ-loop
+put-head-requires c κs = let a = c .before .before .before .before .before .before .before .before .before .before .before .before .before in omega (arith, a .pre .room)
 
 element-count-requires : tie.Need-element-count-requires Inv-loop2 μ-loop2 Inv-loop μ-loop
 element-count-requires c κs = search needs
@@ -198,7 +198,7 @@ loop-holds : tie.Need-loop-holds Inv-loop2 μ-loop2 Inv-loop μ-loop
 loop-holds c =
     let h = c .before .before .before .before .before in
     let a = h .before .before .before .before .before .before .before .before .before .before .before .before .before .before in
-    subst (λ t. Walking (job a) t t 0 0 0 0) (sym (h .put-ratios .ensures)) (walk.walking-first (job a) (a .args .t .now) (a .pre))
+    subst (λ t. Walking (job a) t t 0 0 0 0) (sym (h .put-head .ensures)) (walk.walking-first (job a) (a .args .t .now) (a .pre))
 
 mul-if1 : tie.Need-mul-if1 Inv-loop2 μ-loop2 Inv-loop μ-loop
 mul-if1 c = omega (arith, at c .index)
@@ -407,7 +407,7 @@ layout-spec =
     μ-loop2
     Inv-loop
     μ-loop
-    put-ratios-requires
+    put-head-requires
     element-count-requires
     base-count-requires
     ruby-count-requires

@@ -32,10 +32,14 @@ row a own west =
       after = 0;
       ruby = x .p .ruby;
       rubies = getD (x .runs .now) (x .p .run) 0;
+      left = 0;
+      lefts = 0;
       own = own;
       wide = 0;
       over = 0;
       western = west;
+      ownleft = 0;
+      more = false;
     }
 
 mul-run : tie.Need-mul-run

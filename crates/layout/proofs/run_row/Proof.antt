@@ -13,11 +13,11 @@ sub-t9 c = omega (arith, c .before .pre)
 cast-t10 : tie.Need-cast-t10
 cast-t10 c = omega (arith, c .before .pre)
 
-cast-t12 : tie.Need-cast-t12
-cast-t12 c = omega (arith, c .before .before .pre)
+cast-t14 : tie.Need-cast-t14
+cast-t14 c = omega (arith, c .before .before .pre)
 
 returns : tie.Need-returns
 returns c = rw (lt-ltb _ _ (c .before .before .pre .0))
 
 pub run-row-spec : {M : Type 1} → statement M
-run-row-spec = tie.close (tie.spec add-t8 sub-t9 cast-t10 cast-t12 returns)
+run-row-spec = tie.close (tie.spec add-t8 sub-t9 cast-t10 cast-t14 returns)

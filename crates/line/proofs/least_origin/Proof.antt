@@ -1,79 +1,54 @@
--- Each call gives one of the four lower bounds, and the largest of them is the definition. Two numbers taken away in turn are their sum taken away.
-use mathlib.Core.Path.{_≡_}
-use Prim.Native.Nat.{ℕ, _+_, _-_, max}
-use native.Mathlib.Omega.{arith}
+-- Where the left side is idle it asks no more than the right one, so that this decides alone; else the larger of the two is the definition.
+use mathlib.Core.Path.{_≡_, refl, sym, _∙_, subst}
+use mathlib.Core.Bool.{Bool, true, false, not, _&&_}
+use Prim.Native.Nat.{ℕ}
 use borrow.Author.Needs.{needs}
-use Rattle.line.proofs.least_origin.Statement.{statement}
-use Rattle.line.proofs.least_origin.Tie as tie
+use borrow.Author.Tests.{leb-true}
+use native.Mathlib.Omega.{arith}
+use lib.Dec.{T, leb}
 use Rattle.line.specs.declared.Element.{Element}
 use Rattle.line.specs.declared.State.{State}
-use Rattle.line.specs.Setting.{rubyFrom, origin}
+use Rattle.line.specs.declared.Side.the-variants.{Right}
+use Rattle.line.specs.Setting.{asked, origin}
+use Rattle.line.specs.OneSide.{one-origin}
+use Rattle.line.proofs.least_origin.Statement.{statement}
+use Rattle.line.proofs.least_origin.Tie as tie
 
-twice : (a b c d r : ℕ) → d ≡ a - b → r ≡ d - c → r ≡ a - (b + c)
-twice a b c d r e f = omega arith
+idle : (st : State) (e : Element) → (not (e .left .there) && leb (st .left) (st .end)) ≡ true → asked Right st e ≡ origin st e
+idle st e h = let p = both (e .left .there) (leb (st .left) (st .end)) h in sym (one-origin Right st e (subst T (p .0)) (leb-true _ _ (p .1)))
+  where
+    both : (a b : Bool) → (not a && b) ≡ true → (a ≡ false) × (b ≡ true)
+    both true b q = absurd (let z : _≡_ {A = ℕ} 0 1 = cc in omega arith)
+    both false b q = (refl, q)
 
-largest-of : (st : State) (e : Element) (f a b c d block ruby x : ℕ) → f ≡ rubyFrom e → a ≡ st .end - e .front → b ≡ st .reach - (e .front + e .before) →
-    block ≡ max a b → c ≡ st .reach - f → d ≡ st .end - (f + st .room) → ruby ≡ max c d → x ≡ max block ruby → x ≡ origin st e
-unfolding origin
-largest-of st e f a b c d block ruby x hf ha hb hm hc hd hn hx = rw (hx, hm, hn, ha, hb, hc, hd, hf)
+asked-by-requires : tie.Need-asked-by-requires
+asked-by-requires c κs = search needs
 
-ruby-from-requires : tie.Need-ruby-from-requires
-ruby-from-requires c κs = search needs
+left-idle-requires : tie.Need-left-idle-requires
+left-idle-requires c κs = search needs
 
-less-requires : tie.Need-less-requires
-less-requires c κs = search needs
+returns : tie.Need-returns
+returns c =
+    let right = c .before .before in
+    right .asked-by .ensures ∙ idle (right .before .args .st) (right .before .args .e) (sym (c .before .left-idle .ensures) ∙ c .if1 .taken)
 
-less-requires-2 : tie.Need-less-requires-2
-less-requires-2 c κs = search needs
-
-less-requires-3 : tie.Need-less-requires-3
-less-requires-3 c κs = search needs
+asked-by-requires-2 : tie.Need-asked-by-requires-2
+asked-by-requires-2 c κs = search needs
 
 larger-requires : tie.Need-larger-requires
 larger-requires c κs = search needs
 
-less-requires-4 : tie.Need-less-requires-4
-less-requires-4 c κs = search needs
-
-less-requires-5 : tie.Need-less-requires-5
-less-requires-5 c κs = search needs
-
-less-requires-6 : tie.Need-less-requires-6
-less-requires-6 c κs = search needs
-
-larger-requires-2 : tie.Need-larger-requires-2
-larger-requires-2 c κs = search needs
-
-larger-requires-3 : tie.Need-larger-requires-3
-larger-requires-3 c κs = search needs
-
-returns : tie.Need-returns
-returns c =
-    let last = c .before in
-    let sixth = last .before in
-    let fifth = sixth .before in
-    let fourth = fifth .before in
-    let block = fourth .before in
-    let third = block .before in
-    let second = third .before in
-    let first = second .before in
-    let entry = first .before .before in
-    largest-of (entry .args .st) (entry .args .e) _ _ _ _ _ _ _ _ (first .before .ruby-from .ensures) (first .less .ensures)
-    (twice _ _ _ _ _ (second .less2 .ensures) (third .less3 .ensures)) (block .larger .ensures) (fourth .less4 .ensures)
-    (twice _ _ _ _ _ (fifth .less5 .ensures) (sixth .less6 .ensures)) (last .larger2 .ensures) (c .larger3 .ensures)
+returns-2 : tie.Need-returns-2
+unfolding origin
+returns-2 c = rw (c .larger .ensures, c .before .asked-by2 .ensures, c .before .before .before .before .asked-by .ensures)
 
 pub least-origin-spec : {M : Type 1} → statement M
 least-origin-spec =
     tie.close
     (tie.spec
-    ruby-from-requires
-    less-requires
-    less-requires-2
-    less-requires-3
+    asked-by-requires
+    left-idle-requires
+    returns
+    asked-by-requires-2
     larger-requires
-    less-requires-4
-    less-requires-5
-    less-requires-6
-    larger-requires-2
-    larger-requires-3
-    returns)
+    returns-2)

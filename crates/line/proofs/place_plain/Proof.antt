@@ -1,39 +1,45 @@
--- Where the ruby so far reaches past the last block both bounds are asked, and the reach stays; else the P stands at the last block's end, and that is the reach.
-use Prim.Native.Nat.{ℕ, _+_, _-_, _≤_, max}
-use mathlib.Core.Path.{_≡_, sym}
+-- Where ruby reaches past the last block both bounds are asked; else the last block's end is the larger of them. What reaches, reaches as far as it did.
+use mathlib.Core.Path.{_≡_}
+use Prim.Native.Nat.{ℕ, _-_, max}
 use native.Mathlib.Omega.{arith}
 use borrow.Author.Needs.{needs}
 use Rattle.line.specs.Plain.{plain-placed}
 use Rattle.line.proofs.place_plain.Statement.{statement}
 use Rattle.line.proofs.place_plain.Tie as tie
 
-less-requires : tie.Need-less-requires
-less-requires c κs = search needs
-
 larger-requires : tie.Need-larger-requires
 larger-requires c κs = search needs
 
-add-t7 : tie.Need-add-t7
-add-t7 c = let a = c .before .before .before .before in omega (arith, c .larger .ensures, c .before .less .ensures, a .pre)
+less-requires : tie.Need-less-requires
+less-requires c κs = search needs
+
+larger-requires-2 : tie.Need-larger-requires-2
+larger-requires-2 c κs = search needs
+
+add-t8 : tie.Need-add-t8
+add-t8 c = search needs
+
+reckon : (e r l z d b x : ℕ) → z ≡ max r l → d ≡ z - b → x ≡ max e d → x ≡ max e (max r l - b)
+reckon e r l z d b x p q s = omega arith
 
 returns : tie.Need-returns
 returns c =
-    let a = c .before .before .before .before in
-    plain-placed (a .args .st) (a .args .len) (a .args .before) (a .args .after) (a .pre .0) (c .larger .result) (c .larger .result + a .args .len) (a .args .st .reach)
-    (reckon _ _ _ _ _ (c .larger .ensures) (c .before .less .ensures)) (omega arith) (omega (arith, c .larger .ensures, c .before .less .ensures))
-  where
-    reckon : (e r b d x : ℕ) → x ≡ max e d → d ≡ r - b → x ≡ max e (r - b)
-    reckon e r b d x p q = omega arith
+    let reached = c .before .before .before .before in
+    let a = reached .before .args in
+    plain-placed (a .st) (a .len) (a .before) (a .after) (reached .before .pre .0) _ _
+    (reckon _ _ _ _ _ _ _ (reached .larger .ensures) (c .before .less .ensures) (c .larger2 .ensures)) (omega arith)
 
-add-t9 : tie.Need-add-t9
-add-t9 c = search needs
+add-t10 : tie.Need-add-t10
+add-t10 c = search needs
 
 returns-2 : tie.Need-returns-2
 returns-2 c =
-    let a = c .before .before .before in
-    plain-placed (a .args .st) (a .args .len) (a .args .before) (a .args .after) (a .pre .0) (a .args .st .end) (a .args .st .end + a .args .len) (a .args .st .end)
-    (omega arith) (omega arith) (omega arith)
+    let reached = c .before .before .before in
+    let a = reached .before .args in
+    let h = reached .larger .ensures in
+    plain-placed (a .st) (a .len) (a .before) (a .after) (reached .before .pre .0) (a .st .end) _ (omega arith) (omega arith)
 
 pub place-plain-spec : {M : Type 1} → statement M
 place-plain-spec =
-    tie.close (tie.spec less-requires larger-requires add-t7 returns add-t9 returns-2)
+    tie.close
+    (tie.spec larger-requires less-requires larger-requires-2 add-t8 returns add-t10 returns-2)

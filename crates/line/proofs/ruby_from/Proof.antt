@@ -1,4 +1,4 @@
--- With ruby the result is its start; without, the sum is asked to fit.
+-- Of a reading the result is its start; of none, the sum is asked to fit.
 use borrow.Author.Needs.{needs}
 use Rattle.line.proofs.ruby_from.Statement.{statement}
 use Rattle.line.proofs.ruby_from.Tie as tie

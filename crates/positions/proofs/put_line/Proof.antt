@@ -68,7 +68,7 @@ fewer-requires c κs = search needs
 cut : (c : tie.Then1 Inv-loop μ-loop) → let b = c .before .before .before .before .before in cellAt (entry b .args .t .now) (b .loop .i) .cut ≡ true
 cut c = sym (ap (λ z. z .cut) (c .before .before .before .cell-at .ensures)) ∙ c .if1 .taken
 
-has-ruby : (c : tie.Then1 Inv-loop μ-loop) → let b = c .before .before .before .before .before in wordOf (g b) (b .loop .i) (end b) .ruby ≡ true
+has-ruby : (c : tie.Then1 Inv-loop μ-loop) → let b = c .before .before .before .before .before in wordOf (g b) (b .loop .i) (end b) .right .there ≡ true
 has-ruby c = let b = c .before .before .before .before .before in one.cut-ruby (g b) (b .loop .i) (end b) (cut c)
 
 advance-cut-requires : tie.Need-advance-cut-requires Inv-loop μ-loop

@@ -42,14 +42,14 @@ sub-gaps-of c = search needs
 gaps-of-requires-2 : tie.Need-gaps-of-requires-2
 gaps-of-requires-2 c κs = search needs
 
-mul-t18 : tie.Need-mul-t18
-mul-t18 c = search needs
-
-add-t19 : tie.Need-add-t19
-add-t19 c = omega (arith, all-2 (c .before))
-
 mul-t20 : tie.Need-mul-t20
 mul-t20 c = search needs
+
+add-t21 : tie.Need-add-t21
+add-t21 c = omega (arith, all-2 (c .before))
+
+mul-t22 : tie.Need-mul-t22
+mul-t22 c = search needs
 
 returns-2 : tie.Need-returns-2
 unfolding wordFrom shortBase
@@ -67,7 +67,7 @@ word-from-spec =
     returns
     sub-gaps-of
     gaps-of-requires-2
-    mul-t18
-    add-t19
     mul-t20
+    add-t21
+    mul-t22
     returns-2)

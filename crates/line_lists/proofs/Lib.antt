@@ -1,0 +1,4 @@
+pub mod Rest
+pub mod Passes
+pub mod Answers
+pub mod Tests
