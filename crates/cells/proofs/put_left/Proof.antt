@@ -16,7 +16,8 @@ entry c = c .before .before .before .before .before .before
 copied : (c : tie.After-copy-row) → let a = entry c .args in Copied (a .t .now) (leftsAt (a .t .now) + leftSize (a .i)) (leftNumbersOf (a .l)) 8 (c .copy-row .last .0)
 copied c =
     let a = entry c .args in
-    subst (λ (r : List ℕ). Copied (a .t .now) (leftsAt (a .t .now) + leftSize (a .i)) r (length r) (c .copy-row .last .0)) (c .before .before .before .before .left-numbers-of .ensures) (c .copy-row .ensures)
+    let at = leftsAt (a .t .now) + leftSize (a .i) in
+    subst (λ (r : List ℕ). Copied (a .t .now) at r (length r) (c .copy-row .last .0)) (c .before .before .before .before .left-numbers-of .ensures) (c .copy-row .ensures)
 
 left-numbers-of-requires : tie.Need-left-numbers-of-requires
 left-numbers-of-requires c κs = search needs
