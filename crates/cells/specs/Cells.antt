@@ -17,10 +17,13 @@ use Rattle.word.specs.Numbers.{wordFrom}
 use Rattle.word.specs.Sides.{sided, monosWord}
 use Rattle.line.specs.declared.Element.{Element}
 use Rattle.line.specs.declared.Reading as line
+use Rattle.line.specs.declared.Side.{Side}
+use Rattle.line.specs.declared.Side.the-variants.{Right, Left}
 use Rattle.line.specs.declared.State.{State}
 use Rattle.line.specs.Setting.{start, put, origin, furthest, total}
 use Rattle.cells.specs.declared.Cell.{Cell}
 use Rattle.cells.specs.declared.LeftRow.{LeftRow}
+use Rattle.cells.specs.declared.Share.{Share}
 use Rattle.cells.specs.declared.Step.{Step}
 
 -- how many numbers a table of n rows has: seven at its head, and nineteen a row; and how many the left rows of n base characters have
@@ -127,6 +130,11 @@ rowAt t i =
 
 abbrev pub cellAt : List ℕ → ℕ → Cell
 cellAt t i = beside (rowAt t i) (leftAt t i)
+
+-- what a row says of the characters of one side: the first, how many, and the width of its own run
+abbrev pub shareOf : Side → Cell → Share
+shareOf Right a = record { first = a .ruby; many = a .rubies; own = a .own }
+shareOf Left a = record { first = a .left; many = a .lefts; own = a .ownleft }
 
 -- readings each over their own characters of one em
 unfoldable pub eachOver : ℕ → Reading → Reading → Word
@@ -265,16 +273,29 @@ pub record Cuts (em : ℕ) (t : List ℕ) (i c : ℕ) : Type 0 where
   pub held : size c ≤ length t
   pub ran : Ran (cellAt t i) (cellAt t (c - 1))
 
--- of a P: it has no left reading, starts where its word does, and ruby lies on it no deeper than it is long
+-- a piece that has ruby: a word, or a part of a J
+abbrev pub hasRuby : Cell → Bool
+hasRuby a = a .cut || a .word .right .there
+
+-- a word without readings, of the length len in half units
+abbrev pub bare : ℕ → Word
+bare len = record { front = 0; len = len; inbase = 0; right = none; left = none }
+
+-- of a P: its word is no more than its length, and ruby lies on it no deeper than it is long
 pub record Plain (a : Cell) : Type 0 where
-  pub left : a .word .left .there ≡ false
-  pub front : a .word .front ≡ 0
+  pub word : a .word ≡ bare (a .word .len)
   pub before : a .before ≤ a .word .len
+
+-- of any other: no ruby lies on it
+pub record Flat (a : Cell) : Type 0 where
+  pub before : a .before ≡ 0
+  pub after : a .after ≡ 0
 
 -- What a line asks for, to be taken on by the piece from i up to c.
 pub record Advances (em : ℕ) (t : List ℕ) (st : State) (i c : ℕ) : Type 0 where
   pub held : size (i + 1) ≤ length t
   pub cuts : cellAt t i .cut ≡ true → Cuts em t i c
-  pub plain : cellAt t i .word .right .there ≡ false → cellAt t i .cut ≡ false → Plain (cellAt t i)
+  pub plain : hasRuby (cellAt t i) ≡ false → Plain (cellAt t i)
+  pub flat : hasRuby (cellAt t i) ≡ true → Flat (cellAt t i)
   pub short : total (piece em t i c) ≤ 524288
   pub near : furthest st ≤ 536870912

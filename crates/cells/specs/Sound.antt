@@ -1,6 +1,6 @@
 -- A sound table: the rows of an element go on to its end, a line sees no more than level one may make, and a J can be cut.
-use mathlib.Core.Path.{_≡_, refl, sym, ap, _∙_, subst}
-use mathlib.Core.Bool.{Bool, true, false, cond}
+use mathlib.Core.Path.{_≡_, refl, sym, ap, ap₂, _∙_, subst}
+use mathlib.Core.Bool.{Bool, true, false, cond, not, _&&_, _||_, true≢false, false≢true}
 use mathlib.Core.List.{List}
 use Prim.Native.Nat.{ℕ, zero, suc, _+_, _-_, _*_, _≤_, _<_, max, zero-le}
 use native.Mathlib.Nat.{mul-le-mul}
@@ -26,7 +26,8 @@ use Rattle.line.specs.declared.Element.{Element}
 use Rattle.line.specs.declared.State.{State}
 use Rattle.line.specs.Setting.{furthest, total}
 use Rattle.cells.specs.declared.Cell.{Cell}
-use Rattle.cells.specs.Cells.{size, ratiosAt, cellAt, eachOver, rubyWay, partBy, bothBy, overWith, both, part, wordAt, elementOf, piece, Ran, Cuts, Plain, Advances}
+use Rattle.cells.specs.Cells.{size, ratiosAt, leftsAt, rowAt, beside, cellAt, eachOver, rubyWay, partBy, bothBy, overWith, both, part, wordAt, elementOf, piece, stepOf, stepAt, Ran, Cuts, hasRuby, Plain, Flat, Advances}
+use Rattle.cells.specs.Put.{no-left}
 
 -- the row behind a, in the same element
 pub record Follows (a b : Cell) : Type 0 where
@@ -39,7 +40,8 @@ pub record Row (t : List ℕ) (n i : ℕ) : Type 0 where
   pub few : cellAt t i .bases ≤ 32
   pub inside : i + cellAt t i .bases ≤ n
   pub total : total (elementOf (cellAt t i .word) (cellAt t i .before) (cellAt t i .after)) ≤ 524288
-  pub plain : cellAt t i .word .right .there ≡ false → cellAt t i .cut ≡ false → Plain (cellAt t i)
+  pub plain : hasRuby (cellAt t i) ≡ false → Plain (cellAt t i)
+  pub flat : hasRuby (cellAt t i) ≡ true → Flat (cellAt t i)
   pub follows : 1 < cellAt t i .bases → Follows (cellAt t i) (cellAt t (i + 1))
   pub runs : cellAt t i .cut ≡ true → (c : ℕ) → i < c → c ≤ i + cellAt t i .bases → Ran (cellAt t i) (cellAt t (c - 1))
 
@@ -179,6 +181,7 @@ module _ (em : ℕ) (t : List ℕ) (n : ℕ) (sound : Sound em t n) (i c : ℕ) 
         held = omega (arith, sound .long);
         cuts = cuts;
         plain = r .plain;
+        flat = r .flat;
         short = piece-total;
         near = omega (arith, sound .few);
       }
@@ -192,9 +195,53 @@ pub whole-word : (em : ℕ) (t : List ℕ) (i c : ℕ) → cellAt t i .cut ≡ f
 unfolding wordAt
 whole-word em t i c e = rw e
 
+-- in a job without left readings a row has its whole word
+pub row-word : (t : List ℕ) (i : ℕ) → leftsAt t ≡ 0 → cellAt t i .word ≡ rowAt t i .word
+row-word t i e = ap (λ l. beside (rowAt t i) l .word) (no-left t i e)
+
 -- a step fits a number
 pub fits : (em : ℕ) (t : List ℕ) (st : State) (i c : ℕ) → Advances em t st i c → furthest st + total (piece em t i c) ≤ 4294967295
 fits em t st i c a = omega (arith, a .short, a .near)
+
+-- a piece that has ruby, on which none lies
+module _ (em : ℕ) (t : List ℕ) (st : State) (i c : ℕ) (a : Advances em t st i c) (ruby : hasRuby (cellAt t i) ≡ true) where
+  pub flat-fits : furthest st + total (elementOf (wordAt em t i c) 0 0) ≤ 4294967295
+  flat-fits = fits em t st i c a
+
+  pub row-fits : cellAt t i .cut ≡ false → furthest st + total (elementOf (cellAt t i .word) 0 0) ≤ 4294967295
+  row-fits e = subst (λ w. furthest st + total (elementOf w 0 0) ≤ 4294967295) (whole-word em t i c e) flat-fits
+
+  pub flat-step : stepOf (wordAt em t i c) 0 0 st ≡ stepAt em t st i c
+  flat-step = let f = a .flat ruby in ap₂ (λ x y. stepOf (wordAt em t i c) x y st) (sym (f .before)) (sym (f .after))
+
+  pub row-step : cellAt t i .cut ≡ false → stepOf (cellAt t i .word) 0 0 st ≡ stepAt em t st i c
+  row-step e = ap (λ w. stepOf w 0 0 st) (sym (whole-word em t i c e)) ∙ flat-step
+
+-- where a row has its whole word
+pub in-row : (t : List ℕ) (i : ℕ) → (not (cellAt t i .cut) && eqb (leftsAt t) 0) ≡ true → (cellAt t i .cut ≡ false) × (leftsAt t ≡ 0)
+in-row t i e = go (cellAt t i .cut) e
+  where
+    go : (x : Bool) → (not x && eqb (leftsAt t) 0) ≡ true → (x ≡ false) × (leftsAt t ≡ 0)
+    go true e = absurd (false≢true e)
+    go false e = (refl, eqb-true (leftsAt t) 0 e)
+
+-- and one that has none
+module _ (em : ℕ) (t : List ℕ) (st : State) (i c : ℕ) (a : Advances em t st i c) (ruby : hasRuby (cellAt t i) ≡ false) where
+  uncut : cellAt t i .cut ≡ false
+  uncut = go (cellAt t i .cut) ruby
+    where
+      go : (x : Bool) → (x || cellAt t i .word .right .there) ≡ false → x ≡ false
+      go true e = absurd (true≢false e)
+      go false e = refl
+
+  pub plain-fits : furthest st + cellAt t i .word .len ≤ 4294967295
+  plain-fits = go (subst (λ w. furthest st + total (elementOf w 0 0) ≤ 4294967295) (whole-word em t i c uncut) (fits em t st i c a))
+    where
+      go : furthest st + total (elementOf (cellAt t i .word) 0 0) ≤ 4294967295 → furthest st + cellAt t i .word .len ≤ 4294967295
+      go h = omega arith
+
+  pub plain-word : cellAt t i .word ≡ wordAt em t i c
+  plain-word = sym (whole-word em t i c uncut)
 
 -- A part of a J is at least as long as its characters of one em.
 

@@ -3,14 +3,15 @@
 // what level one has decided of the element; of a J of two characters or more what any part of it is measured by. Nobody above reads classes, widths of words or
 // kinds. One function cuts a J (`part_upto`), one takes a line on by a piece (`advance`). It relies on `word` and `spread` for words and on `line` for places.
 ghost use mathlib.Core.Path.{_≡_};
-ghost use mathlib.Core.Bool.{true, false};
+ghost use mathlib.Core.Bool.{true, not, _&&_};
 ghost use Prim.Native.Nat.{_+_, _-_, _*_, _≤_, _<_};
+ghost use lib.Dec.{eqb};
 ghost use lib.ListN.{length};
 ghost use Rattle.spread.specs.Ratio.{ratiosOf};
 ghost use Rattle.word.specs.Word.{between};
 ghost use Rattle.line.specs.Setting.{furthest, total};
 ghost use Rattle.cells.specs.Put.{bitOf, numbersOf, leftNumbersOf, Copied, Puts, PutsLeft, headed};
-ghost use Rattle.cells.specs.Cells.{size, leftSize, ratiosAt, leftsAt, leftRowAt, leftAt, rowAt, beside, cellAt, eachOver, rubyWay, overWith, both, part, wordAt, seen, elementOf, stepOf, stepAt, Cuts, Advances};
+ghost use Rattle.cells.specs.Cells.{size, leftSize, ratiosAt, leftsAt, leftRowAt, leftAt, rowAt, beside, cellAt, eachOver, rubyWay, overWith, both, part, wordAt, shareOf, seen, elementOf, stepOf, stepAt, Cuts, hasRuby, Plain, Advances};
 
 // How many numbers the head of a table has, how many a row, and how many a row of a left reading.
 const HEAD: usize = 7;
@@ -458,12 +459,130 @@ fn step_of(w: word::Word, before: u32, after: u32, st: line::State) -> Step
     }
 }
 
-// A word without readings, that is a P.
-fn plain_step(w: word::Word, before: u32, after: u32, st: line::State) -> Step
-    requires { ⌜ (w .right .there ≡ false) × (w .left .there ≡ false) × (w .front ≡ 0) × (before ≤ w .len) × (furthest st + w .len ≤ 4294967295) ⌝ }
-    ensures { λ r. ⌜ r ≡ stepOf w before after st ⌝ }
+// What a row says of one side's characters: the first, how many there are, and the width of its own run.
+pub struct Share {
+    pub first: u32,
+    pub many: u32,
+    pub own: u32,
+}
+
+// The share of one side. Only the row of that side is read.
+pub fn share_at(t: &[u32], i: usize, side: line::Side) -> Share
+    requires { ⌜ size (i + 1) ≤ length (now t) ⌝ }
+    ensures { λ r. ⌜ r ≡ shareOf side (cellAt (now (t .entry)) i) ⌝ }
 {
-    let p = line::place_plain(st, w.len, before, after);
+    match side {
+        line::Side::Right => {
+            let a = row_at(t, i);
+            Share {
+                first: a.ruby,
+                many: a.rubies,
+                own: a.own,
+            }
+        }
+        line::Side::Left => {
+            let l = left_at(t, i);
+            Share {
+                first: l.first,
+                many: l.many,
+                own: l.own,
+            }
+        }
+    }
+}
+
+// Whether a line may end within the element of base character i, and whether the word in its row has ruby.
+fn cut_at(t: &[u32], i: usize) -> bool
+    requires { ⌜ size (i + 1) ≤ length (now t) ⌝ }
+    ensures { λ b. ⌜ b ≡ cellAt (now (t .entry)) i .cut ⌝ }
+{
+    let at = HEAD + ROW * i;
+    t[at + 1] == 1
+}
+
+fn there_at(t: &[u32], i: usize) -> bool
+    requires { ⌜ size (i + 1) ≤ length (now t) ⌝ }
+    ensures { λ b. ⌜ b ≡ cellAt (now (t .entry)) i .word .right .there ⌝ }
+{
+    let at = HEAD + ROW * i;
+    t[at + 6] == 1
+}
+
+// The word of the piece from i up to c.
+fn word_upto(t: &[u32], i: usize, c: usize, em: u32) -> word::Word
+    requires { ⌜ (size (i + 1) ≤ length (now t)) × (cellAt (now t) i .cut ≡ true → Cuts em (now t) i c) ⌝ }
+    ensures { λ w. ⌜ w ≡ wordAt em (now (t .entry)) i c ⌝ }
+{
+    if cut_at(t, i) {
+        return part_upto(t, i, c, em);
+    }
+    let a = cell_at(t, i);
+    a.word
+}
+
+// Whether the piece at i is a word or a part of a J, and no P.
+fn has_ruby(t: &[u32], i: usize) -> bool
+    requires { ⌜ size (i + 1) ≤ length (now t) ⌝ }
+    ensures { λ b. ⌜ b ≡ hasRuby (cellAt (now (t .entry)) i) ⌝ }
+{
+    if cut_at(t, i) {
+        return true;
+    }
+    there_at(t, i)
+}
+
+// A P after the line so far, by the three numbers of its row that say something of it.
+fn plain_at(t: &[u32], i: usize, st: line::State) -> Step
+    requires { ⌜ (size (i + 1) ≤ length (now t)) × (Plain (cellAt (now t) i)) × (furthest st + cellAt (now t) i .word .len ≤ 4294967295) ⌝ }
+    ensures { λ r. let a = cellAt (now (t .entry)) i in ⌜ r ≡ stepOf (a .word) (a .before) (a .after) st ⌝ }
+{
+    let at = HEAD + ROW * i;
+    let len = t[at + 4];
+    let p = line::place_plain(st, len, t[at + 11], t[at + 12]);
+    let next = p.st;
+    Step {
+        word: word::Word {
+            front: 0,
+            len,
+            inbase: 0,
+            right: word::NONE,
+            left: word::NONE,
+        },
+        at: p.at,
+        st: next,
+    }
+}
+
+// Whether the word of the piece at i stands in its row: it is no J that may be cut, and the job has no left readings.
+fn in_row(t: &[u32], i: usize) -> bool
+    requires { ⌜ size (i + 1) ≤ length (now t) ⌝ }
+    ensures { λ b. ⌜ b ≡ (not (cellAt (now (t .entry)) i .cut) && eqb (leftsAt (now (t .entry))) 0) ⌝ }
+{
+    if cut_at(t, i) {
+        return false;
+    }
+    t[6] == 0
+}
+
+// A word with ruby after the line so far, in a job without left readings.
+fn right_at(t: &[u32], i: usize, st: line::State) -> Step
+    requires { ⌜ (size (i + 1) ≤ length (now t)) × (leftsAt (now t) ≡ 0) × (furthest st + total (elementOf (cellAt (now t) i .word) 0 0) ≤ 4294967295) ⌝ }
+    ensures { λ r. ⌜ r ≡ stepOf (cellAt (now (t .entry)) i .word) 0 0 st ⌝ }
+{
+    let a = row_at(t, i);
+    let w = a.word;
+    let right = seen_of(w.right);
+    let p = line::place(
+        st,
+        line::Element {
+            front: w.front,
+            len: w.len,
+            right,
+            left: line::NO_READING,
+            before: 0,
+            after: 0,
+        },
+    );
     let next = p.st;
     Step {
         word: w,
@@ -472,29 +591,26 @@ fn plain_step(w: word::Word, before: u32, after: u32, st: line::State) -> Step
     }
 }
 
-// The part of a J from i up to c after the line so far.
+// The part of a J from i up to c after the line so far. Ruby lies on no word, so both depths are 0.
 pub fn advance_cut(t: &[u32], i: usize, c: usize, em: u32, st: line::State) -> Step
     requires { ⌜ (cellAt (now t) i .cut ≡ true) × (Advances em (now t) st i c) ⌝ }
     ensures { λ r. ⌜ r ≡ stepAt em (now (t .entry)) st i c ⌝ }
 {
-    let a = cell_at(t, i);
-    step_of(part_upto(t, i, c, em), a.before, a.after, st)
+    step_of(word_upto(t, i, c, em), 0, 0, st)
 }
 
-// The piece from i up to c after the line so far.
+// The piece from i up to c after the line so far. Most pieces are a P, or a word in a job without left readings: these have ways of their own, which read no more of the
+// row than they need. It is as short as that so that it still becomes a part of the loops that call it: a step that came back from a call would be kept in memory, and
+// so would every line that is taken on by it.
 pub fn advance(t: &[u32], i: usize, c: usize, em: u32, st: line::State) -> Step
     requires { ⌜ Advances em (now t) st i c ⌝ }
     ensures { λ r. ⌜ r ≡ stepAt em (now (t .entry)) st i c ⌝ }
 {
-    let a = cell_at(t, i);
-    // Not by `advance_cut`: a step that comes back whole is kept in memory, and so is every line that is taken on by it.
-    if a.cut {
-        return step_of(part_upto(t, i, c, em), a.before, a.after, st);
+    if has_ruby(t, i) {
+        if in_row(t, i) {
+            return right_at(t, i, st);
+        }
+        return step_of(word_upto(t, i, c, em), 0, 0, st);
     }
-    let w = a.word;
-    let right = w.right;
-    if right.there {
-        return step_of(w, a.before, a.after, st);
-    }
-    plain_step(w, a.before, a.after, st)
+    plain_at(t, i, st)
 }

@@ -30,58 +30,92 @@ fn put_base(w: word::Word, at: u32, i: usize, c: usize, width: &[u32], base: &mu
     put_string(at + w.front, w.inbase, i, c, width, base);
 }
 
-// The runs of a J from i up to c, each solid over its own character of one em, the first of which starts at `at`.
-fn put_runs(t: &[u32], i: usize, c: usize, em: u32, at: u32, rwidth: &[u32], ruby: &mut [u32])
-    requires { ⌜ RunsReady em (now t) i c at (now rwidth) (now ruby) ⌝ }
-    ensures { λ _. let u = now (t .entry) in ⌜ now (ruby .exit) ≡ sets (now (ruby .entry)) (cellAt u i .ruby) (runsPut em u (now (rwidth .entry)) (c - i) i at) ⌝ }
+// What a row says of the characters of one side: the first of them, how many, and the width of its own run.
+struct Share {
+    first: usize,
+    many: usize,
+    own: u32,
+}
+
+fn share_of(a: cells::Cell, side: line::Side) -> Share
+    ensures { λ r. ⌜ r ≡ shareOf side a ⌝ }
+{
+    match side {
+        line::Side::Right => Share {
+            first: a.ruby as usize,
+            many: a.rubies as usize,
+            own: a.own,
+        },
+        line::Side::Left => Share {
+            first: a.left as usize,
+            many: a.lefts as usize,
+            own: a.ownleft,
+        },
+    }
+}
+
+// One side's runs of a J from i up to c, each solid over its own character of one em, the first of which starts at `at`.
+fn put_runs(
+    t: &[u32],
+    i: usize,
+    c: usize,
+    side: line::Side,
+    em: u32,
+    at: u32,
+    ws: &[u32],
+    out: &mut [u32],
+)
+    requires { ⌜ RunsReady side em (now t) i c at (now ws) (now out) ⌝ }
+    ensures { λ _. let u = now (t .entry) in ⌜ now (out .exit) ≡ sets (now (out .entry)) (first side u i) (runsPut side em u (now (ws .entry)) (c - i) i at) ⌝ }
 {
     let mut x = at;
     let mut k = i;
     while k < c {
-        let a = cells::cell_at(t, k);
-        let r = a.ruby as usize;
-        let e = r + a.rubies as usize;
-        put_string(x + (em - a.own), 0, r, e, rwidth, ruby);
+        let s = share_of(cells::cell_at(t, k), side);
+        let r = s.first;
+        let e = r + s.many;
+        put_string(x + (em - s.own), 0, r, e, ws, out);
         x += 2 * em;
         k += 1;
     }
 }
 
-// Where the ruby of the piece from i up to c ends.
-pub fn rubies_upto(t: &[u32], i: usize, c: usize) -> usize
+// Where the characters of one side of the piece from i up to c end.
+pub fn reading_upto(t: &[u32], i: usize, c: usize, side: line::Side) -> usize
     requires { ⌜ (i < c) × (c ≤ 1024) × (size c ≤ length (now t)) ⌝ }
-    ensures { λ r. ⌜ r ≡ rubyEnd (now (t .entry)) i c ⌝ }
+    ensures { λ r. ⌜ r ≡ readingEnd side (now (t .entry)) i c ⌝ }
 {
     let a = cells::cell_at(t, i);
     if a.cut {
-        let z = cells::cell_at(t, c - 1);
-        return z.ruby as usize + z.rubies as usize;
+        let z = share_of(cells::cell_at(t, c - 1), side);
+        return z.first + z.many;
     }
-    a.ruby as usize + a.rubies as usize
+    let s = share_of(a, side);
+    s.first + s.many
 }
 
-// The ruby of the piece from i up to c, the origin of its word w at `at`.
-fn put_ruby(
+// The reading v on one side of the piece from i up to c, the origin of its word at `at`.
+fn put_reading(
     t: &[u32],
     i: usize,
     c: usize,
+    side: line::Side,
     em: u32,
-    w: word::Word,
+    v: word::Reading,
     at: u32,
-    rwidth: &[u32],
-    ruby: &mut [u32],
+    ws: &[u32],
+    out: &mut [u32],
 )
-    requires { ⌜ RubyReady em (now t) i c w at (now rwidth) (now ruby) ⌝ }
-    ensures { λ _. let u = now (t .entry) in ⌜ now (ruby .exit) ≡ sets (now (ruby .entry)) (cellAt u i .ruby) (rubyBy em u (now (rwidth .entry)) w i c at) ⌝ }
+    requires { ⌜ ReadingReady side em (now t) i c v at (now ws) (now out) ⌝ }
+    ensures { λ _. let u = now (t .entry) in ⌜ now (out .exit) ≡ sets (now (out .entry)) (first side u i) (readingBy side em u (now (ws .entry)) v i c at) ⌝ }
 {
-    if w.runs {
-        put_runs(t, i, c, em, at, rwidth, ruby);
+    if v.runs {
+        put_runs(t, i, c, side, em, at, ws, out);
         return;
     }
-    let a = cells::cell_at(t, i);
-    let r = a.ruby as usize;
-    let e = rubies_upto(t, i, c);
-    put_string(at + w.from, w.inruby, r, e, rwidth, ruby);
+    let s = share_of(cells::cell_at(t, i), side);
+    let e = reading_upto(t, i, c, side);
+    put_string(at + v.from, v.within, s.first, e, ws, out);
 }
 
 fn fewer(a: usize, b: usize) -> usize
@@ -98,12 +132,11 @@ fn put_line(
     em: u32,
     width: &[u32],
     rwidth: &[u32],
+    lwidth: &[u32],
     base: &mut [u32],
     ruby: &mut [u32],
-)
-    requires { ⌜ LineReady (sheet em (now t) (now width) (now rwidth)) s e (now base) (now ruby) ⌝ }
-    ensures { λ _. let u = now (t .entry) in let g = sheet em u (now (width .entry)) (now (rwidth .entry)) in ⌜ (now (base .exit) ≡ sets (now (base .entry)) s (baseOf g s e)) × (now (ruby .exit) ≡ sets (now (ruby .entry)) (cellAt u s .ruby) (rubyOf g s e)) ⌝ }
-{
+    left: &mut [u32],
+) {
     let mut i = s;
     let mut st = line::START;
     while i < e {
@@ -112,9 +145,14 @@ fn put_line(
         let c = fewer(e, end);
         let step = cells::advance(t, i, c, em, st);
         let w = step.word;
-        if w.ruby {
+        let over = w.right;
+        if over.there {
             put_base(w, step.at, i, c, width, base);
-            put_ruby(t, i, c, em, w, step.at, rwidth, ruby);
+            put_reading(t, i, c, line::Side::Right, em, over, step.at, rwidth, ruby);
+            let under = w.left;
+            if under.there {
+                put_reading(t, i, c, line::Side::Left, em, under, step.at, lwidth, left);
+            }
         } else {
             base[i] = step.at;
         }
@@ -131,17 +169,16 @@ pub fn put_lines(
     em: u32,
     width: &[u32],
     rwidth: &[u32],
+    lwidth: &[u32],
     base: &mut [u32],
     ruby: &mut [u32],
-)
-    requires { ⌜ LinesReady (sheet em (now t) (now width) (now rwidth)) n (now ends) (now base) (now ruby) ⌝ }
-    ensures { λ _. let g = sheet em (now (t .entry)) (now (width .entry)) (now (rwidth .entry)) in let es = take n (now (ends .entry)) in ⌜ (now (base .exit) ≡ over (byLine (baseOf g) 0 es) (now (base .entry))) × (now (ruby .exit) ≡ over (byLine (rubyOf g) 0 es) (now (ruby .entry))) ⌝ }
-{
+    left: &mut [u32],
+) {
     let mut s: usize = 0;
     let mut l: usize = 0;
     while l < n {
         let e = ends[l] as usize;
-        put_line(t, s, e, em, width, rwidth, base, ruby);
+        put_line(t, s, e, em, width, rwidth, lwidth, base, ruby, left);
         s = e;
         l += 1;
     }

@@ -1,81 +1,84 @@
--- Three kinds of row, and each one's word set after the line so far: a part of a J, a word with ruby, a P.
+-- A word in its row, a word that is found out, and a P: each is the piece that a line sees there.
+use mathlib.Core.Path.{_≡_, sym, ap, _∙_}
+use mathlib.Core.Bool.{true, false}
 use borrow.Author.Needs.{needs}
-use mathlib.Core.Path.{_≡_, sym, ap, _∙_, subst}
-use mathlib.Core.Bool.{Bool, true, false, cond}
-use mathlib.Core.List.{List}
-use Prim.Native.Nat.{ℕ, _+_, _≤_}
-use native.Mathlib.Omega.{arith}
-use Rattle.line.specs.declared.State.{State}
-use Rattle.line.specs.Setting.{furthest, total}
-use Rattle.cells.specs.Cells.{cellAt, elementOf, stepOf, stepAt, Advances}
-use Rattle.cells.specs.Sound.{cut-word, whole-word, fits}
+use Rattle.word.specs.declared.Word.{Word}
+use Rattle.cells.specs.Cells.{cellAt, hasRuby, leftsAt, stepOf}
+use Rattle.cells.specs.Sound.{in-row, flat-fits, flat-step, row-fits, row-step, plain-fits, plain-word}
 use Rattle.cells.proofs.advance.Statement.{statement}
 use Rattle.cells.proofs.advance.Tie as tie
 
--- a word without ruby is no longer than its block
-plain-fits : (em : ℕ) (t : List ℕ) (st : State) (i c : ℕ) → Advances em t st i c → cellAt t i .cut ≡ false → furthest st + cellAt t i .word .len ≤ 4294967295
-plain-fits em t st i c a e = go (subst (λ w. furthest st + total (elementOf w (cellAt t i .before) (cellAt t i .after)) ≤ 4294967295) (whole-word em t i c e) (fits em t st i c a))
-  where
-    go : furthest st + total (elementOf (cellAt t i .word) (cellAt t i .before) (cellAt t i .after)) ≤ 4294967295 → furthest st + cellAt t i .word .len ≤ 4294967295
-    go h = omega arith
+-- what the tests tell
+ruby : (c : tie.Then1) → let x = c .before .before .before .args in hasRuby (cellAt (x .t .now) (x .i)) ≡ true
+ruby c = sym (c .before .has-ruby .ensures) ∙ c .if1 .taken
 
-cell-at-requires : tie.Need-cell-at-requires
-cell-at-requires c κs = search needs
+none : (c : tie.Else1) → let x = c .before .before .before .args in hasRuby (cellAt (x .t .now) (x .i)) ≡ false
+none c = sym (c .before .has-ruby .ensures) ∙ c .if1 .left
 
-part-upto-requires : tie.Need-part-upto-requires
-part-upto-requires c κs = let a = c .before .before .before in a .pre .cuts (ap (λ r. r .cut) (sym (c .before .cell-at .ensures)) ∙ c .if1 .taken)
+row : (c : tie.Then2) → let x = c .before .before .before .before .before .args in (cellAt (x .t .now) (x .i) .cut ≡ false) × (leftsAt (x .t .now) ≡ 0)
+row c = let x = c .before .before .before .before .before .args in in-row (x .t .now) (x .i) (sym (c .before .in-row .ensures) ∙ c .if2 .taken)
 
-step-of-requires : tie.Need-step-of-requires
-step-of-requires c κs =
-    let a = c .before .before .before .before in
+has-ruby-requires : tie.Need-has-ruby-requires
+has-ruby-requires c κs = search needs
+
+in-row-requires : tie.Need-in-row-requires
+in-row-requires c κs = search needs
+
+right-at-requires : tie.Need-right-at-requires
+right-at-requires c κs =
+    let h = c .before .before in
+    let a = h .before .before .before in
     let x = a .args in
-    let cell = c .before .before .cell-at .ensures in
-    let cut = ap (λ r. r .cut) (sym cell) ∙ c .before .if1 .taken in
-    rw (c .part-upto .ensures, ← cut-word (x .em) (x .t .now) (x .i) (x .c) cut) (fits (x .em) (x .t .now) (x .st) (x .i) (x .c) (a .pre))
+    (a .pre .held, row c .1, row-fits (x .em) (x .t .now) (x .st) (x .i) (x .c) (a .pre) (ruby h) (row c .0))
 
 returns : tie.Need-returns
 returns c =
-    let x = c .before .before .before .before .before .args in
-    let cell = c .before .before .before .cell-at .ensures in
-    let cut = ap (λ r. r .cut) (sym cell) ∙ c .before .before .if1 .taken in
-    c .step-of .ensures ∙ rw (c .before .part-upto .ensures, cell, cut-word (x .em) (x .t .now) (x .i) (x .c) cut)
-
-step-of-requires-2 : tie.Need-step-of-requires-2
-step-of-requires-2 c κs =
-    let e = c .before .before .before in
-    let a = e .before .before .before in
+    let h = c .before .before .before in
+    let a = h .before .before .before in
     let x = a .args in
-    let cell = e .before .cell-at .ensures in
-    let cut = ap (λ r. r .cut) (sym cell) ∙ e .if1 .left in
-    subst (λ w. furthest (x .st) + total (elementOf w (cellAt (x .t .now) (x .i) .before) (cellAt (x .t .now) (x .i) .after)) ≤ 4294967295)
-    (whole-word (x .em) (x .t .now) (x .i) (x .c) cut ∙ sym (ap (λ r. r .word) cell)) (fits (x .em) (x .t .now) (x .st) (x .i) (x .c) (a .pre))
+    c .right-at .ensures ∙ row-step (x .em) (x .t .now) (x .st) (x .i) (x .c) (a .pre) (ruby h) (row (c .before) .0)
+
+word-upto-requires : tie.Need-word-upto-requires
+word-upto-requires c κs = let a = c .before .before .before .before .before in (a .pre .held, a .pre .cuts)
+
+step-of-requires : tie.Need-step-of-requires
+step-of-requires c κs =
+    let h = c .before .before .before in
+    let a = h .before .before .before in
+    let x = a .args in
+    rw (c .word-upto .ensures) (flat-fits (x .em) (x .t .now) (x .st) (x .i) (x .c) (a .pre) (ruby h))
 
 returns-2 : tie.Need-returns-2
 returns-2 c =
-    let e = c .before .before .before .before in
-    let x = e .before .before .before .args in
-    let cell = e .before .cell-at .ensures in
-    let cut = ap (λ r. r .cut) (sym cell) ∙ e .if1 .left in
-    c .step-of2 .ensures ∙ rw (cell, whole-word (x .em) (x .t .now) (x .i) (x .c) cut)
-
-plain-step-requires : tie.Need-plain-step-requires
-plain-step-requires c κs =
-    let e = c .before .before .before in
-    let a = e .before .before .before in
+    let h = c .before .before .before .before in
+    let a = h .before .before .before in
     let x = a .args in
-    let cell = e .before .cell-at .ensures in
-    let cut = ap (λ r. r .cut) (sym cell) ∙ e .if1 .left in
-    let ruby = ap (λ r. r .word .right .there) (sym cell) ∙ c .if2 .left in
-    let plain = a .pre .plain ruby cut in
-    rw cell (ruby, plain .left, plain .front, plain .before, plain-fits (x .em) (x .t .now) (x .st) (x .i) (x .c) (a .pre) cut)
+    c .step-of .ensures ∙ rw (c .before .word-upto .ensures) (flat-step (x .em) (x .t .now) (x .st) (x .i) (x .c) (a .pre) (ruby h))
+
+plain-at-requires : tie.Need-plain-at-requires
+plain-at-requires c κs =
+    let a = c .before .before .before in
+    let x = a .args in
+    (a .pre .held, a .pre .plain (none c), plain-fits (x .em) (x .t .now) (x .st) (x .i) (x .c) (a .pre) (none c))
 
 returns-3 : tie.Need-returns-3
 returns-3 c =
-    let e = c .before .before .before .before in
-    let x = e .before .before .before .args in
-    let cell = e .before .cell-at .ensures in
-    let cut = ap (λ r. r .cut) (sym cell) ∙ e .if1 .left in
-    c .plain-step .ensures ∙ rw (cell, whole-word (x .em) (x .t .now) (x .i) (x .c) cut)
+    let e = c .before in
+    let a = e .before .before .before in
+    let x = a .args in
+    let r = cellAt (x .t .now) (x .i) in
+    c .plain-at .ensures ∙ ap (λ (w : Word). stepOf w (r .before) (r .after) (x .st)) (plain-word (x .em) (x .t .now) (x .st) (x .i) (x .c) (a .pre) (none e))
 
 pub advance-spec : {M : Type 1} → statement M
-advance-spec = tie.close (tie.spec cell-at-requires part-upto-requires step-of-requires returns step-of-requires-2 returns-2 plain-step-requires returns-3)
+advance-spec =
+    tie.close
+    (tie.spec
+    has-ruby-requires
+    in-row-requires
+    right-at-requires
+    returns
+    word-upto-requires
+    step-of-requires
+    returns-2
+    plain-at-requires
+    returns-3)
