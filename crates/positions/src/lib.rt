@@ -1,18 +1,19 @@
 // Where the characters of the lines stand (document 01, "Refusal list": "a position for each base character, one for each ruby character, and for each line
-// the count of base characters up to its end"), by the rows of the job's table: piece by piece its place in the line, and its characters from there on. Beside the
-// table only the widths of the characters are read. It relies on `cells` for rows and pieces, on `spread` for the characters of a string, and on `line`.
+// the count of base characters up to its end"; of R-5 one for each left character too), by the rows of the job's table: piece by piece its place in the line, and its
+// characters from there on. The readings of both sides are written by one function. Beside the table only the widths of the characters are read. It relies on `cells`
+// for rows and pieces, on `spread` for the characters of a string, and on `line`.
 ghost use mathlib.Core.Path.{_≡_};
-ghost use mathlib.Core.Bool.{true};
 ghost use Prim.Native.Nat.{_+_, _-_, _*_, _≤_, _<_, min};
 ghost use lib.ListN.{length, take};
 ghost use lib.Seq.{sets};
 ghost use Rattle.spread.specs.Gap.{starts};
 ghost use Rattle.word.specs.Word.{baseStarts};
-ghost use Rattle.cells.specs.Cells.{size, cellAt};
-ghost use Rattle.positions.specs.Positions.{sheet, lent, over, rubyEnd, runsPut, rubyBy, baseOf, rubyOf, byLine};
+ghost use Rattle.line.specs.declared.Side.the-variants.{Right, Left};
+ghost use Rattle.cells.specs.Cells.{size};
+ghost use Rattle.positions.specs.Positions.{sheet, lent, over, first, readingEnd, runsPut, readingBy, baseOf, rubyOf, leftOf, byLine};
 ghost use Rattle.positions.specs.Ready.{StringReady, LineReady, LinesReady};
 ghost use Rattle.positions.specs.Runs.{RunsReady};
-ghost use Rattle.positions.specs.Piece.{RubyReady};
+ghost use Rattle.positions.specs.Piece.{ReadingReady};
 
 // The starts of the characters a up to e, the first of them at `at`, with `within` half units of space within the string.
 fn put_string(at: u32, within: u32, a: usize, e: usize, ws: &[u32], out: &mut [u32])
@@ -28,30 +29,6 @@ fn put_base(w: word::Word, at: u32, i: usize, c: usize, width: &[u32], base: &mu
     ensures { λ _. ⌜ now (base .exit) ≡ sets (now (base .entry)) i (baseStarts w at (lent (now (width .entry)) i c)) ⌝ }
 {
     put_string(at + w.front, w.inbase, i, c, width, base);
-}
-
-// What a row says of the characters of one side: the first of them, how many, and the width of its own run.
-struct Share {
-    first: usize,
-    many: usize,
-    own: u32,
-}
-
-fn share_of(a: cells::Cell, side: line::Side) -> Share
-    ensures { λ r. ⌜ r ≡ shareOf side a ⌝ }
-{
-    match side {
-        line::Side::Right => Share {
-            first: a.ruby as usize,
-            many: a.rubies as usize,
-            own: a.own,
-        },
-        line::Side::Left => Share {
-            first: a.left as usize,
-            many: a.lefts as usize,
-            own: a.ownleft,
-        },
-    }
 }
 
 // One side's runs of a J from i up to c, each solid over its own character of one em, the first of which starts at `at`.
@@ -71,10 +48,10 @@ fn put_runs(
     let mut x = at;
     let mut k = i;
     while k < c {
-        let s = share_of(cells::cell_at(t, k), side);
-        let r = s.first;
-        let e = r + s.many;
-        put_string(x + (em - s.own), 0, r, e, ws, out);
+        let own = cells::share_at(t, k, side);
+        let r = own.first as usize;
+        let e = r + own.many as usize;
+        put_string(x + (em - own.own), 0, r, e, ws, out);
         x += 2 * em;
         k += 1;
     }
@@ -87,14 +64,14 @@ pub fn reading_upto(t: &[u32], i: usize, c: usize, side: line::Side) -> usize
 {
     let a = cells::cell_at(t, i);
     if a.cut {
-        let z = share_of(cells::cell_at(t, c - 1), side);
-        return z.first + z.many;
+        let z = cells::share_at(t, c - 1, side);
+        return z.first as usize + z.many as usize;
     }
-    let s = share_of(a, side);
-    s.first + s.many
+    let s = cells::share_at(t, i, side);
+    s.first as usize + s.many as usize
 }
 
-// The reading v on one side of the piece from i up to c, the origin of its word at `at`.
+// The reading v on one side of the piece from i up to c, where it has one, the origin of its word at `at`.
 fn put_reading(
     t: &[u32],
     i: usize,
@@ -109,13 +86,16 @@ fn put_reading(
     requires { ⌜ ReadingReady side em (now t) i c v at (now ws) (now out) ⌝ }
     ensures { λ _. let u = now (t .entry) in ⌜ now (out .exit) ≡ sets (now (out .entry)) (first side u i) (readingBy side em u (now (ws .entry)) v i c at) ⌝ }
 {
-    if v.runs {
-        put_runs(t, i, c, side, em, at, ws, out);
-        return;
+    if v.there {
+        if v.runs {
+            put_runs(t, i, c, side, em, at, ws, out);
+            return;
+        }
+        let s = cells::share_at(t, i, side);
+        let r = s.first as usize;
+        let e = reading_upto(t, i, c, side);
+        put_string(at + v.from, v.within, r, e, ws, out);
     }
-    let s = share_of(cells::cell_at(t, i), side);
-    let e = reading_upto(t, i, c, side);
-    put_string(at + v.from, v.within, s.first, e, ws, out);
 }
 
 fn fewer(a: usize, b: usize) -> usize
@@ -136,7 +116,10 @@ fn put_line(
     base: &mut [u32],
     ruby: &mut [u32],
     left: &mut [u32],
-) {
+)
+    requires { ⌜ LineReady (sheet em (now t) (now width) (now rwidth) (now lwidth)) s e (now base) (now ruby) (now left) ⌝ }
+    ensures { λ _. let u = now (t .entry) in let g = sheet em u (now (width .entry)) (now (rwidth .entry)) (now (lwidth .entry)) in ⌜ (now (base .exit) ≡ sets (now (base .entry)) s (baseOf g s e)) × (now (ruby .exit) ≡ sets (now (ruby .entry)) (first Right u s) (rubyOf g s e)) × (now (left .exit) ≡ sets (now (left .entry)) (first Left u s) (leftOf g s e)) ⌝ }
+{
     let mut i = s;
     let mut st = line::START;
     while i < e {
@@ -148,11 +131,9 @@ fn put_line(
         let over = w.right;
         if over.there {
             put_base(w, step.at, i, c, width, base);
-            put_reading(t, i, c, line::Side::Right, em, over, step.at, rwidth, ruby);
             let under = w.left;
-            if under.there {
-                put_reading(t, i, c, line::Side::Left, em, under, step.at, lwidth, left);
-            }
+            put_reading(t, i, c, line::Side::Right, em, over, step.at, rwidth, ruby);
+            put_reading(t, i, c, line::Side::Left, em, under, step.at, lwidth, left);
         } else {
             base[i] = step.at;
         }
@@ -173,7 +154,10 @@ pub fn put_lines(
     base: &mut [u32],
     ruby: &mut [u32],
     left: &mut [u32],
-) {
+)
+    requires { ⌜ LinesReady (sheet em (now t) (now width) (now rwidth) (now lwidth)) n (now ends) (now base) (now ruby) (now left) ⌝ }
+    ensures { λ _. let g = sheet em (now (t .entry)) (now (width .entry)) (now (rwidth .entry)) (now (lwidth .entry)) in let es = take n (now (ends .entry)) in ⌜ (now (base .exit) ≡ over (byLine (baseOf g) 0 es) (now (base .entry))) × (now (ruby .exit) ≡ over (byLine (rubyOf g) 0 es) (now (ruby .entry))) × (now (left .exit) ≡ over (byLine (leftOf g) 0 es) (now (left .entry))) ⌝ }
+{
     let mut s: usize = 0;
     let mut l: usize = 0;
     while l < n {
