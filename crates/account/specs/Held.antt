@@ -1,5 +1,5 @@
 -- In a line that is set something holds each element: its origin is the largest of a few lower bounds, and so one of them is met.
-use mathlib.Core.Path.{_≡_, refl, sym, subst, _∙_}
+use mathlib.Core.Path.{_≡_, refl, sym, _∙_}
 use mathlib.Core.Bool.{Bool, true, false, cond}
 use mathlib.Core.List.{List}
 use mathlib.Core.Logic.{_⊎_, inl, inr}
@@ -11,10 +11,9 @@ use lib.Dec.{T}
 use Rattle.line.specs.declared.Element.{Element}
 use Rattle.line.specs.declared.Side.the-variants as side
 use Rattle.line.specs.declared.State.{State}
-use Rattle.line.specs.Rules.{HasRuby, el, org, blockAt, Flush, Sounds}
-use Rattle.line.specs.Setting.{rubyFrom, rubyUpto, start, Near, asks, origin, settle, after}
+use Rattle.line.specs.Rules.{HasRuby, el, org, blockAt, rubyAt, Flush, Sounds}
+use Rattle.line.specs.Setting.{rubyFrom, start, Near, asks, origin, settle, after}
 use Rattle.line.specs.Least.{settle-origin, settle-follows}
-use Rattle.line.specs.Pairs.{ordered}
 use Rattle.line.specs.OneSide.{one-origin, idle-after}
 use Rattle.line.specs.Theorems.{keeps}
 use Rattle.account.specs.declared.Reason.{Reason}
@@ -69,21 +68,25 @@ flag true = with tt (λ u v. refl)
 flag false = without (λ u v. refl)
 
 -- the furthest end of the rubies so far is that of one of them
-attained : (es : List Element) (xs : List ℕ) (n : ℕ) →
-    (after start es xs n .right ≡ 0) ⊎ ((k : ℕ) × (k < n) × (org xs k + rubyUpto side.Right (el es k) ≡ after start es xs n .right))
+abbrev Attained : List Element → List ℕ → ℕ → ℕ → Type 0
+Attained es xs n z = (z ≡ 0) ⊎ ((k : ℕ) × (k < n) × HasRuby side.Right (el es k) × (rubyAt side.Right es xs k .end ≡ z))
+
+attained : (es : List Element) (xs : List ℕ) (n : ℕ) → Attained es xs n (after start es xs n .right)
 unfolding after
 attained es xs zero = inl refl
-attained es xs (suc n) = go (half _ _ _ refl) (attained es xs n)
+attained es xs (suc n) = go (half _ _ _ refl) (attained es xs n) (flag (el es n .right .there))
   where
-    z : ℕ
-    z = max (after start es xs n .right) (org xs n + rubyUpto side.Right (el es n))
+    last : ℕ
+    last = cond (el es n .right .there) (rubyAt side.Right es xs n .end) 0
 
-    go : (z ≡ after start es xs n .right) ⊎ (z ≡ org xs n + rubyUpto side.Right (el es n)) →
-        (after start es xs n .right ≡ 0) ⊎ ((k : ℕ) × (k < n) × (org xs k + rubyUpto side.Right (el es k) ≡ after start es xs n .right)) →
-        (z ≡ 0) ⊎ ((k : ℕ) × (k < suc n) × (org xs k + rubyUpto side.Right (el es k) ≡ z))
-    go (inr h) q = inr (n, omega arith, sym h)
-    go (inl h) (inl q) = inl (h ∙ q)
-    go (inl h) (inr (k, l, q)) = inr (k, omega arith, q ∙ sym h)
+    z : ℕ
+    z = max (after start es xs n .right) last
+
+    go : (z ≡ after start es xs n .right) ⊎ (z ≡ last) → Attained es xs n (after start es xs n .right) → Flag (el es n .right .there) → Attained es xs (suc n) z
+    go (inl h) (inl q) f = inl (h ∙ q)
+    go (inl h) (inr (k, l, t, q)) f = inr (k, omega arith, t, q ∙ sym h)
+    go (inr h) q (with t c) = inr (n, omega arith, t, sym (h ∙ c (rubyAt side.Right es xs n .end) 0))
+    go (inr h) q (without c) = inl (h ∙ c (rubyAt side.Right es xs n .end) 0)
 
 -- some reason holds of the element with the number i
 abbrev pub Held : List Element → List ℕ → ℕ → Type 0
@@ -122,10 +125,13 @@ module _ (es : List Element) (s : Sounds es) (only : RightOnly es) where
     unfolding after
     by-under q = go (flag (el es j .right .there)) (half _ _ _ refl)
       where
-        go : Flag (el es j .right .there) → (after start es xs i .right ≡ after start es xs j .right) ⊎ (after start es xs i .right ≡ org xs j + rubyUpto side.Right (el es j)) → Held es xs i
+        last : ℕ
+        last = cond (el es j .right .there) (rubyAt side.Right es xs j .end) 0
+
+        go : Flag (el es j .right .there) → (after start es xs i .right ≡ after start es xs j .right) ⊎ (after start es xs i .right ≡ last) → Held es xs i
         go f (inl m) = (Block j, (refl, omega (arith, past, settle-follows es .near j (omega arith) side.Right .under, s j (omega arith) .before)), omega arith)
-        go (with t c) (inr m) = (Under j (e .before), (refl, t, refl, omega (arith, c (el es j .right .upto) (el es j .front))), omega arith)
-        go (without c) (inr m) = absurd (omega (arith, c (el es j .right .upto) (el es j .front), past, s j (omega arith) .some))
+        go (with t c) (inr m) = (Under j (e .before), (refl, t, refl, omega (arith, c (rubyAt side.Right es xs j .end) 0)), omega arith)
+        go (without c) (inr m) = absurd (omega (arith, c (rubyAt side.Right es xs j .end) 0, past, s j (omega arith) .some))
 
     by-over : blockAt es xs j .end ≡ x + rubyFrom side.Right e + el es j .after → Held es xs i
     by-over q = go (flag (e .right .there))
@@ -134,31 +140,14 @@ module _ (es : List Element) (s : Sounds es) (only : RightOnly es) where
         go (with t c) = (Over j (el es j .after), (refl, t, refl, omega (arith, c (e .right .from) (e .front + e .len))), omega arith)
         go (without c) = absurd (omega (arith, c (e .right .from) (e .front + e .len), past, s i h .some))
 
-    -- Its ruby starts where the furthest ends. That is ruby, or the start of a block without any, on which it then lies as deep as it may.
+    -- its ruby starts where the furthest ends
     by-clear : after start es xs i .right ≡ x + rubyFrom side.Right e → Held es xs i
-    unfolding after
     by-clear q = go (flag (e .right .there)) (attained es xs i)
       where
-        plain : (k : ℕ) → k < i → org xs k + el es k .front ≡ x + rubyFrom side.Right e → Held es xs i
-        plain k l m =
-            elim (decLt k j) [
-              | yes w ↦ absurd (omega (arith, ordered es xs (keeps es s .blocks) k j w (omega arith), near .over, s j (omega arith) .after, s k (omega arith) .some))
-              | no w ↦ by-over (same k w l m)
-            ]
-          where
-            same : (k : ℕ) → (k < j → ⊥) → k < i → org xs k + el es k .front ≡ x + rubyFrom side.Right e → blockAt es xs j .end ≡ x + rubyFrom side.Right e + el es j .after
-            same k w l m =
-                let p : org xs j + el es j .front ≡ x + rubyFrom side.Right e = subst (λ a. org xs a + el es a .front ≡ x + rubyFrom side.Right e) (omega arith) m in
-                omega (arith, near .over, s j (omega arith) .after)
-
-        touch : T (e .right .there) → rubyFrom side.Right e ≡ e .right .from → (k : ℕ) → k < i → org xs k + rubyUpto side.Right (el es k) ≡ x + rubyFrom side.Right e → Flag (el es k .right .there) → Held es xs i
-        touch t c k l m (with w d) = (Ruby k, (l, w, t, omega (arith, d (el es k .right .upto) (el es k .front))), omega arith)
-        touch t c k l m (without d) = plain k l (omega (arith, d (el es k .right .upto) (el es k .front)))
-
-        go : Flag (e .right .there) → (after start es xs i .right ≡ 0) ⊎ ((k : ℕ) × (k < i) × (org xs k + rubyUpto side.Right (el es k) ≡ after start es xs i .right)) → Held es xs i
+        go : Flag (e .right .there) → Attained es xs i (after start es xs i .right) → Held es xs i
         go (without c) a = by-under (omega (arith, c (e .right .from) (e .front + e .len), near .under, s i h .before))
         go (with t c) (inl z) = (Edge, (t, omega (arith, c (e .right .from) (e .front + e .len))), omega arith)
-        go (with t c) (inr (k, l, m)) = touch t (c (e .right .from) (e .front + e .len)) k l (m ∙ q) (flag (el es k .right .there))
+        go (with t c) (inr (k, l, w, m)) = (Ruby k, (l, w, t, omega (arith, c (e .right .from) (e .front + e .len))), omega arith)
 
     next : Held es xs i
     unfolding after

@@ -1,13 +1,11 @@
 -- The rules say that stretches keep off each other and not on which side. Rule 1 and the shapes of the elements settle it: ruby lies within its
 -- block or around it, so what stands behind stays behind.
-use mathlib.Core.Path.{_≡_, subst⁻¹}
+use mathlib.Core.Path.{_≡_}
 use mathlib.Core.List.{List}
 use mathlib.Core.Logic.{_⊎_, inl, inr}
-use Prim.Native.Nat.{ℕ, zero, suc, _+_, _-_, _≤_, _<_}
+use Prim.Native.Nat.{ℕ, suc, _+_, _-_, _≤_, _<_}
 use native.Mathlib.Omega.{arith}
-use native.Mathlib.Decide.{decLt}
 use lib.ListN.{length}
-use lib.Dec.{T}
 use Rattle.line.specs.declared.Element.{Element}
 use Rattle.line.specs.declared.Side.the-variants as side
 use Rattle.line.specs.Rules.{Span, Off, blockOf, rubyOf, HasRuby, Shape, Sound}

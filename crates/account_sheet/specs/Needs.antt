@@ -22,7 +22,7 @@ use Rattle.account_sheet.specs.Answer.{Lacks}
 
 module _ {job : Job} {s : ℕ} (q : Lacks job s) where
   -- what the layout asks for
-  pub layout-ready : (t : List ℕ) → 19462 ≤ length t → Ready (unmeasured job) t
+  pub layout-ready : (t : List ℕ) → 19463 ≤ length t → Ready (unmeasured job) t
   unfolding baseCount rubyCount elementCount
   layout-ready t h =
       let p = q .passed in

@@ -36,7 +36,7 @@ fn write_declined(
     if refusal::number(why) != 11 {
         return at;
     }
-    let mut t = [0; 19462];
+    let mut t = [0; 19463];
     match layout::layout(
         &mut t,
         em,

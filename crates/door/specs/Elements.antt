@@ -1,10 +1,10 @@
 -- The rows of the elements as the door walks along them: the counts of one element (5), what it takes (6), and level one's own answer (7 to 10).
-use mathlib.Core.Path.{_≡_, refl, ap, _∙_}
-use mathlib.Core.Bool.{Bool, true, false, cond, _||_, false≢true, true≢false}
+use mathlib.Core.Path.{_≡_, refl}
+use mathlib.Core.Bool.{Bool, true, false, cond, _||_}
 use mathlib.Core.List.{List, [], _∷_, _++_}
-use Prim.Native.Nat.{ℕ, _+_, _-_, _≤_}
+use Prim.Native.Nat.{ℕ, _+_, _≤_}
 use lib.Dec.{ltb}
-use lib.ListN.{length, take, drop}
+use lib.ListN.{length}
 use Rattle.basics.specs.Lists.{sum}
 use Rattle.spread.specs.Ratio.{Ratios}
 use Rattle.refusal.specs.declared.Refusal.{Refusal}
@@ -12,7 +12,7 @@ use Rattle.refusal.specs.declared.Refusal.the-variants.{Element, Supply, BlankI
 use Rattle.word.specs.declared.Form.{Form}
 use Rattle.word.specs.declared.Form.the-variants.{P, M, G, J}
 use Rattle.word.specs.declared.Answer.the-variants as word
-use Rattle.word.specs.Given.{Given, hasRuby, isJ}
+use Rattle.word.specs.Given.{Given}
 use Rattle.word.specs.Answer.{blankInside, jukugoBase, mixedIn, westernOver, answer}
 use Rattle.word.specs.Word.{wordOf}
 use Rattle.word.specs.Sized.{Sized}
@@ -22,7 +22,6 @@ use Rattle.door.specs.declared.Counted.the-variants.{Is, Out}
 use Rattle.door.specs.declared.Step.{Step}
 use Rattle.door.specs.declared.Step.the-variants.{Next, Stop}
 use Rattle.door.specs.Job.{Job, entries, known, formOf, takesBase, takesRuby, takesRuns, given}
-use Rattle.door.specs.Entries.{part-of}
 use Rattle.door.specs.Refusals.{_when_, countsOut, countsWrong}
 
 -- An element by its kind and counts, those before it having taken b, r and u.
@@ -87,76 +86,6 @@ pub record Reads (job : Job) (p : Piece) : Type 0 where
 pub own-reads : (job : Job) (p : Piece) → Reads job p → Reads (partsOnly (job .ratios) (job .em) (job .class) (job .width) (job .before) (job .after) (job .rubyClass) (job .rubyWidth) [] [] [] (job .run)) p
 own-reads job p h =
     record { class = h .class; width = h .width; before = h .before; after = h .after; rubyClass = h .rubyClass; rubyWidth = h .rubyWidth; run = h .run; sized = h .sized }
-
--- Level one is lent the parts of the lists that a piece takes. They are what it is given; the runs of a form that is no J are not read.
-abbrev pub lent : Job → Piece → Given
-lent job p =
-    record {
-      em = job .em;
-      ratios = job .ratios;
-      class = take (p .base + p .bases - p .base) (drop (p .base) (job .class));
-      width = take (p .base + p .bases - p .base) (drop (p .base) (job .width));
-      before = take (p .base + p .bases - p .base) (drop (p .base) (job .before));
-      after = take (p .base + p .bases - p .base) (drop (p .base) (job .after));
-      rubyClass = take (p .ruby + p .rubies - p .ruby) (drop (p .ruby) (job .rubyClass));
-      rubyWidth = take (p .ruby + p .rubies - p .ruby) (drop (p .ruby) (job .rubyWidth));
-      run = take (p .run + takesRuns (p .form) (p .bases) - p .run) (drop (p .run) (job .run));
-    }
-
-runs-unread : (form : Form) (k : ℕ) (job : Job) (p : Piece) → p .run + takesRuns form (p .bases) ≤ length (job .run) →
-    answer form k (record {
-      em = job .em;
-      ratios = job .ratios;
-      class = given job p .class;
-      width = given job p .width;
-      before = given job p .before;
-      after = given job p .after;
-      rubyClass = given job p .rubyClass;
-      rubyWidth = given job p .rubyWidth;
-      run = take (p .run + takesRuns form (p .bases) - p .run) (drop (p .run) (job .run));
-    })
-    ≡ answer form k (given job p)
-unfolding answer wordOf
-runs-unread P k job p h = refl
-runs-unread M k job p h = refl
-runs-unread G k job p h = refl
-runs-unread J k job p h = rw (part-of (job .run) (p .run) (p .bases) h)
-
-pub lent-answer : (k : ℕ) (job : Job) (p : Piece) → Reads job p → answer (p .form) k (lent job p) ≡ answer (p .form) k (given job p)
-lent-answer k job p h =
-    rw (
-      part-of (job .class) (p .base) (p .bases) (h .class),
-      part-of (job .width) (p .base) (p .bases) (h .width),
-      part-of (job .before) (p .base) (p .bases) (h .before),
-      part-of (job .after) (p .base) (p .bases) (h .after),
-      part-of (job .rubyClass) (p .ruby) (p .rubies) (h .rubyClass),
-      part-of (job .rubyWidth) (p .ruby) (p .rubies) (h .rubyWidth),
-    )
-    (runs-unread (p .form) k job p (h .run))
-
-sized-lent : (job : Job) (p : Piece) → p .base + p .bases ≤ length (job .width) → p .ruby + p .rubies ≤ length (job .rubyWidth) → p .run + takesRuns (p .form) (p .bases) ≤ length (job .run) →
-    Sized (p .form) (given job p .width) (given job p .rubyWidth) (given job p .run) → Sized (p .form) (lent job p .width) (lent job p .rubyWidth) (lent job p .run)
-sized-lent job p width ruby run sized =
-    rw (part-of (job .width) (p .base) (p .bases) width, part-of (job .rubyWidth) (p .ruby) (p .rubies) ruby)
-    (record {
-      some = sized .some;
-      few = sized .few;
-      narrow = sized .narrow;
-      reads = sized .reads;
-      fewRuby = sized .fewRuby;
-      narrowRuby = sized .narrowRuby;
-      whole = λ j. ap sum (runs-of (p .form) j run) ∙ sized .whole j;
-    })
-  where
-    runs-of : (form : Form) → isJ form ≡ true → p .run + takesRuns form (p .bases) ≤ length (job .run) →
-        take (p .run + takesRuns form (p .bases) - p .run) (drop (p .run) (job .run)) ≡ entries (job .run) (p .run) (p .bases)
-    runs-of P j k = absurd (false≢true j)
-    runs-of M j k = absurd (false≢true j)
-    runs-of G j k = absurd (false≢true j)
-    runs-of J j k = part-of (job .run) (p .run) (p .bases) k
-
-pub lent-sized : (job : Job) (p : Piece) → Reads job p → Sized (p .form) (lent job p .width) (lent job p .rubyWidth) (lent job p .run)
-lent-sized job p h = sized-lent job p (h .width) (h .rubyWidth) (h .run) (h .sized)
 
 -- level one's answer, by its rows
 pub by-rows : (form : Form) (k : ℕ) (w : Given) (p : Piece) (s : Step) →

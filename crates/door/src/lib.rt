@@ -11,15 +11,14 @@ ghost use lib.ListN.{length, getD};
 ghost use Rattle.basics.specs.Lists.{each, count};
 ghost use Rattle.spread.specs.Ratio.{ratioOf, ratiosOf, Housed};
 ghost use Rattle.class.specs.Class.{accepted, blankBefore, blankAfter};
-ghost use Rattle.door.specs.Job.{known, formOf, takesRuns, given, jobOf};
+ghost use Rattle.door.specs.Job.{known, formOf, takesRuns, jobOf};
 ghost use Rattle.door.specs.Refusals.{outside, ratioWrong, _when_, baseFaults, rubyFaults};
 ghost use Rattle.refusal.specs.declared.Refusal.the-variants.{Character};
 ghost use Rattle.door.specs.Verdict.{verdict};
 ghost use Rattle.door.specs.Values.{houseRows, sizeRows, characterWrong, baseRows, runsFrom, basesOnly, rubiesOnly, BaseHolds, RubyHolds};
 ghost use Rattle.word.specs.declared.Form.the-variants as form;
-ghost use Rattle.door.specs.Elements.{countedAs, countedBy, partsOnly, Reads};
+ghost use Rattle.door.specs.Elements.{countedAs, countedBy};
 ghost use Rattle.door.specs.Whole.{ahead};
-ghost use Rattle.word.specs.Answer.{answer};
 use refusal::Refusal;
 
 // The kinds of element, as their letters on the sheet.
@@ -476,45 +475,6 @@ pub fn runs_end(p: Piece) -> usize
         word::Form::G => p.run,
         word::Form::J => p.run + p.bases,
     }
-}
-
-// Level one's answer to a piece: the word of its own characters. `k` is the element's place.
-pub fn measure_piece(
-    k: u32,
-    p: Piece,
-    ratios: [[u32; 3]; 2],
-    em: u32,
-    class: &[u32],
-    width: &[u32],
-    before: &[u32],
-    after: &[u32],
-    rclass: &[u32],
-    rwidth: &[u32],
-    runs: &[u32],
-) -> word::Answer
-    requires { let job = partsOnly (ratiosOf ratios) em (now class) (now width) (now before) (now after) (now rclass) (now rwidth) [] [] [] (now runs) in ⌜ (p .run + p .bases < 2 ^ 40) × (p .ruby + p .rubies < 2 ^ 40) × (Reads job p) × (Housed (job .ratios)) ⌝ }
-    ensures { λ a. ⌜ a ≡ answer (p .form) k (given (partsOnly (ratiosOf ratios) em (now (class .entry)) (now (width .entry)) (now (before .entry)) (now (after .entry)) (now (rclass .entry)) (now (rwidth .entry)) [] [] [] (now (runs .entry))) p) ⌝ }
-{
-    let form = p.form;
-    let b = p.base;
-    let e = p.base + p.bases;
-    let r = p.ruby;
-    let s = p.ruby + p.rubies;
-    let u = p.run;
-    let v = runs_end(p);
-    word::measure(
-        form,
-        k,
-        ratios,
-        em,
-        &class[b..e],
-        &width[b..e],
-        &before[b..e],
-        &after[b..e],
-        &rclass[r..s],
-        &rwidth[r..s],
-        &runs[u..v],
-    )
 }
 
 // Characters that no element took.

@@ -168,7 +168,7 @@ pub fn set_job(
     ensures { λ r. ⌜ _≡_ {A = Outcome} (record { answer = r; base = now (base .exit); ruby = now (ruby .exit); lines = now (lines .exit) }) (outcome (jobOf em measure ratios profile (now (class .entry)) (now (width .entry)) (now (before .entry)) (now (after .entry)) (now (flag .entry)) (now (rclass .entry)) (now (rwidth .entry)) (now (kind .entry)) (now (ebase .entry)) (now (eruby .entry)) (now (runs .entry))) (now (base .entry)) (now (ruby .entry)) (now (lines .entry))) ⌝ }
 {
     if door::base_count(class, width, before, after, flag) <= 128 {
-        let mut t = [0; 2438];
+        let mut t = [0; 2439];
         let mut ends = [0; 128];
         let mut extents = [0; 128];
         return set_table(
@@ -195,7 +195,7 @@ pub fn set_job(
             lines,
         );
     }
-    let mut t = [0; 19462];
+    let mut t = [0; 19463];
     let mut ends = [0; 1024];
     let mut extents = [0; 1024];
     set_table(

@@ -313,3 +313,12 @@ module _ (em limit : ℕ) (t : List ℕ) (i : ℕ) (st : State) (last : Break) (
   pub behind-last : (leb extent limit && cellAt t i .ends) ≡ false → cellAt t i .cut ≡ false → last ≡ behind em limit t i st last extent
   unfolding behind
   behind-last e f = rw (e, f)
+
+  pub behind-whole : leb extent limit ≡ true → cellAt t i .cut ≡ false →
+      cond (cellAt t i .ends) (record { at = i + cellAt t i .bases; extent = extent }) last ≡ behind em limit t i st last extent
+  unfolding behind
+  behind-whole e f = rw (e, f)
+
+  pub behind-none : leb extent limit ≡ false → cellAt t i .cut ≡ false → last ≡ behind em limit t i st last extent
+  unfolding behind
+  behind-none e f = rw (e, f)

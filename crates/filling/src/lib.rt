@@ -3,7 +3,7 @@
 // what stands in a longer line stands there too, and never at a failed part of a J. It relies on `cells` for rows, parts and states, on `line`,
 // `refusal` and `basics`.
 ghost use mathlib.Core.Path.{_≡_};
-ghost use mathlib.Core.Bool.{true};
+ghost use mathlib.Core.Bool.{true, cond};
 ghost use Prim.Native.Nat.{_+_, _-_, _*_, _/_, _≤_, _<_, min};
 ghost use lib.Dec.{leb};
 ghost use lib.ListN.{length};
@@ -96,7 +96,18 @@ fn break_behind(
     last
 }
 
-// Where the line from s ends: the furthest permitted break whose line can be set.
+// The same of a piece that is not cut: its end `c`, where a line may end there, or `last`.
+fn break_whole(ends: bool, c: usize, last: Break, extent: u32) -> Break
+    ensures { λ r. ⌜ r ≡ cond ends (record { at = c; extent = extent }) last ⌝ }
+{
+    if ends {
+        return Break { at: c, extent };
+    }
+    last
+}
+
+// Where the line from s ends: the furthest permitted break whose line can be set. A J gets copies of the state and of the last break: what goes to a function that
+// is not put into the loop lies in memory, and so would the state of every line.
 fn line_end(t: &[u32], n: usize, s: usize, em: u32, limit: u32) -> Break
     requires { ⌜ (Sound em (now t) n) × (s < n) ⌝ }
     ensures { λ r. ⌜ r ≡ endBreak em limit (now (t .entry)) n s ⌝ }
@@ -107,13 +118,26 @@ fn line_end(t: &[u32], n: usize, s: usize, em: u32, limit: u32) -> Break
     while i < n {
         let a = cells::cell_at(t, i);
         let c = i + a.bases as usize;
-        let step = cells::advance(t, i, c, em, st);
-        let extent = extent_of(step.st);
-        last = break_behind(t, n, i, st, last, extent, em, limit);
-        if limit < extent {
-            return last;
+        if a.cut {
+            let here = st;
+            let kept = last;
+            let step = cells::advance_cut(t, i, c, em, here);
+            let extent = extent_of(step.st);
+            let found = break_behind(t, n, i, here, kept, extent, em, limit);
+            if limit < extent {
+                return found;
+            }
+            last = found;
+            st = step.st;
+        } else {
+            let step = cells::advance(t, i, c, em, st);
+            let extent = extent_of(step.st);
+            if limit < extent {
+                return last;
+            }
+            last = break_whole(a.ends, c, last, extent);
+            st = step.st;
         }
-        st = step.st;
         i = c;
     }
     Break {

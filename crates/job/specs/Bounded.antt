@@ -14,6 +14,7 @@ use Rattle.basics.specs.Laws.{sum-append}
 use Rattle.word.specs.Given.{isJ}
 use Rattle.line.specs.Setting as setting
 use Rattle.line.specs.Bound as bound
+use Rattle.word.specs.Word as word
 use Rattle.door.specs.declared.Piece.{Piece}
 use Rattle.door.specs.Job.{Job, baseCount, rubyCount, elementCount, elements}
 use Rattle.door.specs.Passed.{GoodElement, Tiled, Passed}
@@ -46,13 +47,15 @@ few-pieces job s e = omega (arith, each-few job s e (elements job), length-eleme
 
 -- No piece is longer than a word may be, nor than its characters together.
 
-piece-within : (job : Job) (p : Piece) (m : ℕ) → max (wordOf job p .front + wordOf job p .len) (wordOf job p .upto) ≤ m → setting.total (seen job p) ≤ m
+piece-within : (job : Job) (p : Piece) (m : ℕ) → word.total (wordOf job p) ≤ m → setting.total (seen job p) ≤ m
 unfolding seen
-piece-within job p m = go (wordOf job p .ruby) (wordOf job p .front + wordOf job p .len) (wordOf job p .upto)
+piece-within job p m = go (wordOf job p .right .there) (wordOf job p .left .there) (wordOf job p .front + wordOf job p .len) (wordOf job p .right .upto) (wordOf job p .left .upto)
   where
-    go : (t : Bool) (a b : ℕ) → max a b ≤ m → max a (max (cond t b 0) 0) ≤ m
-    go true a b h = omega arith
-    go false a b h = omega arith
+    go : (t u : Bool) (a b c : ℕ) → max a (max b c) ≤ m → max a (max (cond t b 0) (cond u c 0)) ≤ m
+    go true true a b c h = omega arith
+    go true false a b c h = omega arith
+    go false true a b c h = omega arith
+    go false false a b c h = omega arith
 
 pub piece-short : (job : Job) (p : Piece) → GoodPiece job p → setting.total (seen job p) ≤ 524288
 piece-short job p g = piece-within job p 524288 (promise job p g .limit)

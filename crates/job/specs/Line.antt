@@ -11,12 +11,14 @@ use Rattle.class.specs.Class.{depthsBy}
 use Rattle.word.specs.declared.Form.{Form}
 use Rattle.word.specs.declared.Form.the-variants.{P, M, G, J}
 use Rattle.word.specs.declared.Word.{Word}
+use Rattle.word.specs.declared.Reading as word-reading
 use Rattle.word.specs.Given.{isJ}
 use Rattle.word.specs.Alone.{places}
 use Rattle.word.specs.Word as word
 use Rattle.word.specs.Part.{formOfPart}
 use Rattle.line.specs.declared.Element.{Element}
-use Rattle.line.specs.Rules.{noReading, extent}
+use Rattle.line.specs.declared.Reading.{Reading}
+use Rattle.line.specs.Rules.{extent}
 use Rattle.line.specs.Setting.{origin, settleFrom, settle}
 use Rattle.door.specs.declared.Piece.{Piece}
 use Rattle.door.specs.Job.{Job, baseCount, entries, elements, given}
@@ -62,7 +64,11 @@ onP J depth = 0
 abbrev pub depthsAt : Job → ℕ → Depths
 depthsAt job i = depthsBy (job .profile) (eqb i 0) (getD (job .class) i 0) (getD (job .width) i 0) (getD (job .before) i 0) (getD (job .after) i 0) (job .em)
 
--- a piece as a line sees it: its block, its ruby, which is a reading on the right, and how deep a neighbour's ruby may lie on it
+-- a reading as a line sees it
+abbrev pub stretch : word-reading.Reading → Reading
+stretch r = record { there = r .there; from = r .from; upto = r .upto }
+
+-- a piece as a line sees it: its block, a reading on either side, and how deep a neighbour's ruby may lie on it
 unfoldable pub seen : Job → Piece → Element
 unfolding word.wordOf depthsBy
 seen job p =
@@ -70,8 +76,8 @@ seen job p =
     record {
       front = w .front;
       len = w .len;
-      right = record { there = w .ruby; from = w .from; upto = w .upto };
-      left = noReading;
+      right = stretch (w .right);
+      left = stretch (w .left);
       before = onP (p .form) (depthsAt job (p .base) .before);
       after = onP (p .form) (depthsAt job (p .base) .after);
     }

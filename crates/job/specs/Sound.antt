@@ -1,6 +1,6 @@
 -- Every line of a job that passes the door is a line of elements that are set within themselves: what level one promises of a word is what level two asks
 -- of an element. So the theorems of `line` hold of it.
-use mathlib.Core.Path.{_≡_, refl, sym, _∙_}
+use mathlib.Core.Path.{_≡_, refl, sym, ap, _∙_, subst}
 use mathlib.Core.Bool.{Bool, true, false, true≢false}
 use mathlib.Core.List.{List, [], _∷_, map}
 use mathlib.Core.Logic.{_⊎_, inl, inr}
@@ -17,7 +17,7 @@ use Rattle.word.specs.Word as words
 use Rattle.word.specs.Promise as word
 use Rattle.line.specs.declared.Side.{Side}
 use Rattle.line.specs.declared.Side.the-variants.{Right, Left}
-use Rattle.line.specs.Rules.{other, ruby, noReading, HasRuby, Shape, Fits, Flush, Sound, Sounds}
+use Rattle.line.specs.Rules.{other, ruby, HasRuby, Shape, Fits, Flush, Sound, Sounds}
 use Rattle.door.specs.declared.Piece.{Piece}
 use Rattle.door.specs.Job.{Job, given}
 use Rattle.door.specs.Entries.{sum-first}
@@ -71,20 +71,20 @@ module _ (job : Job) (passed : Passed job) where
         reading = reading k;
       }
     where
-      flush : (wordOf job p .front ≡ 0) ⊎ (wordOf job p .from ≡ 0) → (b : Bool) → hasRuby (p .form) ≡ b → wordOf job p .ruby ≡ hasRuby (p .form) → Flush (seen job p)
+      flush : (wordOf job p .front ≡ 0) ⊎ (wordOf job p .right .from ≡ 0) → (b : Bool) → hasRuby (p .form) ≡ b → wordOf job p .right .there ≡ hasRuby (p .form) → Flush (seen job p)
       flush (inl f) b e r = inl f
-      flush (inr f) true e r = inr (Right, is (wordOf job p .ruby) (r ∙ e), f)
+      flush (inr f) true e r = inr (Right, is (wordOf job p .right .there) (r ∙ e), f)
       flush (inr f) false e r = inl (plain-front (p .form) (given job p) e)
 
-      shape : word.Inside (wordOf job p) ⊎ word.Around (wordOf job p) → Shape (seen job p) noReading (seen job p .right)
+      shape : word.Inside (wordOf job p) ⊎ word.Around (wordOf job p) → Shape (seen job p) (seen job p .left) (seen job p .right)
       shape (inl h) = inl (record { enters = h .enters; runs = h .runs; leaves = h .leaves })
       shape (inr h) = inr (inl (record { leads = h .leads; trails = h .trails }))
 
       reading : word.Promise (p .form) (given job p) (wordOf job p) → (s : Side) → HasRuby s (seen job p) → Fits (seen job p) (ruby (other s) (seen job p)) (ruby s (seen job p))
       reading k Right t =
-          let r = is-true (wordOf job p .ruby) t in
+          let r = is-true (wordOf job p .right .there) t in
           record { before = on-none (p .form) _ (sym (k .reads) ∙ r); after = on-none (p .form) _ (sym (k .reads) ∙ r); shape = shape (k .shape r) }
-      reading k Left t = absurd t
+      reading k Left t = absurd (subst T (ap (λ r. r .there) (k .one)) t)
 
   sounds-of : (ps : List Piece) → All (GoodPiece job) ps → Sounds (map (seen job) ps)
   sounds-of [] a i h = absurd (none i h)

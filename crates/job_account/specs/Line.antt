@@ -12,6 +12,7 @@ use lib.Seq.{sets, length-sets}
 use Rattle.basics.specs.Laws.{sets-append}
 use Rattle.line.specs.declared.Element.{Element}
 use Rattle.line.specs.declared.State.{State}
+use Rattle.line.specs.declared.Side.the-variants.{Right}
 use Rattle.line.specs.Rules.{blockOf, rubyOf}
 use Rattle.line.specs.Setting.{start, origin, furthest}
 use Rattle.cells.specs.Cells.{size, cellAt, piece, stop, Advances}
@@ -59,7 +60,7 @@ by-far j Nothing z h = at-edge z j
 by-far j (Ends k end) z h = either (eqb end z) (Ruby k) (edge z) j h (at-edge z j)
 
 by-ruby : (j : ℕ) (far : Far) (e : Element) (x : ℕ) → Earlier j far → other (rubyAfter far e x) ≤ j
-by-ruby j far e x h = either (e .ruby) (touched far (rubyOf e x .start) (edge (rubyOf e x .start))) Free j (by-far j far (rubyOf e x .start) h) zero-le
+by-ruby j far e x h = either (e .right .there) (touched far (rubyOf Right e x .start) (edge (rubyOf Right e x .start))) Free j (by-far j far (rubyOf Right e x .start) h) zero-le
 
 by-last : (j : ℕ) (b : Before) (e : Element) (x : ℕ) (rest : Reason) → other rest ≤ j → other (besideLast j b e x rest) ≤ j
 unfolding beside
@@ -75,15 +76,15 @@ unfolding reasonAfter
 other-earlier j b e x h = either (eqb (blockOf e x .start) 0) Start _ j zero-le (by-last j b e x (rubyAfter (b .far) e x) (by-ruby j (b .far) e x h))
 
 pub earlier-next : (j : ℕ) (far : Far) (e : Element) (x : ℕ) → Earlier j far → Earlier (j + 1) (further j far e x)
-earlier-next j far e x h = go (e .ruby) far h
+earlier-next j far e x h = go (e .right .there) far h
   where
     nearer : (p : Bool) (k end upto : ℕ) → k ≤ j → Earlier (j + 1) (cond p (Ends j upto) (Ends k end))
     nearer true k end upto h = omega arith
     nearer false k end upto h = omega arith
 
-    go : (p : Bool) (far : Far) → Earlier j far → Earlier (j + 1) (cond p (longer j far (rubyOf e x .end)) far)
+    go : (p : Bool) (far : Far) → Earlier j far → Earlier (j + 1) (cond p (longer j far (rubyOf Right e x .end)) far)
     go true Nothing h = omega arith
-    go true (Ends k end) h = nearer (leb end (rubyOf e x .end)) k end (rubyOf e x .end) h
+    go true (Ends k end) h = nearer (leb end (rubyOf Right e x .end)) k end (rubyOf Right e x .end) h
     go false Nothing h = tt
     go false (Ends k end) h = omega arith
 

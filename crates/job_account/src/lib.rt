@@ -182,7 +182,7 @@ pub fn account_job(
     ensures { λ r. ⌜ _≡_ {A = Telling} (record { answer = r; rows = now (rows .exit); told = now (told .exit); extents = now (extents .exit) }) (telling (jobOf em measure ratios profile (now (class .entry)) (now (width .entry)) (now (before .entry)) (now (after .entry)) (now (flag .entry)) (now (rclass .entry)) (now (rwidth .entry)) (now (kind .entry)) (now (ebase .entry)) (now (eruby .entry)) (now (runs .entry))) (now (rows .entry)) (now (told .entry)) (now (extents .entry))) ⌝ }
 {
     let room = room_of(rows.len(), told.len(), extents.len());
-    let mut t = [0; 19462];
+    let mut t = [0; 19463];
     let mut ends = [0; 1024];
     let mut found = [0; 1024];
     match engine::fill_job(

@@ -26,8 +26,8 @@ use Rattle.line.specs.declared.State.{State}
 use Rattle.line.specs.Setting.{start, furthest, total}
 use Rattle.cells.specs.declared.Cell.{Cell}
 use Rattle.cells.specs.Cells as cells
-use Rattle.cells.specs.Cells.{cellAt, partBy, overWith, wordAt, elementOf, Ran, piece, next, stop, rest, stateAt, mayEnd, lastOf, breaks, endOf, linesOf}
-use Rattle.cells.specs.Sound.{Plain, Row, Sound}
+use Rattle.cells.specs.Cells.{ratiosAt, cellAt, partBy, overWith, wordAt, elementOf, Ran, Plain, Flat, bare, piece, next, stop, rest, stateAt, mayEnd, lastOf, breaks, endOf, linesOf}
+use Rattle.cells.specs.Sound.{Row, Sound}
 use Rattle.cells.specs.Walk as walk
 use Rattle.door.specs.declared.Piece.{Piece}
 use Rattle.door.specs.Job.{Job, baseCount, rubyCount, entries, elements, given}
@@ -49,12 +49,31 @@ use Rattle.join.specs.Rows.{taken, firstRuby, runAt, runWidth, wideBefor
 use Rattle.join.specs.Part.{first-next, first-more, wide-more, wide-next, longer-next, longer-few, widths, reads, within, part-word}
 
 -- a P is all block, and a depth is a P's alone
-plain-front : (form : Form) (g : Given) → hasRuby form ≡ false → word.wordOf form g .front ≡ 0
+on-none : (form : Form) (depth : ℕ) → hasRuby form ≡ true → onP form depth ≡ 0
+on-none P depth h = absurd (true≢false (sym h))
+on-none M depth h = refl
+on-none G depth h = refl
+on-none J depth h = refl
+
+-- only a J is cut, and only a P has no ruby: it is no more than its length
+cut-reads : (form : Form) (n : ℕ) → (isJ form && ltb 1 n) ≡ true → hasRuby form ≡ true
+cut-reads P n e = absurd (false≢true e)
+cut-reads M n e = refl
+cut-reads G n e = refl
+cut-reads J n e = refl
+
+uncut : (form : Form) (n : ℕ) → hasRuby form ≡ false → (isJ form && ltb 1 n) ≡ false
+uncut P n e = refl
+uncut M n e = absurd (true≢false e)
+uncut G n e = absurd (true≢false e)
+uncut J n e = absurd (true≢false e)
+
+bare-word : (form : Form) (g : Given) → hasRuby form ≡ false → word.wordOf form g ≡ bare (word.wordOf form g .len)
 unfolding word.wordOf word.plain
-plain-front P g h = refl
-plain-front M g h = absurd (true≢false h)
-plain-front G g h = absurd (true≢false h)
-plain-front J g h = absurd (true≢false h)
+bare-word P g e = refl
+bare-word M g e = absurd (true≢false e)
+bare-word G g e = absurd (true≢false e)
+bare-word J g e = absurd (true≢false e)
 
 on-le : (form : Form) (depth n : ℕ) → depth ≤ n → onP form depth ≤ n
 on-le P depth n h = h
@@ -123,6 +142,15 @@ module _ (job : Job) (passed : Passed job) (t : List ℕ) (table : Holds job t) 
     unfolding rowOf
     many-at j i h l = ap (λ z. z .rubies) (has x at i h l) ∙ rw j
 
+    -- no element has a left reading
+    lefts-at : (i : ℕ) → x .base ≤ i → i < x .base + x .bases → cellAt t i .lefts ≡ 0
+    unfolding rowOf
+    lefts-at i h l = ap (λ z. z .lefts) (has x at i h l)
+
+    own-left-at : (i : ℕ) → x .base ≤ i → i < x .base + x .bases → cellAt t i .ownleft ≡ 0
+    unfolding rowOf
+    own-left-at i h l = ap (λ z. z .ownleft) (has x at i h l)
+
     -- of a J
     pub ruby-at : isJ (x .form) ≡ true → (i : ℕ) → x .base ≤ i → i < x .base + x .bases → cellAt t i .ruby ≡ firstRuby job x (i - x .base)
     unfolding rowOf
@@ -166,7 +194,8 @@ module _ (job : Job) (passed : Passed job) (t : List ℕ) (table : Holds job t) 
         let k = i - x .base in
         let low : x .base ≤ z = omega arith in
         let high : z < x .base + x .bases = omega arith in
-        ap (λ r. byRatios r (cellAt t i) (cellAt t z)) (table .house)
+        ap (λ n. cond (ltb 0 n) (cells.both (job .em) t i c) (byRatios (ratiosAt t) (cellAt t i) (cellAt t z))) (lefts-at i h (omega arith))
+        ∙ ap (λ r. byRatios r (cellAt t i) (cellAt t z)) (table .house)
         ∙ ap₂ (λ a b. byEnds a (cellAt t i .wide) b (cellAt t i .ruby) (cellAt t i .over) (overWith (job .em) (cellAt t z)) (cellAt t i .own) (cellAt t z .own) (cellAt t i .western))
         (wide-with j z low high ∙ ap (wideBefore job x) (top (x .base) h l)) (ruby-with j z low high ∙ ap (firstRuby job x) (top (x .base) h l))
         ∙ ap₂ (λ a b. byEnds (wideBefore job x (k + (c - i))) a (firstRuby job x (k + (c - i))) b (cellAt t i .over) (overWith (job .em) (cellAt t z)) (cellAt t i .own) (cellAt t z .own) (cellAt t i .western))
@@ -317,6 +346,8 @@ module _ (job : Job) (passed : Passed job) (t : List ℕ) (table : Holds job t) 
           narrow = omega (arith, wide-with x at j (c - 1) low high, wide-small j (suc (c - 1 - x .base)) (omega arith));
           few = omega (arith, over-at x at j (c - 1) low high, longer-few job x (c - 1 - x .base), at .good .counts .few);
           ends = omega (arith, r, first-more job x k n, inside, passed .fewRuby);
+          fewLeft = omega (arith, lefts-at x at i h (omega arith));
+          narrowLeft = omega (arith, own-left-at x at i h (omega arith));
         }
       where
         top : (b : ℕ) → b ≤ i → i < c → suc (c - 1 - b) ≡ i - b + (c - i)
@@ -331,20 +362,33 @@ module _ (job : Job) (passed : Passed job) (t : List ℕ) (table : Holds job t) 
         go true = zero-le
         go false = piece-short job x (whole-piece job passed x (at .good))
 
-    row-plain : (i : ℕ) → x .base ≤ i → i < x .base + x .bases → cellAt t i .word .ruby ≡ false → cellAt t i .cut ≡ false → Plain (cellAt t i)
-    row-plain i h l r c =
-        let e = word-at x at (sym (cut-at x at i h l) ∙ c) i h l in
+    -- a row has ruby where its element has
+    has-ruby : (i : ℕ) → x .base ≤ i → i < x .base + x .bases → cells.hasRuby (cellAt t i) ≡ hasRuby (x .form)
+    has-ruby i h l = go (isCut x) refl
+      where
+        go : (b : Bool) → isCut x ≡ b → cells.hasRuby (cellAt t i) ≡ hasRuby (x .form)
+        go true e = rw (cut-at x at i h l ∙ e) (sym (cut-reads (x .form) (x .bases) e))
+        go false e = rw (cut-at x at i h l ∙ e) (ap (λ w. w .right .there) (word-at x at e i h l) ∙ promise job x (whole-piece job passed x (at .good)) .reads)
+
+    row-plain : (i : ℕ) → x .base ≤ i → i < x .base + x .bases → cells.hasRuby (cellAt t i) ≡ false → Plain (cellAt t i)
+    row-plain i h l r =
+        let p = sym (has-ruby i h l) ∙ r in
+        let e = word-at x at (uncut (x .form) (x .bases) p) i h l in
         let g = whole-piece job passed x (at .good) in
         let k = promise job x g in
-        let p = sym (k .reads) ∙ ap (λ w. w .ruby) (sym e) ∙ r in
         let w = getD (job .width) (x .base) 0 in
         let b = passed .base (x .base) (omega (arith, g .some, g .inside)) in
         let wide : 2 * w ≤ line.wordOf job x .len = omega (arith, k .block, sum-first (job .width) (x .base) (x .bases) (g .some)) in
         let deep = before-within (job .profile) (eqb (x .base) 0) (getD (job .class) (x .base) 0) w (getD (job .before) (x .base) 0) (getD (job .after) (x .base) 0) (job .em) (omega (arith, b .blanks)) in
         record {
-          front = ap (λ w. w .front) e ∙ plain-front (x .form) (given job x) p;
+          word = e ∙ bare-word (x .form) (given job x) p ∙ ap bare (sym (ap (λ w. w .len) e));
           before = omega (arith, before-at x at i h l, ap (λ w. w .len) e, on-le (x .form) (depthsAt job (x .base) .before) (line.wordOf job x .len) (omega (arith, deep)));
         }
+
+    row-flat : (i : ℕ) → x .base ≤ i → i < x .base + x .bases → cells.hasRuby (cellAt t i) ≡ true → Flat (cellAt t i)
+    row-flat i h l r =
+        let p = sym (has-ruby i h l) ∙ r in
+        record { before = before-at x at i h l ∙ on-none (x .form) _ p; after = after-at x at i h l ∙ on-none (x .form) _ p }
 
   row : (x : Piece) → IsElement job x → (i : ℕ) → x .base ≤ i → i < x .base + x .bases → Row t (baseCount job) i
   row x at i h l =
@@ -356,6 +400,7 @@ module _ (job : Job) (passed : Passed job) (t : List ℕ) (table : Holds job t) 
         inside = omega (arith, g .inside);
         total = row-total x at i h l;
         plain = row-plain x at i h l;
+        flat = row-flat x at i h l;
         follows = λ m. let u : i + 1 < x .base + x .bases = omega arith in let v : x .base ≤ i + 1 = omega arith in
             record { bases = omega (arith, bases-at x at (i + 1) v u); cut = cut-at x at i h l ∙ sym (cut-at x at (i + 1) v u); ends = ends-at x at i h l ∙ sym (ends-at x at (i + 1) v u) };
         runs = λ j c k u. ran x at (both (isJ (x .form)) (ltb 1 (x .bases)) (sym (cut-at x at i h l) ∙ j) .0) i c h k (omega arith);

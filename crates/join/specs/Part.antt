@@ -246,7 +246,7 @@ module _ (job : Job) (x : Piece) where
     word-of true e = rw e
     word-of false e = rw e
 
-    over-each : eachOver (job .em) (sum bs) (getD (map sum runs) 0 0) (lastOr 0 (map sum runs)) ≡ word.overEach (job .em) (sum bs) (map sum runs)
+    over-each : eachOver (sum bs) (word.between (job .em) (sum bs) (getD (map sum runs) 0 0) (lastOr 0 (map sum runs))) word.none ≡ word.overEach (job .em) (sum bs) (map sum runs)
     unfolding eachOver word.overEach
     over-each = refl
 
@@ -254,7 +254,7 @@ module _ (job : Job) (x : Piece) where
     abbrev byRows : Bool → Bool → Word
     byRows one none =
         cond one (wordFrom Solid Solid (job .ratios) (job .em) (sum bs) (length bs) (sum rs) (length rs))
-        (cond none (eachOver (job .em) (sum bs) (getD (map sum runs) 0 0) (lastOr 0 (map sum runs)))
+        (cond none (eachOver (sum bs) (word.between (job .em) (sum bs) (getD (map sum runs) 0 0) (lastOr 0 (map sum runs))) word.none)
         (wordFrom (rubyWay (western (getD (job .rubyClass) (firstRuby job x k) 0))) Spread (job .ratios) (job .em) (sum bs) (length bs) (sum rs) (length rs)))
 
     by-rows : (one : Bool) → eqb n 1 ≡ one → (long : Bool) → alone.anyLonger (job .em) runs ≡ long → byRows one (not long) ≡ wordOf job (part job x k n)
@@ -285,7 +285,7 @@ module _ (job : Job) (x : Piece) where
         byCount : Bool → Bool → ℕ → ℕ → Word
         byCount one none b m =
             cond one (wordFrom Solid Solid (job .ratios) (job .em) b m (sum rs) (length rs))
-            (cond none (eachOver (job .em) b (getD (map sum runs) 0 0) (lastOr 0 (map sum runs))) (wordFrom (rubyWay W) Spread (job .ratios) (job .em) b m (sum rs) (length rs)))
+            (cond none (eachOver b (word.between (job .em) b (getD (map sum runs) 0 0) (lastOr 0 (map sum runs))) word.none) (wordFrom (rubyWay W) Spread (job .ratios) (job .em) b m (sum rs) (length rs)))
 
         numbers : (one none : Bool) → byCount one none (job .em * n) n ≡ byRows one none
         numbers one none = ap₂ (byCount one none) (sym widths) (sym many)

@@ -12,7 +12,7 @@ use Rattle.word.specs.declared.Word.{Word}
 use Rattle.word.specs.Given.{isJ}
 use Rattle.word.specs.Word as word
 use Rattle.cells.specs.declared.Cell.{Cell}
-use Rattle.cells.specs.Cells.{size, ratiosAt, cellAt}
+use Rattle.cells.specs.Cells.{size, ratiosAt, leftsAt, cellAt}
 use Rattle.door.specs.declared.Piece.{Piece}
 use Rattle.door.specs.Job.{Job, baseCount, entries, elements}
 use Rattle.job.specs.Line.{part, wordOf, onP, depthsAt}
@@ -51,7 +51,7 @@ runsBefore x i = cond (isJ (x .form)) (i - x .base) 0
 
 -- no word
 abbrev pub none : Word
-none = record { front = 0; len = 0; ruby = false; from = 0; upto = 0; inbase = 0; inruby = 0; runs = false }
+none = record { front = 0; len = 0; inbase = 0; right = word.none; left = word.none }
 
 -- the row of base character i of element x, whose word, end and depths are these
 abbrev pub rowBy : Job → Piece → Word → Bool → ℕ → ℕ → ℕ → Cell
@@ -67,10 +67,14 @@ rowBy job x w ends before after i =
       after = after;
       ruby = firstRuby job x k;
       rubies = cond j (runAt job x k) (x .rubies);
+      left = 0;
+      lefts = 0;
       own = cond j (runWidth job x k) 0;
       wide = cond j (wideBefore job x k) 0;
       over = cond j (longer job x k) 0;
       western = j && western (getD (job .rubyClass) (firstRuby job x k) 0);
+      ownleft = 0;
+      more = false;
     }
 
 -- "A line may end after the last base character of an element whose flag is 1"
@@ -85,8 +89,9 @@ rowOf job x i = rowBy job x (wordOf job x) (endsBehind job x) (onP (x .form) (de
 abbrev pub HasRows : Job → List ℕ → Piece → Type 0
 HasRows job t x = (i : ℕ) → x .base ≤ i → i < x .base + x .bases → cellAt t i ≡ rowOf job x i
 
--- a table that has the job's ratios at its head and the rows of all elements
+-- a table that has the job's ratios at its head, no left readings, and the rows of all elements
 pub record Holds (job : Job) (t : List ℕ) : Type 0 where
   pub long : size (baseCount job) ≤ length t
   pub house : ratiosAt t ≡ job .ratios
+  pub lefts : leftsAt t ≡ 0
   pub rows : All (HasRows job t) (elements job)

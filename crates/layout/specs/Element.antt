@@ -14,21 +14,26 @@ use Rattle.refusal.specs.declared.Refusal.the-variants.{Supply}
 use Rattle.word.specs.declared.Form.{Form}
 use Rattle.word.specs.declared.Form.the-variants.{P, M, G, J}
 use Rattle.word.specs.declared.Word.{Word}
+use Rattle.word.specs.declared.Answer.{Answer}
 use Rattle.word.specs.declared.Answer.the-variants as answered
 use Rattle.word.specs.Given.{hasRuby, isJ}
 use Rattle.word.specs.Answer.{answer}
 use Rattle.word.specs.Word as word
+use Rattle.word.specs.Sized.{Small}
+use Rattle.word.specs.Sized as size
 use Rattle.word.specs.Promise as promise
 use Rattle.door.specs.declared.Piece.{Piece}
 use Rattle.door.specs.declared.Counted.{Counted}
 use Rattle.door.specs.declared.Counted.the-variants.{Is, Out}
+use Rattle.door.specs.declared.Step.{Step}
 use Rattle.door.specs.declared.Step.the-variants.{Next, Stop}
-use Rattle.door.specs.Job.{Job, entries, known, formOf, element, given, takesRuns}
+use Rattle.door.specs.Job.{Job, entries, known, formOf, element, given, takesBase, takesRuns}
 use Rattle.door.specs.Elements.{countedAs, countedBy, partsOnly, Reads, own-reads}
 use Rattle.door.specs.Walk as walk
 use Rattle.job.specs.Line.{wordOf, onP, depthsAt}
 use Rattle.join.specs.Rows.{rowBy, rowOf, endsBehind, HasRows}
-use Rattle.layout.specs.Lay.{Filled, HasRuns, ElementReady, Standing, Laid, Stepped, runsOnly}
+use Rattle.cells.specs.Cells.{noLeft, beside}
+use Rattle.layout.specs.Lay.{Filled, row-alone, HasRuns, WordReady, JukugoReady, Judged, judged-as, wordRow, word-row, Standing, Laid, Stepped, runsOnly, wordsOnly}
 
 -- no step both stops and goes on
 stop-next : {q : Refusal} {p : Piece} → Stop q ≡ Next p → ⊥
@@ -89,6 +94,10 @@ module _ (bases rubies : ℕ) (job : Job) (k b r u : ℕ) (was : List ℕ) (h : 
     unfolding element
     ruby = known-ruby (getD (job .kind) k 0) (counted-known _ _ _ _ b r u is) (h .ruby)
 
+    -- so it is no P
+    pub no-plain : p .form ≡ P → ⊥
+    no-plain e = false≢true (ap hasRuby (sym e ∙ ap (λ z. z .form) (walk.is-it bases rubies job k b r u is)) ∙ ruby)
+
     pub same : p ≡ x
     same = walk.is-it bases rubies job k b r u is
 
@@ -121,36 +130,62 @@ module _ (bases rubies : ℕ) (job : Job) (k b r u : ℕ) (was : List ℕ) (h : 
       pub last : (0 < p .bases) × (p .base + p .bases ≤ 1024) × (p .base + p .bases ≤ length (job .flag))
       last = (rw same (walk.few bases rubies job k b r u is .some), omega (arith, inside .0, h .stands .few), omega (arith, inside .0, h .flags))
 
-      pub ready : ElementReady (runsIn job) p was
-      ready =
+      sized : Small (given job p .width) (given job p .rubyWidth)
+      sized = rw same (size.small _ _ _ _ ruby (reads .sized))
+
+      -- what its arm asks for, by the lists that are lent to it
+      pub ready : (class rubyClass run : List ℕ) → WordReady (wordsOnly (job .ratios) (job .em) class (job .width) (job .before) (job .after) (job .flag) rubyClass (job .rubyWidth) run) p was
+      ready class rubyClass run =
           let s = h .stands in
           record {
-            held = omega (arith, inside .0, h .room);
-            small = omega (arith, inside .0, s .few);
-            ruby = omega (arith, inside .1, s .fewRuby);
-            rubies = omega (arith, inside .1, s .fewRuby);
-            runs = λ j. runs j;
+            some = last .0;
+            few = last .1;
+            fewRuby = omega (arith, inside .1, s .fewRuby);
+            width = own .width;
+            before = own .before;
+            after = own .after;
+            flag = last .2;
+            rubyWidth = own .rubyWidth;
+            small = sized;
+            house = h .house;
+            room = omega (arith, inside .0, h .room);
           }
-        where
-          runs : isJ (p .form) ≡ true → HasRuns (runsIn job) p was
-          runs j =
-              let s = h .stands in
-              let f = walk.few bases rubies job k b r u is in
-              let jx = subst (λ z. isJ (z .form) ≡ true) same j in
-              let whole = f .whole jx in
-              subst (λ z. HasRuns (runsIn job) z was) (sym same)
-              (record {
-                held = omega (arith, inside .0, h .room, ap (λ z. z .base + z .bases) same);
-                small = omega (arith, inside .0, s .few, ap (λ z. z .base + z .bases) same);
-                few = f .few;
-                runs = omega (arith, reads .run, runs-all (x .form) (x .bases) jx);
-                fewRuns = omega (arith, s .runs, s .taken, s .few, run-is);
-                rubies = omega (arith, inside .1, s .fewRuby, whole, ap (λ z. z .ruby + z .rubies) same);
-                class = omega (arith, reads .rubyClass, whole);
-                width = omega (arith, reads .rubyWidth, whole);
-                narrow = omega (arith, reads .sized .narrowRuby, ap (λ m. sum (entries (job .rubyWidth) (x .ruby) m)) whole);
-                each = f .each jx;
-              })
+
+      pub one : p .form ≡ M → p .bases ≡ 1
+      unfolding element
+      one e = ap (λ z. z .bases) same ∙ ap (λ f. takesBase f (getD (job .elementBase) k 0)) (sym (ap (λ z. z .form) same) ∙ e)
+
+      pub runs-held : isJ (p .form) ≡ true → HasRuns (runsIn job) p was
+      runs-held j =
+          let s = h .stands in
+          let f = walk.few bases rubies job k b r u is in
+          let jx = subst (λ z. isJ (z .form) ≡ true) same j in
+          let whole = f .whole jx in
+          subst (λ z. HasRuns (runsIn job) z was) (sym same)
+          (record {
+            held = omega (arith, inside .0, h .room, ap (λ z. z .base + z .bases) same);
+            small = omega (arith, inside .0, s .few, ap (λ z. z .base + z .bases) same);
+            few = f .few;
+            runs = omega (arith, reads .run, runs-all (x .form) (x .bases) jx);
+            fewRuns = omega (arith, s .runs, s .taken, s .few, run-is);
+            rubies = omega (arith, inside .1, s .fewRuby, whole, ap (λ z. z .ruby + z .rubies) same);
+            class = omega (arith, reads .rubyClass, whole);
+            width = omega (arith, reads .rubyWidth, whole);
+            narrow = omega (arith, reads .sized .narrowRuby, ap (λ m. sum (entries (job .rubyWidth) (x .ruby) m)) whole);
+            each = f .each jx;
+          })
+
+      pub jukugo-ready : p .form ≡ J → JukugoReady (wordsOnly (job .ratios) (job .em) (job .class) (job .width) (job .before) (job .after) (job .flag) (job .rubyClass) (job .rubyWidth) (job .run)) p was
+      jukugo-ready e =
+          let f = walk.few bases rubies job k b r u is in
+          record {
+            form = ap isJ e;
+            class = own .class;
+            rubyClass = own .rubyClass;
+            whole = rw same (omega (arith, f .whole (ap isJ (sym (ap (λ z. z .form) same) ∙ e))));
+            runs = runs-held (ap isJ e);
+            word = ready (job .class) (job .rubyClass) (job .run);
+          }
 
       pub refused-stops : {q : Refusal} → answer (p .form) k (given (partsIn job) p) ≡ answered.Refused q → Stepped bases rubies job k b r u was was (Stop q)
       refused-stops {q} e = stopped (walk.refused-stops bases rubies job k b r u is supply (subst (λ z. answer (z .form) k (given job z) ≡ answered.Refused q) same e))
@@ -174,4 +209,41 @@ module _ (bases rubies : ℕ) (job : Job) (k b r u : ℕ) (was : List ℕ) (h : 
               ∙ ap₂ (λ c d. rowBy job x (wordOf job x) (endsBehind job x) c d i) (sym (on-none (x .form) _ ruby)) (sym (on-none (x .form) _ ruby))
 
           laid : Laid job x was t
-          laid = record { long = filled .long; head = filled .head; rows = λ i l m. filled .here i l m ∙ row i; other = filled .other }
+          laid =
+              record {
+                long = filled .long;
+                head = filled .head;
+                lefts = filled .lefts;
+                rows = λ i l m. filled .here (h .none) i l m ∙ ap (λ c. beside c noLeft) (row i) ∙ row-alone job x i;
+                other = filled .other (h .none);
+              }
+
+      judged : {t : List ℕ} {s : Step} → Judged (answer (p .form) k (given (partsIn job) p)) (λ w. rowBy (runsIn job) p w (endsBehind job p) 0 0) p was t s → Stepped bases rubies job k b r u was t s
+      judged {t} {s} j = go (answer (p .form) k (given (partsIn job) p)) refl
+        where
+          go : (a : Answer) → answer (p .form) k (given (partsIn job) p) ≡ a → Stepped bases rubies job k b r u was t s
+          go (answered.Set w) e =
+              let g = j .goes w e in
+              subst (Stepped bases rubies job k b r u was t) (sym (g .0)) (goes-on t w e (endsBehind job p) refl (g .1))
+          go (answered.Refused q) e =
+              let g = j .stops q e in
+              subst (Stepped bases rubies job k b r u was t) (sym (g .0)) (subst (λ z. Stepped bases rubies job k b r u was z (Stop q)) (sym (g .1)) (refused-stops e))
+
+      pub mono-judged : p .form ≡ M → {t : List ℕ} {s : Step} →
+          Judged (answer M k (given (wordsOnly (job .ratios) (job .em) [] (job .width) (job .before) (job .after) (job .flag) [] (job .rubyWidth) []) p)) (λ w. wordRow p w (endsBehind job p) 0 0) p was t s →
+          Stepped bases rubies job k b r u was t s
+      unfolding answer word.wordOf
+      mono-judged e j =
+          judged (judged-as (ap (λ f. answer f k (given (partsIn job) p)) (sym e)) (λ w i. word-row (runsIn job) p w (endsBehind job p) 0 0 i (ap isJ e)) j)
+
+      pub group-judged : p .form ≡ G → {t : List ℕ} {s : Step} →
+          Judged (answer G k (given (wordsOnly (job .ratios) (job .em) (job .class) (job .width) (job .before) (job .after) (job .flag) (job .rubyClass) (job .rubyWidth) []) p)) (λ w. wordRow p w (endsBehind job p) 0 0) p was t s →
+          Stepped bases rubies job k b r u was t s
+      unfolding answer word.wordOf
+      group-judged e j =
+          judged (judged-as (ap (λ f. answer f k (given (partsIn job) p)) (sym e)) (λ w i. word-row (runsIn job) p w (endsBehind job p) 0 0 i (ap isJ e)) j)
+
+      pub jukugo-judged : p .form ≡ J → {t : List ℕ} {s : Step} →
+          Judged (answer J k (given (wordsOnly (job .ratios) (job .em) (job .class) (job .width) (job .before) (job .after) (job .flag) (job .rubyClass) (job .rubyWidth) (job .run)) p)) (λ w. rowBy (runsIn job) p w (endsBehind job p) 0 0) p was t s →
+          Stepped bases rubies job k b r u was t s
+      jukugo-judged e j = judged (judged-as (ap (λ f. answer f k (given (partsIn job) p)) (sym e)) (λ w i. refl) j)

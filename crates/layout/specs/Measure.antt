@@ -29,4 +29,4 @@ all-rows job t (x ∷ xs) a = (a .0, all-rows job t xs (a .1))
 
 pub measured : (job : Job) (t : List ℕ) → Holds (unmeasured job) t → Holds job t
 unfolding baseCount
-measured job t h = record { long = h .long; house = h .house; rows = subst (All (HasRows job t)) (same job) (all-rows job t (elements (unmeasured job)) (h .rows)) }
+measured job t h = record { long = h .long; house = h .house; lefts = h .lefts; rows = subst (All (HasRows job t)) (same job) (all-rows job t (elements (unmeasured job)) (h .rows)) }

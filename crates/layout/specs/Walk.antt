@@ -16,8 +16,8 @@ use Rattle.class.specs.Class.{depthsBy}
 use Rattle.spread.specs.Ratio.{Housed}
 use Rattle.word.specs.declared.Form.the-variants.{P}
 use Rattle.word.specs.Word as word
-use Rattle.cells.specs.Cells.{size, ratiosAt, cellAt}
-use Rattle.cells.specs.Put.{headed, length-headed, head-written, Puts}
+use Rattle.cells.specs.Cells.{size, ratiosAt, leftsAt, noLeft, beside, cellAt}
+use Rattle.cells.specs.Put.{headed, length-headed, head-written, no-left, Puts}
 use Rattle.door.specs.declared.Piece.{Piece}
 use Rattle.door.specs.Job.{Job, baseCount, rubyCount, elementCount, entries, element, elementsFrom, elements, takesRuns}
 use Rattle.door.specs.Refusals.{elementFaults, elementsFaults, leftFaults}
@@ -29,7 +29,7 @@ use Rattle.job.specs.Laws.{all-append}
 use Rattle.job.specs.Pieces.{tiled-ends}
 use Rattle.job.specs.Walk.{At, at-first, at-next, length-elements}
 use Rattle.join.specs.Rows.{rowBy, rowOf, HasRows, Holds}
-use Rattle.layout.specs.Lay.{PlainReady, plainRow, Standing, Laid}
+use Rattle.layout.specs.Lay.{none-behind, row-alone, PlainReady, plainRow, Standing, Laid}
 
 three : (Q : ℕ → ℕ → ℕ → Type 0) {a a' b b' c c' : ℕ} → a ≡ a' → b ≡ b' → c ≡ c' → Q a b c → Q a' b' c'
 three Q {a} {a'} {b} {b'} {c} {c'} e f g h = subst (λ z. Q a' b' z) g (subst (λ z. Q a' z c) f (subst (λ z. Q z b c) e h))
@@ -85,11 +85,12 @@ pub record Walking (job : Job) (was t : List ℕ) (k b r u : ℕ) : Type 0 where
   pub at : At job k b r u
   pub long : length t ≡ length was
   pub head : ratiosAt t ≡ job .ratios
+  pub none : leftsAt t ≡ 0
   pub rows : All (HasRows job t) (take k (elements job))
 
-pub walking-first : (job : Job) (was : List ℕ) → Ready job was → let t = headed was (job .ratios) in Walking job t t 0 0 0 0
+pub walking-first : (job : Job) (was : List ℕ) → Ready job was → let t = headed was (job .ratios) 0 in Walking job t t 0 0 0 0
 walking-first job was ready =
-    let long = length-headed was (job .ratios) in
+    let long = length-headed was (job .ratios) 0 in
     record {
       ready =
           record {
@@ -105,9 +106,37 @@ walking-first job was ready =
       along = loop.along-first (baseCount job) (rubyCount job) job (elementCount job);
       at = at-first job;
       long = refl;
-      head = head-written was (job .ratios) (omega (arith, ready .room));
+      head = head-written was (job .ratios) 0 (omega (arith, ready .room)) .0;
+      none = head-written was (job .ratios) 0 (omega (arith, ready .room)) .1;
       rows = tt;
     }
+
+-- a walk that goes on from where another stands
+pub walking-here : {job : Job} {was t : List ℕ} {k b r u : ℕ} → Walking job was t k b r u → Walking job t t k b r u
+walking-here {job} {was} {t} q =
+    let y = q .ready in
+    record {
+      ready =
+          record {
+            house = y .house;
+            few = y .few;
+            fewRuby = y .fewRuby;
+            fewElements = y .fewElements;
+            some = y .some;
+            narrow = y .narrow;
+            narrowRuby = y .narrowRuby;
+            room = omega (arith, q .long, y .room);
+          };
+      along = q .along;
+      at = q .at;
+      long = refl;
+      head = q .head;
+      none = q .none;
+      rows = q .rows;
+    }
+
+pub walking-from : {job : Job} {was t v : List ℕ} {k b r u l c s w : ℕ} → Walking job was t k b r u → Walking job t v l c s w → Walking job was v l c s w
+walking-from q p = record { ready = q .ready; along = p .along; at = p .at; long = p .long ∙ q .long; head = p .head; none = p .none; rows = p .rows }
 
 stays : (job : Job) (x : Piece) (was t : List ℕ) → Laid job x was t → (ys : List Piece) → All (HasRows job was) ys → All (λ y. y .base + y .bases ≤ x .base) ys → All (HasRows job t) ys
 stays job x was t l [] a b = tt
@@ -119,6 +148,7 @@ module _ (job : Job) (was t : List ℕ) (k b r u : ℕ) (q : Walking job was t k
       record {
         long = omega (arith, q .long, q .ready .room);
         house = q .head;
+        lefts = q .none;
         rows = subst (All (HasRows job t)) (take-all k (elements job) (omega (arith, length-elements job))) (q .rows);
       }
 
@@ -130,7 +160,7 @@ module _ (job : Job) (was t : List ℕ) (k b r u : ℕ) (q : Walking job was t k
     stands = loop.stands (baseCount job) (rubyCount job) job (elementCount job) k b r u h (holds job was (q .ready)) (q .along)
 
     pub standing : (getD (job .kind) k 0 ≡ 80 → ⊥) → Standing (baseCount job) (rubyCount job) job k b r u t
-    standing e = record { stands = stands; house = q .ready .house; flags = base-within job .4; room = omega (arith, q .long, q .ready .room); ruby = e }
+    standing e = record { stands = stands; house = q .ready .house; flags = base-within job .4; room = omega (arith, q .long, q .ready .room); none = q .none; ruby = e }
 
     -- its rest is the element and the rest after it
     cons : drop k (elements job) ≡ x ∷ elementsFrom job (elementCount job - (k + 1)) (k + 1) (b + x .bases) (r + x .rubies) (u + takesRuns (x .form) (x .bases))
@@ -155,6 +185,7 @@ module _ (job : Job) (was t : List ℕ) (k b r u : ℕ) (q : Walking job was t k
           at = at-next job k b r u h (q .at);
           long = l .long ∙ q .long;
           head = l .head ∙ q .head;
+          none = l .lefts ∙ q .none;
           rows = subst (All (HasRows job v)) (sym more) (all-append (HasRows job v) (take k (elements job)) (x ∷ []) (stays job x t v l (take k (elements job)) (q .rows) ends-before) (l .rows, tt));
         }
       where
@@ -200,8 +231,12 @@ module _ (job : Job) (was t : List ℕ) (k b r u : ℕ) (q : Walking job was t k
           record {
             long = p .long;
             head = p .head;
-            rows = λ i l m. let e : i ≡ b = omega arith in ap (cellAt v) e ∙ p .here ∙ plain-row ∙ ap (rowOf job alone) (sym e);
-            other = λ i z. p .other i (λ e. not-here i e z);
+            lefts = p .lefts;
+            rows =
+                λ i l m. let e : i ≡ b = omega arith in
+                ap (cellAt v) e ∙ p .here ∙ ap (beside (plainRow (job .profile) b r (job .em) (job .class) (job .width) (job .before) (job .after) (job .flag))) (no-left v b (p .lefts ∙ q .none))
+                ∙ ap (λ c. beside c noLeft) (plain-row ∙ ap (rowOf job alone) (sym e)) ∙ row-alone job alone i;
+            other = λ i z. p .other (none-behind t b (q .none)) i (λ e. not-here i e z);
           }
         where
           not-here : (i : ℕ) → i ≡ b → (i < b) ⊎ (b + 1 ≤ i) → ⊥

@@ -2,20 +2,27 @@
 // refusal list from number 5 on: an element is counted, its characters have to be there, level one's answer is taken apart, and its rows are written. Behind it nobody
 // sees the lists. It relies on `door` for the counts, on `word` for level one, on `class` for depths and kinds, and on `cells` for rows.
 ghost use mathlib.Core.Path.{_≡_};
-ghost use mathlib.Core.Bool.{true, false};
-ghost use mathlib.Core.List.{_++_};
+ghost use mathlib.Core.Bool.{true, false, _&&_};
+ghost use mathlib.Core.List.{[], _++_};
 ghost use Prim.Native.Nat.{_+_, _-_, _*_, _≤_, _<_};
 ghost use Rattle.basics.specs.Lists.{sum};
-ghost use lib.ListN.{length};
+ghost use lib.Dec.{ltb, eqb};
+ghost use lib.ListN.{length, getD};
+ghost use Rattle.spread.specs.Ratio.{ratiosOf};
+ghost use Rattle.word.specs.declared.Form.the-variants as Form;
 ghost use Rattle.word.specs.Given.{isJ};
-ghost use Rattle.door.specs.Job.{jobOf, baseCount, rubyCount, elements, entries};
+ghost use Rattle.word.specs.declared.Answer.the-variants.{Refused};
+ghost use Rattle.word.specs.Answer.{answer};
+ghost use Rattle.refusal.specs.declared.Refusal as refusals;
+ghost use Rattle.door.specs.Job.{jobOf, baseCount, rubyCount, elements, entries, given};
 ghost use Rattle.door.specs.Refusals.{elementsFaults, leftFaults};
 ghost use Rattle.door.specs.Verdict.{verdict};
 ghost use Rattle.door.specs.declared.Checked.the-variants.{Passed};
+ghost use Rattle.door.specs.declared.Step.the-variants.{Stop};
 ghost use Rattle.cells.specs.Cells.{size};
 ghost use Rattle.cells.specs.Put.{Puts};
-ghost use Rattle.join.specs.Rows.{rowBy, Holds};
-ghost use Rattle.layout.specs.Lay.{wordRow, runRow, pastRun, runsOnly, Filled, HasRuns, ElementReady, PlainReady, plainRow, Standing, Stepped};
+ghost use Rattle.join.specs.Rows.{none, rowBy, endsBehind, Holds};
+ghost use Rattle.layout.specs.Lay.{wordRow, runRow, singleRow, pastRun, runsOnly, wordsOnly, Filled, HasRuns, WordReady, JukugoReady, Judged, PlainReady, plainRow, Standing, Stepped};
 ghost use Rattle.layout.specs.Walk.{Ready};
 use refusal::Refusal;
 
@@ -23,12 +30,9 @@ use refusal::Refusal;
 const NONE: word::Word = word::Word {
     front: 0,
     len: 0,
-    ruby: false,
-    from: 0,
-    upto: 0,
     inbase: 0,
-    inruby: 0,
-    runs: false,
+    right: word::NONE,
+    left: word::NONE,
 };
 
 // The rows of an M or a G.
@@ -51,10 +55,14 @@ fn put_word(t: &mut [u32], p: door::Piece, w: word::Word, ends: bool)
                 after: 0,
                 ruby: p.ruby as u32,
                 rubies: p.rubies as u32,
+                left: 0,
+                lefts: 0,
                 own: 0,
                 wide: 0,
                 over: 0,
                 western: false,
+                ownleft: 0,
+                more: false,
             },
         );
         i += 1;
@@ -76,10 +84,9 @@ fn run_width(r: usize, e: usize, rwidth: &[u32]) -> u32
     basics::sum_of(&rwidth[r..e])
 }
 
-// The row of base character i of a J: its own run has `run` ruby characters of the width `own`.
+// The row of base character i of a J of two or more: its own run has `run` ruby characters of the width `own`.
 fn run_row(
     p: door::Piece,
-    w: word::Word,
     ends: bool,
     i: usize,
     at: Cursor,
@@ -87,40 +94,26 @@ fn run_row(
     own: u32,
     western: bool,
 ) -> cells::Cell
-    requires { ⌜ (i ≤ p .base + p .bases) × (p .base + p .bases ≤ 4096) × (at .ruby ≤ 4096) ⌝ }
-    ensures { λ r. ⌜ r ≡ runRow p w ends i at run own western ⌝ }
+    requires { ⌜ (1 < p .bases) × (i ≤ p .base + p .bases) × (p .base + p .bases ≤ 4096) × (at .ruby ≤ 4096) ⌝ }
+    ensures { λ r. ⌜ r ≡ runRow p none ends i at run own western ⌝ }
 {
-    let bases = (p.base + p.bases - i) as u32;
-    let ruby = at.ruby as u32;
-    if 1 < p.bases {
-        return cells::Cell {
-            bases,
-            cut: true,
-            ends,
-            word: NONE,
-            before: 0,
-            after: 0,
-            ruby,
-            rubies: run,
-            own,
-            wide: at.wide,
-            over: at.over,
-            western,
-        };
-    }
     cells::Cell {
-        bases,
-        cut: false,
+        bases: (p.base + p.bases - i) as u32,
+        cut: true,
         ends,
-        word: w,
+        word: NONE,
         before: 0,
         after: 0,
-        ruby,
+        ruby: at.ruby as u32,
         rubies: run,
+        left: 0,
+        lefts: 0,
         own,
         wide: at.wide,
         over: at.over,
         western,
+        ownleft: 0,
+        more: false,
     }
 }
 
@@ -145,19 +138,18 @@ fn past_run(at: Cursor, run: u32, own: u32, em: u32) -> Cursor
     }
 }
 
-// The rows of a J.
+// The rows of a J of two characters or more.
 fn put_runs(
     t: &mut [u32],
     p: door::Piece,
-    w: word::Word,
     ends: bool,
     em: u32,
     rclass: &[u32],
     rwidth: &[u32],
     runs: &[u32],
 )
-    requires { ⌜ (isJ (p .form) ≡ true) × HasRuns (runsOnly em (now rclass) (now rwidth) (now runs)) p (now t) ⌝ }
-    ensures { λ _. ⌜ Filled (rowBy (runsOnly em (now (rclass .entry)) (now (rwidth .entry)) (now (runs .entry))) p w ends 0 0) (p .base) (p .base + p .bases) (now (t .entry)) (now (t .exit)) ⌝ }
+    requires { ⌜ (isJ (p .form) ≡ true) × (1 < p .bases) × HasRuns (runsOnly em (now rclass) (now rwidth) (now runs)) p (now t) ⌝ }
+    ensures { λ _. ⌜ Filled (rowBy (runsOnly em (now (rclass .entry)) (now (rwidth .entry)) (now (runs .entry))) p none ends 0 0) (p .base) (p .base + p .bases) (now (t .entry)) (now (t .exit)) ⌝ }
 {
     let n = p.base + p.bases;
     let mut at = Cursor {
@@ -171,44 +163,53 @@ fn put_runs(
         let r = at.ruby;
         let own = run_width(r, r + run as usize, rwidth);
         let western = class::is_western(rclass[r]);
-        let row = run_row(p, w, ends, i, at, run, own, western);
+        let row = run_row(p, ends, i, at, run, own, western);
         cells::put_cell(t, i, row);
         at = past_run(at, run, own, em);
         i += 1;
     }
 }
 
-fn is_jukugo(p: door::Piece) -> bool
-    ensures { λ r. ⌜ r ≡ isJ (p .form) ⌝ }
-{
-    let form = p.form;
-    match form {
-        word::Form::P => false,
-        word::Form::M => false,
-        word::Form::G => false,
-        word::Form::J => true,
-    }
-}
-
-// The rows of a word with ruby.
-fn put_element(
+// The row of a J of one character, which no line cuts.
+fn put_single(
     t: &mut [u32],
     p: door::Piece,
     w: word::Word,
     ends: bool,
-    em: u32,
     rclass: &[u32],
     rwidth: &[u32],
     runs: &[u32],
 )
-    requires { ⌜ ElementReady (runsOnly em (now rclass) (now rwidth) (now runs)) p (now t) ⌝ }
-    ensures { λ _. ⌜ Filled (rowBy (runsOnly em (now (rclass .entry)) (now (rwidth .entry)) (now (runs .entry))) p w ends 0 0) (p .base) (p .base + p .bases) (now (t .entry)) (now (t .exit)) ⌝ }
+    requires { ⌜ (p .bases ≡ 1) × HasRuns (runsOnly 0 (now rclass) (now rwidth) (now runs)) p (now t) ⌝ }
+    ensures { λ _. ⌜ Puts (now (t .entry)) (p .base) (singleRow p w ends (now (rclass .entry)) (now (rwidth .entry)) (now (runs .entry))) (now (t .exit)) ⌝ }
 {
-    if is_jukugo(p) {
-        put_runs(t, p, w, ends, em, rclass, rwidth, runs);
-    } else {
-        put_word(t, p, w, ends);
-    }
+    let u = p.run;
+    let run = runs[u];
+    let r = p.ruby;
+    let own = run_width(r, r + run as usize, rwidth);
+    let western = class::is_western(rclass[r]);
+    cells::put_cell(
+        t,
+        p.base,
+        cells::Cell {
+            bases: 1,
+            cut: false,
+            ends,
+            word: w,
+            before: 0,
+            after: 0,
+            ruby: r as u32,
+            rubies: run,
+            left: 0,
+            lefts: 0,
+            own,
+            wide: 0,
+            over: 0,
+            western,
+            ownleft: 0,
+            more: false,
+        },
+    );
 }
 
 // The row of a P, base character b, before which r ruby characters were taken.
@@ -244,12 +245,173 @@ fn put_plain(
             after: d.after,
             ruby: r as u32,
             rubies: 0,
+            left: 0,
+            lefts: 0,
             own: 0,
             wide: 0,
             over: 0,
             western: false,
+            ownleft: 0,
+            more: false,
         },
     );
+}
+
+// There is an element k of these, and it is a P.
+fn is_plain(k: usize, elements: usize, kind: &[u32]) -> bool
+    requires { ⌜ (k ≤ 4096) × (elements ≤ length (now kind)) ⌝ }
+    ensures { λ t. ⌜ t ≡ (ltb k elements && eqb (getD (now (kind .entry)) k 0) 80) ⌝ }
+{
+    if k < elements {
+        return kind[k] == door::PLAIN;
+    }
+    false
+}
+
+// Level one's refusal, handed up as it is.
+fn refused(place: u32, answer: word::Answer) -> door::Step
+    ensures { λ s. ⌜ ((why : refusals.Refusal) → answer ≡ Refused why → s ≡ Stop why) ⌝ }
+{
+    let word::Answer::Refused(told) = answer else {
+        return door::Step::Stop(Refusal::Element(place)); // unreachable: a word is no refusal
+    };
+    door::Step::Stop(told)
+}
+
+// Whether a line may end behind an element.
+fn ends_behind(p: door::Piece, flag: &[u32]) -> bool
+    requires { ⌜ (0 < p .bases) × (p .base + p .bases ≤ 1024) × (p .base + p .bases ≤ length (now flag)) ⌝ }
+    ensures { λ t. ⌜ t ≡ eqb (getD (now (flag .entry)) (p .base + p .bases - 1) 0) 1 ⌝ }
+{
+    let e = p.base + p.bases - 1;
+    flag[e] == 1
+}
+
+// An M: its row, or its refusal. `place` is the element's index.
+fn lay_mono(
+    t: &mut [u32],
+    place: u32,
+    p: door::Piece,
+    ratios: [[u32; 3]; 2],
+    em: u32,
+    width: &[u32],
+    before: &[u32],
+    after: &[u32],
+    flag: &[u32],
+    rwidth: &[u32],
+) -> door::Step
+    requires { let job = wordsOnly (ratiosOf ratios) em [] (now width) (now before) (now after) (now flag) [] (now rwidth) [] in ⌜ (p .bases ≡ 1) × WordReady job p (now t) ⌝ }
+    ensures { λ s. let job = wordsOnly (ratiosOf ratios) em [] (now (width .entry)) (now (before .entry)) (now (after .entry)) (now (flag .entry)) [] (now (rwidth .entry)) [] in ⌜ Judged (answer Form.M place (given job p)) (λ w. wordRow p w (endsBehind job p) 0 0) p (now (t .entry)) (now (t .exit)) s ⌝ }
+{
+    let b = p.base;
+    let e = b + 1;
+    let r = p.ruby;
+    let s = r + p.rubies;
+    let answer = word::mono_answer(
+        place,
+        ratios,
+        em,
+        &width[b..e],
+        &before[b..e],
+        &after[b..e],
+        &rwidth[r..s],
+    );
+    let word::Answer::Set(w) = answer else {
+        return refused(place, answer);
+    };
+    let ends = ends_behind(p, flag);
+    put_word(t, p, w, ends);
+    door::Step::Next(p)
+}
+
+// A G: its rows, or its refusal.
+fn lay_group(
+    t: &mut [u32],
+    place: u32,
+    p: door::Piece,
+    ratios: [[u32; 3]; 2],
+    em: u32,
+    class: &[u32],
+    width: &[u32],
+    before: &[u32],
+    after: &[u32],
+    flag: &[u32],
+    rclass: &[u32],
+    rwidth: &[u32],
+) -> door::Step
+    requires { let job = wordsOnly (ratiosOf ratios) em (now class) (now width) (now before) (now after) (now flag) (now rclass) (now rwidth) [] in ⌜ (p .base + p .bases ≤ length (now class)) × (p .ruby + p .rubies ≤ length (now rclass)) × WordReady job p (now t) ⌝ }
+    ensures { λ s. let job = wordsOnly (ratiosOf ratios) em (now (class .entry)) (now (width .entry)) (now (before .entry)) (now (after .entry)) (now (flag .entry)) (now (rclass .entry)) (now (rwidth .entry)) [] in ⌜ Judged (answer Form.G place (given job p)) (λ w. wordRow p w (endsBehind job p) 0 0) p (now (t .entry)) (now (t .exit)) s ⌝ }
+{
+    let b = p.base;
+    let e = b + p.bases;
+    let r = p.ruby;
+    let s = r + p.rubies;
+    let answer = word::group_answer(
+        place,
+        ratios,
+        em,
+        &class[b..e],
+        &width[b..e],
+        &before[b..e],
+        &after[b..e],
+        &rclass[r..s],
+        &rwidth[r..s],
+    );
+    let word::Answer::Set(w) = answer else {
+        return refused(place, answer);
+    };
+    let ends = ends_behind(p, flag);
+    put_word(t, p, w, ends);
+    door::Step::Next(p)
+}
+
+// A J: its rows, or its refusal.
+fn lay_jukugo(
+    t: &mut [u32],
+    place: u32,
+    p: door::Piece,
+    ratios: [[u32; 3]; 2],
+    em: u32,
+    class: &[u32],
+    width: &[u32],
+    before: &[u32],
+    after: &[u32],
+    flag: &[u32],
+    rclass: &[u32],
+    rwidth: &[u32],
+    runs: &[u32],
+) -> door::Step
+    requires { let job = wordsOnly (ratiosOf ratios) em (now class) (now width) (now before) (now after) (now flag) (now rclass) (now rwidth) (now runs) in ⌜ JukugoReady job p (now t) ⌝ }
+    ensures { λ s. let job = wordsOnly (ratiosOf ratios) em (now (class .entry)) (now (width .entry)) (now (before .entry)) (now (after .entry)) (now (flag .entry)) (now (rclass .entry)) (now (rwidth .entry)) (now (runs .entry)) in ⌜ Judged (answer Form.J place (given job p)) (λ w. rowBy (runsOnly em (now (rclass .entry)) (now (rwidth .entry)) (now (runs .entry))) p w (endsBehind job p) 0 0) p (now (t .entry)) (now (t .exit)) s ⌝ }
+{
+    let b = p.base;
+    let e = b + p.bases;
+    let r = p.ruby;
+    let s = r + p.rubies;
+    let u = p.run;
+    let v = u + p.bases;
+    let answer = word::jukugo_answer(
+        place,
+        ratios,
+        em,
+        &class[b..e],
+        &width[b..e],
+        &before[b..e],
+        &after[b..e],
+        &rclass[r..s],
+        &rwidth[r..s],
+        &runs[u..v],
+    );
+    let word::Answer::Set(w) = answer else {
+        return refused(place, answer);
+    };
+    let ends = ends_behind(p, flag);
+    if p.bases == 1 {
+        put_single(t, p, w, ends, rclass, rwidth, runs);
+    } else {
+        put_runs(t, p, ends, em, rclass, rwidth, runs);
+    }
+    door::Step::Next(p)
 }
 
 // Element k, a word with ruby, those before it having taken b base characters, r ruby characters and u runs, of `bases` and `rubies` in all: numbers 5, 6, and 7 to 10 as
@@ -288,29 +450,40 @@ fn lay_word(
     if door::runs_out(p, bases, rubies) {
         return door::Step::Stop(Refusal::Supply(place));
     }
-    let answer = door::measure_piece(
-        place,
-        p,
-        ratios,
-        em,
-        class,
-        width,
-        before,
-        after,
-        rclass,
-        rwidth,
-        runs,
-    );
-    let word::Answer::Set(w) = answer else {
-        let word::Answer::Refused(why) = answer else {
-            return door::Step::Stop(Refusal::Element(place)); // unreachable: an answer is one of the two
-        };
-        return door::Step::Stop(why);
-    };
-    let e = p.base + p.bases - 1;
-    let ends = flag[e] == 1;
-    put_element(t, p, w, ends, em, rclass, rwidth, runs);
-    door::Step::Next(p)
+    let form = p.form;
+    match form {
+        word::Form::P => door::Step::Stop(Refusal::Element(place)), // unreachable: a P is laid by `put_plain`
+        word::Form::M => lay_mono(t, place, p, ratios, em, width, before, after, flag, rwidth),
+        word::Form::G => lay_group(
+            t,
+            place,
+            p,
+            ratios,
+            em,
+            class,
+            width,
+            before,
+            after,
+            flag,
+            rclass,
+            rwidth,
+        ),
+        word::Form::J => lay_jukugo(
+            t,
+            place,
+            p,
+            ratios,
+            em,
+            class,
+            width,
+            before,
+            after,
+            flag,
+            rclass,
+            rwidth,
+            runs,
+        ),
+    }
 }
 
 // The head of the table and the rows of a job's elements, or the first of their refusals; characters have passed numbers 3 and 4.
@@ -334,7 +507,7 @@ pub fn layout(
     requires { let job = jobOf em 0 ratios profile (now class) (now width) (now before) (now after) (now flag) (now rclass) (now rwidth) (now kind) (now ebase) (now eruby) (now runs) in ⌜ Ready job (now t) ⌝ }
     ensures { λ c. let job = jobOf em 0 ratios profile (now (class .entry)) (now (width .entry)) (now (before .entry)) (now (after .entry)) (now (flag .entry)) (now (rclass .entry)) (now (rwidth .entry)) (now (kind .entry)) (now (ebase .entry)) (now (eruby .entry)) (now (runs .entry)) in ⌜ (c ≡ verdict (elementsFaults job 0 (elements job) ++ leftFaults job)) × (c ≡ Passed → Holds job (now (t .exit))) ⌝ }
 {
-    cells::put_ratios(t, ratios);
+    cells::put_head(t, ratios, 0);
     let elements = door::element_count(kind, ebase, eruby);
     let bases = door::base_count(class, width, before, after, flag);
     let rubies = door::ruby_count(rclass, rwidth);
@@ -344,12 +517,15 @@ pub fn layout(
     let mut u: usize = 0;
     while k < elements {
         if kind[k] == door::PLAIN {
-            if bases <= b {
-                return door::Checked::Refused(Refusal::Supply(k as u32));
+            // A loop of their own for the P of a text: most have a P next to them, and its lists are then at hand.
+            while is_plain(k, elements, kind) {
+                if bases <= b {
+                    return door::Checked::Refused(Refusal::Supply(k as u32));
+                }
+                put_plain(t, b, r, em, profile, class, width, before, after, flag);
+                b += 1;
+                k += 1;
             }
-            put_plain(t, b, r, em, profile, class, width, before, after, flag);
-            b += 1;
-            k += 1;
             continue;
         }
         match lay_word(

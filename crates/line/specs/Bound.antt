@@ -1,15 +1,15 @@
 -- No position in a line passes the sum of its elements' totals: an element starts at or before the furthest end so far, and so takes it on
 -- by its own total at most.
 use mathlib.Core.List.{List, [], _∷_, map}
-use Prim.Native.Nat.{ℕ, _+_, _≤_, max}
+use Prim.Native.Nat.{ℕ, _+_, _≤_, max, zero-le}
 use native.Mathlib.Omega.{arith}
 use Rattle.basics.specs.Lists.{sum}
 use Rattle.line.specs.declared.Element.{Element}
 use Rattle.line.specs.declared.State.{State}
 use Rattle.line.specs.declared.Side.{Side}
 use Rattle.line.specs.declared.Side.the-variants.{Right, Left}
-use Rattle.line.specs.Rules.{ruby, HasRuby, extent}
-use Rattle.line.specs.Setting.{rubyUpto, start, reach, put, asks, asked, origin, settle, run, furthest, rubyTotal, total}
+use Rattle.line.specs.Rules.{ruby, HasRuby, rubyOf, rubyEnd, extent}
+use Rattle.line.specs.Setting.{start, reach, put, asks, asked, origin, settle, run, furthest, rubyTotal, total}
 use Rattle.line.specs.Flag.{by-flag, raised}
 use Rattle.line.specs.Least.{max-le, reach-put}
 use Rattle.line.specs.Extent.{furthest-le, reach-furthest}
@@ -42,9 +42,8 @@ put-bound st e = go (origin st e) (origin-bound st e)
         reached : (s : Side) → reach s st ≤ furthest st + total e
         reached s = omega (arith, reach-furthest s st)
 
-        ends : (s : Side) → x + rubyUpto s e ≤ furthest st + total e
-        ends s =
-            by-flag (λ v. x + v ≤ furthest st + total e) (ruby s e .there) (ruby s e .upto) (e .front) (λ t. omega (arith, upto-total s e t)) (λ n. omega arith)
+        ends : (s : Side) → rubyEnd s e x ≤ furthest st + total e
+        ends s = by-flag (λ v. v ≤ furthest st + total e) (ruby s e .there) (rubyOf s e x .end) 0 (λ t. omega (arith, upto-total s e t)) (λ n. zero-le)
 
 pub run-bound : (st : State) (es : List Element) → furthest (run st es) ≤ furthest st + sum (map total es)
 unfolding run

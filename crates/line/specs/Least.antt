@@ -1,6 +1,7 @@
 -- The setting by its states. The least origin is the least that the state allows, and an origin nearer the start leaves a state that asks
 -- no more of what follows; so each origin of the setting is at or before that of any setting that follows its own states.
 use mathlib.Core.Path.{_≡_, refl, sym, ap, _∙_}
+use mathlib.Core.Bool.{Bool, true, false, cond}
 use mathlib.Core.List.{List, [], _∷_, _++_}
 use Prim.Native.Nat.{ℕ, zero, suc, _+_, _-_, _≤_, _<_, max, zero-le}
 use native.Mathlib.Omega.{arith}
@@ -9,8 +10,8 @@ use Rattle.line.specs.declared.Element.{Element}
 use Rattle.line.specs.declared.State.{State}
 use Rattle.line.specs.declared.Side.{Side}
 use Rattle.line.specs.declared.Side.the-variants.{Right, Left}
-use Rattle.line.specs.Rules.{ruby, HasRuby, el, org}
-use Rattle.line.specs.Setting.{rubyFrom, rubyUpto, start, reach, put, Near, asks, asked, origin, settleFrom, settle, run, after, Follows}
+use Rattle.line.specs.Rules.{ruby, HasRuby, rubyOf, rubyEnd, el, org}
+use Rattle.line.specs.Setting.{rubyFrom, start, reach, put, Near, asks, asked, origin, settleFrom, settle, run, after, Follows}
 use Rattle.line.specs.Flag.{raised}
 
 max-left : (a b : ℕ) {x : ℕ} → max a b ≤ x → a ≤ x
@@ -60,7 +61,7 @@ unfolding origin
 near-origin st e x n = max-le (near-asked Right st e x (n Right)) (near-asked Left st e x (n Left))
 
 -- the furthest ruby of a side once e is at x
-pub reach-put : (s : Side) (st : State) (e : Element) (x : ℕ) → reach s (put st e x) ≡ max (reach s st) (x + rubyUpto s e)
+pub reach-put : (s : Side) (st : State) (e : Element) (x : ℕ) → reach s (put st e x) ≡ max (reach s st) (rubyEnd s e x)
 reach-put Right st e x = refl
 reach-put Left st e x = refl
 
@@ -68,8 +69,16 @@ reach-put Left st e x = refl
 pub from-is : (s : Side) (e : Element) → HasRuby s e → rubyFrom s e ≡ ruby s e .from
 from-is s e = raised (ruby s e .there) (ruby s e .from) (e .front + e .len)
 
-pub upto-is : (s : Side) (e : Element) → HasRuby s e → rubyUpto s e ≡ ruby s e .upto
-upto-is s e = raised (ruby s e .there) (ruby s e .upto) (e .front)
+pub end-is : (s : Side) (e : Element) (x : ℕ) → HasRuby s e → rubyEnd s e x ≡ rubyOf s e x .end
+end-is s e x = raised (ruby s e .there) (rubyOf s e x .end) 0
+
+-- an element nearer the start has its ruby no further on
+end-nearer : (s : Side) (e : Element) (x y : ℕ) → x ≤ y → rubyEnd s e x ≤ rubyEnd s e y
+end-nearer s e x y h = go (ruby s e .there)
+  where
+    go : (b : Bool) → cond b (x + ruby s e .upto) 0 ≤ cond b (y + ruby s e .upto) 0
+    go true = omega arith
+    go false = zero-le
 
 -- a state that asks no more than another
 pub record Under (st st′ : State) : Type 0 where
@@ -131,7 +140,18 @@ module _ (es : List Element) (xs : List ℕ) (f : Follows es xs) where
   under (suc i) h =
       let u = under i (omega arith) in
       let l = at i h u in
-      record { end = omega arith; reach = λ s. omega (arith, reach-put s (after start es (settle es) i) (el es i) (org (settle es) i), reach-put s (after start es xs i) (el es i) (org xs i), u .reach s); room = refl }
+      record {
+        end = omega arith;
+        reach = λ s.
+            omega (
+              arith,
+              reach-put s (after start es (settle es) i) (el es i) (org (settle es) i),
+              reach-put s (after start es xs i) (el es i) (org xs i),
+              u .reach s,
+              end-nearer s (el es i) (org (settle es) i) (org xs i) l,
+            );
+        room = refl;
+      }
 
   pub settle-least : (i : ℕ) → i < length es → org (settle es) i ≤ org xs i
   settle-least i h = at i h (under i (omega arith))

@@ -10,7 +10,7 @@ use Rattle.line.specs.declared.Element.{Element}
 use Rattle.line.specs.declared.State.{State}
 use Rattle.line.specs.declared.Side.{Side}
 use Rattle.line.specs.declared.Side.the-variants.{Right, Left}
-use Rattle.line.specs.Rules.{other, ruby, HasRuby, el, org}
+use Rattle.line.specs.Rules.{other, ruby, HasRuby, rubyOf, el, org}
 use Rattle.line.specs.Setting.{rubyFrom, start, reach, put, Near, asked, origin, settleFrom, settle, after, Follows}
 use Rattle.line.specs.Flag.{lowered}
 use Rattle.line.specs.Least.{asked-near, near-asked, reach-put}
@@ -26,7 +26,7 @@ Without s es = (i : ℕ) → i < length es → HasRuby s (el es i) → ⊥
 
 -- a side without readings reaches no further than the blocks
 idle-put : (s : Side) (st : State) (e : Element) (x : ℕ) → (HasRuby s e → ⊥) → reach s st ≤ st .end → st .end ≤ x + e .front → reach s (put st e x) ≤ put st e x .end
-idle-put s st e x n h b = omega (arith, reach-put s st e x, lowered (ruby s e .there) (ruby s e .upto) (e .front) n)
+idle-put s st e x n h b = omega (arith, reach-put s st e x, lowered (ruby s e .there) (rubyOf s e x .end) 0 n)
 
 idle-start : (s : Side) → reach s start ≤ 0
 idle-start Right = zero-le
@@ -73,7 +73,10 @@ unfolding settleFrom askedFrom
 one-from s st [] n h = refl
 one-from s st (e ∷ es) n h =
     ap (λ x. x ∷ settleFrom (put st e x) es) (one-origin s st e (n 0 (omega arith)) h)
-    ∙ ap (λ xs. asked s st e ∷ xs) (one-from s (put st e (asked s st e)) es (λ i l. n (suc i) (omega arith)) (idle-put (other s) st e _ (n 0 (omega arith)) h (asked-near s st e (asked s st e) (omega arith) .block)))
+    ∙ ap (λ xs. asked s st e ∷ xs) (one-from s (put st e (asked s st e)) es (λ i l. n (suc i) (omega arith)) behind)
+  where
+    behind : reach (other s) (put st e (asked s st e)) ≤ put st e (asked s st e) .end
+    behind = idle-put (other s) st e (asked s st e) (n 0 (omega arith)) h (asked-near s st e (asked s st e) (omega arith) .block)
 
 pub one-side : (s : Side) (es : List Element) → Without (other s) es → settle es ≡ askedFrom s start es
 one-side s es n = one-from s start es n (idle-start (other s))

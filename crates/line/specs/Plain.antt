@@ -2,13 +2,13 @@
 -- stands.
 use mathlib.Core.Path.{_≡_, _∙_, ap, ap₂}
 use mathlib.Core.Bool.{false}
-use Prim.Native.Nat.{ℕ, _+_, _-_, _≤_, _<_, max}
+use Prim.Native.Nat.{ℕ, _+_, _-_, _≤_, max}
 use native.Mathlib.Omega.{arith}
 use Rattle.line.specs.declared.Element.{Element}
 use Rattle.line.specs.declared.State.{State}
 use Rattle.line.specs.declared.Placed.{Placed}
 use Rattle.line.specs.Rules.{noReading}
-use Rattle.line.specs.Setting.{asks, origin, put, placed}
+use Rattle.line.specs.Setting.{asks, origin, placed}
 
 abbrev pub plain : ℕ → ℕ → ℕ → Element
 plain len before after = record { front = 0; len = len; right = noReading; left = noReading; before = before; after = after }
@@ -35,13 +35,13 @@ module _ (st : State) (len before after : ℕ) (h : before ≤ len) where
       less : (r l : ℕ) → max (r - before) (l - before) ≡ max r l - before
       less r l = omega arith
 
-  pub plain-placed : (x e r l : ℕ) → x ≡ max (st .end) (max (st .right) (st .left) - before) → e ≡ x + len → r ≡ max (st .right) x → l ≡ max (st .left) x →
-      _≡_ {A = Placed} (record { at = x; st = record { end = e; right = r; left = l; room = after } }) (placed st (plain len before after))
-  plain-placed x e r l p q s t =
-      rw (plain-origin, ← p) (go (x + 0 + len) (max (st .right) (x + 0)) (max (st .left) (x + 0)) (omega arith) (omega arith) (omega arith))
+  -- the rubies reach as far as they did
+  pub plain-placed : (x e : ℕ) → x ≡ max (st .end) (max (st .right) (st .left) - before) → e ≡ x + len →
+      _≡_ {A = Placed} (record { at = x; st = record { end = e; right = st .right; left = st .left; room = after } }) (placed st (plain len before after))
+  plain-placed x e p q = rw (plain-origin, ← p) (go (x + 0 + len) (max (st .right) 0) (max (st .left) 0) (omega arith) (omega arith) (omega arith))
     where
-      go : (a b c : ℕ) → e ≡ a → r ≡ b → l ≡ c →
-          _≡_ {A = Placed} (record { at = x; st = record { end = e; right = r; left = l; room = after } })
+      go : (a b c : ℕ) → e ≡ a → st .right ≡ b → st .left ≡ c →
+          _≡_ {A = Placed} (record { at = x; st = record { end = e; right = st .right; left = st .left; room = after } })
           (record { at = x; st = record { end = a; right = b; left = c; room = after } })
       go a b c f g k = cc
 

@@ -12,19 +12,13 @@ use Rattle.line.specs.declared.Side.{Side}
 use Rattle.line.specs.declared.Side.the-variants.{Right, Left}
 use Rattle.line.specs.Rules.{ruby, el, org}
 
--- Where a reading r of e starts and ends in e's coordinates. Where it isn't there the block's end and start stand in for them: the demands
--- below then ask no more than those of the blocks.
+-- Where a reading r of e starts in e's coordinates. Where it isn't there the block's end stands in for it: the demands below then ask no more
+-- than those of the blocks.
 abbrev pub fromIn : Element → Reading → ℕ
 fromIn e r = cond (r .there) (r .from) (e .front + e .len)
 
-abbrev pub uptoIn : Element → Reading → ℕ
-uptoIn e r = cond (r .there) (r .upto) (e .front)
-
 abbrev pub rubyFrom : Side → Element → ℕ
 rubyFrom s e = fromIn e (ruby s e)
-
-abbrev pub rubyUpto : Side → Element → ℕ
-rubyUpto s e = uptoIn e (ruby s e)
 
 -- at the line's start nothing stands yet
 abbrev pub start : State
@@ -35,14 +29,18 @@ abbrev pub reach : Side → State → ℕ
 reach Right st = st .right
 reach Left st = st .left
 
+-- the furthest end of the rubies of a side, z so far, once an element with the reading r there is at x: where it has none, as it was
+abbrev pub reached : ℕ → ℕ → Reading → ℕ
+reached z x r = max z (cond (r .there) (x + r .upto) 0)
+
 -- what stands once e is at x: the end of its block, the furthest end of the rubies of each side, and the depth to which ruby may lie on e
 -- from its end
 abbrev pub put : State → Element → ℕ → State
 put st e x =
     record {
       end = x + e .front + e .len;
-      right = max (st .right) (x + rubyUpto Right e);
-      left = max (st .left) (x + rubyUpto Left e);
+      right = reached (st .right) x (e .right);
+      left = reached (st .left) x (e .left);
       room = e .after;
     }
 

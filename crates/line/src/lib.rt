@@ -6,7 +6,7 @@ ghost use mathlib.Core.Path.{_≡_};
 ghost use mathlib.Core.Bool.{not, _&&_};
 ghost use Prim.Native.Nat.{_+_, _-_, _≤_};
 ghost use lib.Dec.{leb};
-ghost use Rattle.line.specs.Setting.{fromIn, uptoIn, total, furthest, asks, origin, placed};
+ghost use Rattle.line.specs.Setting.{fromIn, reached, total, furthest, asks, origin, placed};
 ghost use Rattle.line.specs.Plain.{plain};
 
 // The two sides of a word. The rules are said over a side, once for both.
@@ -80,12 +80,16 @@ fn ruby_from(e: Element, r: Reading) -> u32
     if there { r.from } else { e.front + e.len }
 }
 
-// Where it ends; where it isn't there the block's start.
-fn ruby_upto(e: Element, r: Reading) -> u32
-    ensures { λ n. ⌜ n ≡ uptoIn e r ⌝ }
+// How far the rubies of a side reach, up to `reach` so far, once an element with the reading r there is at x: where it has none, as they did.
+fn reach_with(reach: u32, x: u32, r: Reading) -> u32
+    requires { ⌜ reached reach x r ≤ 4294967295 ⌝ }
+    ensures { λ n. ⌜ n ≡ reached reach x r ⌝ }
 {
     let there = r.there;
-    if there { r.upto } else { e.front }
+    if there {
+        return basics::larger(reach, x + r.upto);
+    }
+    reach
 }
 
 // The least origin of e after st for one side, whose rubies reach up to `reach` so far and on which e has the reading r: the largest
@@ -128,14 +132,12 @@ pub fn place(st: State, e: Element) -> Placed
     ensures { λ r. ⌜ r ≡ placed st e ⌝ }
 {
     let at = least_origin(st, e);
-    let right = ruby_upto(e, e.right);
-    let left = ruby_upto(e, e.left);
     Placed {
         at,
         st: State {
             end: at + e.front + e.len,
-            right: basics::larger(st.right, at + right),
-            left: basics::larger(st.left, at + left),
+            right: reach_with(st.right, at, e.right),
+            left: reach_with(st.left, at, e.left),
             room: e.after,
         },
     }
@@ -154,8 +156,8 @@ pub fn place_plain(st: State, len: u32, before: u32, after: u32) -> Placed
             at,
             st: State {
                 end: at + len,
-                right: basics::larger(st.right, at),
-                left: basics::larger(st.left, at),
+                right: st.right,
+                left: st.left,
                 room: after,
             },
         };
@@ -164,8 +166,8 @@ pub fn place_plain(st: State, len: u32, before: u32, after: u32) -> Placed
         at: st.end,
         st: State {
             end: st.end + len,
-            right: st.end,
-            left: st.end,
+            right: st.right,
+            left: st.left,
             room: after,
         },
     }

@@ -79,7 +79,7 @@ pub record Same (job : Job) (t : List ℕ) (i c : ℕ) (p : Piece) : Type 0 wher
   pub word : wordAt (job .em) t i c ≡ wordOf job p
   pub good : GoodPiece job p
   pub single : hasRuby (p .form) ≡ false → p .bases ≡ 1
-  pub runs : wordOf job p .runs ≡ true → ByRuns job t i c p
+  pub runs : wordOf job p .right .runs ≡ true → ByRuns job t i c p
 
 module _ (job : Job) (passed : Passed job) (t : List ℕ) (table : Holds job t) (x : Piece) (at : IsElement job x) (i c : ℕ)
     (from : x .base ≤ i) (ahead : i < c) (within : c ≤ x .base + x .bases) where
@@ -108,7 +108,7 @@ module _ (job : Job) (passed : Passed job) (t : List ℕ) (table : Holds job t) 
               fit =
                   subst (λ (z : ℕ). Runs (job .em) t (job .rubyWidth) (rubyCount job) z c) (low (x .base) from)
                   (subst (λ (z : ℕ). Runs (job .em) t (job .rubyWidth) (rubyCount job) (x .base + k) z) (high (x .base) from)
-                  (runs-fit job passed t table x at j k n (omega arith) (omega arith) (promise job (part job x k n) good .each w)));
+                  (runs-fit job passed t table x at j k n (omega arith) (omega arith) (promise job (part job x k n) good .each w .0)));
               last = is-last;
               put = λ y. ap (λ (z : ℕ). runsPut (job .em) t (job .rubyWidth) (c - i) z y) (sym (low (x .base) from)) ∙ runs-put job passed t table x at j n k y (omega arith);
             };
@@ -170,14 +170,14 @@ module _ (job : Job) (passed : Passed job) (t : List ℕ) (table : Holds job t) 
           at .good .counts .whole j ∙ ap (λ (z : ℕ). sum (entries (job .run) (x .run) z)) (lone j) ∙ add-zero (getD (job .run) (x .run) 0)
           ∙ sym (join.rubies-at job passed t table x at j i from in-it ∙ ap (runAt job x) (back (x .base) f) ∙ ap (λ (z : ℕ). getD (job .run) z 0) (add-zero (x .run)))
 
-      by-runs : isJ (x .form) ≡ true → wordOf job x .runs ≡ true → ByRuns job t i c x
+      by-runs : isJ (x .form) ≡ true → wordOf job x .right .runs ≡ true → ByRuns job t i c x
       by-runs j w =
           record {
             fit =
                 subst (λ (z : ℕ). Runs (job .em) t (job .rubyWidth) (rubyCount job) z c) (low (x .base) f)
                 (subst (λ (z : ℕ). Runs (job .em) t (job .rubyWidth) (rubyCount job) (x .base + 0) z) (high (x .base) l)
                 (runs-fit job passed t table x at j 0 (x .bases) (at .good .counts .some) (omega arith)
-                (ap₂ (λ a b. alone.anyLonger (job .em) (alone.split a b)) run-is widths-is ∙ promise job x (whole-piece job passed x (at .good)) .each w)));
+                (ap₂ (λ a b. alone.anyLonger (job .em) (alone.split a b)) run-is widths-is ∙ promise job x (whole-piece job passed x (at .good)) .each w .0)));
             last = is-own ∙ ap (runEnd t) (omega (arith, lone j));
             put =
                 λ y. ap₂ (λ (m z : ℕ). runsPut (job .em) t (job .rubyWidth) m z y) (long (x .base) (x .bases) f l) (sym (low (x .base) f))
@@ -236,7 +236,7 @@ module _ {job : Job} {t : List ℕ} {i c : ℕ} {p : Piece} (q : Same job t i c 
   abbrev w : Word
   w = wordOf job p
 
-  has-ruby : hasRuby (p .form) ≡ w .ruby
+  has-ruby : hasRuby (p .form) ≡ w .right .there
   has-ruby = sym (promise job p (q .good) .reads)
 
   pub base-lent : lent (job .width) i c ≡ given job p .width
@@ -253,22 +253,22 @@ module _ {job : Job} {t : List ℕ} {i c : ℕ} {p : Piece} (q : Same job t i c 
   -- the piece's characters stand where the job's do
   pub base-put : (o : ℕ) → basePut (sheetOf job t) i c o ≡ baseAt job p o
   unfolding basePut baseAt
-  base-put o = ap₂ (λ v l. cond (v .ruby) (word.baseStarts v o l) (o ∷ [])) (q .word) base-lent ∙ go (w .ruby) refl
+  base-put o = ap₂ (λ v l. cond (v .right .there) (word.baseStarts v o l) (o ∷ [])) (q .word) base-lent ∙ go (w .right .there) refl
     where
-      go : (b : Bool) → w .ruby ≡ b → cond b (word.baseStarts w o (given job p .width)) (o ∷ []) ≡ map (λ y. o + y) (places (p .form) (given job p) .base)
+      go : (b : Bool) → w .right .there ≡ b → cond b (word.baseStarts w o (given job p .width)) (o ∷ []) ≡ map (λ y. o + y) (places (p .form) (given job p) .base)
       go true h = base-stands (p .form) 0 (given job p) w (q .good .set 0) o
       go false h =
           sym (plain-stands (p .form) (given job p) (has-ruby ∙ h) (length-entries (job .width) (p .base) (p .bases) ∙ q .single (has-ruby ∙ h)) o)
 
-  by-way : (o : ℕ) (b : Bool) → w .runs ≡ b → rubyBy (job .em) t (job .rubyWidth) w i c o ≡ word.rubyStarts w (job .em) o (given job p .run) (given job p .rubyWidth)
+  by-way : (o : ℕ) (b : Bool) → w .right .runs ≡ b → rubyBy (job .em) t (job .rubyWidth) w i c o ≡ word.rubyStarts w (job .em) o (given job p .run) (given job p .rubyWidth)
   unfolding rubyBy word.rubyStarts
   by-way o true e = rw e (q .runs e .put o)
   by-way o false e = rw (e, ruby-lent)
 
   pub ruby-put : (o : ℕ) → rubyPut (sheetOf job t) i c o ≡ rubyAt job p o
   unfolding rubyPut rubyAt
-  ruby-put o = ap (λ v. cond (v .ruby) (rubyBy (job .em) t (job .rubyWidth) v i c o) []) (q .word) ∙ go (w .ruby) refl
+  ruby-put o = ap (λ v. cond (v .right .there) (rubyBy (job .em) t (job .rubyWidth) v i c o) []) (q .word) ∙ go (w .right .there) refl
     where
-      go : (b : Bool) → w .ruby ≡ b → cond b (rubyBy (job .em) t (job .rubyWidth) w i c o) [] ≡ map (λ y. o + y) (places (p .form) (given job p) .ruby)
-      go true h = by-way o (w .runs) refl ∙ ruby-stands (p .form) 0 (given job p) w (q .good .set 0) (has-ruby ∙ h) o
+      go : (b : Bool) → w .right .there ≡ b → cond b (rubyBy (job .em) t (job .rubyWidth) w i c o) [] ≡ map (λ y. o + y) (places (p .form) (given job p) .ruby)
+      go true h = by-way o (w .right .runs) refl ∙ ruby-stands (p .form) 0 (given job p) w (q .good .set 0) (has-ruby ∙ h) o
       go false h = sym (ap (map (λ y. o + y)) (no-ruby (p .form) (given job p) (has-ruby ∙ h)))

@@ -46,7 +46,7 @@ fits {job} {t} {i} {c} {p} q l next =
     k : Promise (p .form) (given job p) (wordOf job p)
     k = promise job p (q .good)
 
-    no-ruby : wordAt (job .em) t i c .ruby ≡ false → hasRuby (p .form) ≡ false
+    no-ruby : wordAt (job .em) t i c .right .there ≡ false → hasRuby (p .form) ≡ false
     no-ruby e = sym (k .reads) ∙ rw (q .word) at e
 
 module _ (job : Job) (passed : Passed job) (t : List ℕ) (table : Holds job t) where

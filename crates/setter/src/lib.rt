@@ -31,7 +31,7 @@ fn set_lists(
     requires { ⌜ longest ≤ length (now out) ⌝ }
     ensures { λ r. ⌜ Told (jobOf em measure usualLists 0 (now (class .entry)) (now (width .entry)) (now (before .entry)) (now (after .entry)) (now (flag .entry)) (now (rclass .entry)) (now (rwidth .entry)) (now (kind .entry)) (now (ebase .entry)) (now (eruby .entry)) (now (runs .entry))) (now (base .entry)) (now (ruby .entry)) (now (lines .entry)) (now (out .entry)) r (now (base .exit)) (now (ruby .exit)) (now (lines .exit)) (now (out .exit)) ⌝ }
 {
-    let mut t = [0; 19462];
+    let mut t = [0; 19463];
     let mut ends = [0; 1024];
     let mut extents = [0; 1024];
     match engine::set_table(

@@ -99,17 +99,26 @@ groups r l b h em bs rs ls =
 
 -- "A J with a left G, or with a left J and a run longer than one em on either side, is taken as group on both sides and isn't cut; every other J is cut as in document 01":
 -- `longer` says that some run of either side is
+abbrev pub isGroup : Left → Bool
+isGroup N = false
+isGroup M = false
+isGroup G = true
+isGroup J = false
+
+abbrev pub isJukugo : Left → Bool
+isJukugo N = false
+isJukugo M = false
+isJukugo G = false
+isJukugo J = true
+
 abbrev pub uncut : Left → Bool → Bool
-uncut N longer = false
-uncut M longer = false
-uncut G longer = true
-uncut J longer = longer
+uncut kind longer = isGroup kind || (isJukugo kind && longer)
 
 -- a J with a left J: its runs stay over their own characters on both sides, or it is taken as group on both
 unfoldable pub jukugos : Script → Script → Ratios → ℕ → List ℕ → List ℕ → List ℕ → List ℕ → List ℕ → Both
 unfolding groups overOwn
 jukugos r l h em bs runs rs lruns ls =
-    cond (uncut J (anyLonger em (split runs rs) || anyLonger em (split lruns ls)))
+    cond (anyLonger em (split runs rs) || anyLonger em (split lruns ls))
     (groups r l Kana h em bs rs ls)
     (record { base = along (solid 0 bs) bs; right = overOwn em 0 (split runs rs); left = overOwn em 0 (split lruns ls) })
 
@@ -120,7 +129,7 @@ two form.P w g = record { base = alone.places form.P w .base; right = []; left =
 two form.M w g = monos (w .width) (w .rubyWidth) (g .width)
 two form.G w g = groups (script (w .rubyClass)) (script (g .class)) (script (w .class)) (w .ratios) (w .em) (w .width) (w .rubyWidth) (g .width)
 two form.J w g =
-    cond (uncut (g .kind) false)
+    cond (isGroup (g .kind))
     (groups (script (w .rubyClass)) (script (g .class)) Kana (w .ratios) (w .em) (w .width) (w .rubyWidth) (g .width))
     (jukugos (script (w .rubyClass)) (script (g .class)) (w .ratios) (w .em) (w .width) (w .run) (w .rubyWidth) (g .run) (g .width))
 

@@ -24,7 +24,7 @@ pub data Element : Type 0 where
   J : List ℕ → Element
 
 -- b base characters and the runs of ruby characters over them
-pub given : Ratios → ℕ → List ℕ → Given
+unfoldable pub given : Ratios → ℕ → List ℕ → Given
 given h b runs =
     record {
       em = 10;

@@ -34,8 +34,8 @@ use Rattle.word.specs.Promise.{Promise}
 use Rattle.word.specs.Promise as promise
 use Rattle.word.specs.Sized.{Small, Sized, small}
 use Rattle.word.specs.Runs.{first-fits, last-fits}
-use Rattle.word.specs.Both.{Gloss, hasLeft, takes, apart, uncut, longest}
-use Rattle.word.specs.Sides.{strOf, readingOver, sided, groupsWord, jukugosWord, wordTwo, wordOf}
+use Rattle.word.specs.Both.{Gloss, hasLeft, takes, apart, isGroup, longest}
+use Rattle.word.specs.Sides.{strOf, readingOver, sided, groupsWord, jukugosBy, jukugosWord, twoBy, wordTwo, wordOf}
 
 -- a reading that lies within the block of its word, or around it; or within another reading
 pub record Inside (v : Word) (u : Reading) : Type 0 where
@@ -91,6 +91,7 @@ pub record LeftSized (form : Form) (g : Gloss) : Type 0 where
   pub reads : hasLeft (g .kind) ≡ true → 0 < length (g .width)
   pub few : length (g .width) ≤ 64
   pub narrow : sum (g .width) ≤ 262144
+  pub none : hasLeft (g .kind) ≡ false → g .width ≡ []
 
 -- A word without a left reading.
 
@@ -270,7 +271,7 @@ by-cond false Q f g = g refl
 
 two-kept : (form : Form) (w : Given) (g : Gloss) → Sized form (w .width) (w .rubyWidth) (w .run) → LeftSized form g → (isJ form ≡ true → w .em ≤ sum (w .width)) → hasLeft (g .kind) ≡ true →
     Kept form w g (wordTwo form w g)
-unfolding wordTwo jukugosWord
+unfolding wordTwo twoBy jukugosBy jukugosWord
 two-kept form.P w g s z j here = absurd (none (g .kind) (z .takes) here)
   where
     none : (k : Left) → takes form.P k ≡ true → hasLeft k ≡ true → ⊥
@@ -285,7 +286,7 @@ two-kept form.G w g s z j here =
     let b = script (w .class) in
     by-sides form.G w g refl (small form.G _ _ _ refl s) z here (rubyWay r b) (rubyWay l b) (cond (leb (sum (g .width)) (sum (w .rubyWidth))) (baseWay r b) (baseWay l b))
 two-kept form.J w g s z j here =
-    by-cond (uncut (g .kind) false) (Kept form.J w g) (λ _. group)
+    by-cond (isGroup (g .kind)) (Kept form.J w g) (λ _. group)
     (λ _. by-cond (anyLonger (w .em) (split (w .run) (w .rubyWidth)) || anyLonger (w .em) (split (g .run) (g .width))) (Kept form.J w g) (λ _. group)
     (λ e.
     let q = or-none (anyLonger (w .em) (split (w .run) (w .rubyWidth))) (anyLonger (w .em) (split (g .run) (g .width))) e in
@@ -296,3 +297,8 @@ two-kept form.J w g s z j here =
         let r = script (w .rubyClass) in
         let l = script (g .class) in
         by-sides form.J w g refl (small form.J _ _ _ refl s) z here (rubyWay r Kana) (rubyWay l Kana) (cond (leb (sum (g .width)) (sum (w .rubyWidth))) (baseWay r Kana) (baseWay l Kana))
+
+pub all-kept : (form : Form) (w : Given) (g : Gloss) → Sized form (w .width) (w .rubyWidth) (w .run) → LeftSized form g → (isJ form ≡ true → w .em ≤ sum (w .width)) → Kept form w g (wordOf form w g)
+unfolding wordOf
+all-kept form w g s z j =
+    by-cond (hasLeft (g .kind)) (Kept form w g) (two-kept form w g s z j) (one-kept form w (one.wordOf form w) (promise.word-kept form w s j) g)

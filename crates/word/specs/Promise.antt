@@ -160,7 +160,7 @@ by-runs w s h e =
     }
 
 -- the word of each form, once a J's base characters are one em wide
-word-kept : (form : Form) (w : Given) → Sized form (w .width) (w .rubyWidth) (w .run) → (isJ form ≡ true → w .em ≤ sum (w .width)) → Promise form w (wordOf form w)
+pub word-kept : (form : Form) (w : Given) → Sized form (w .width) (w .rubyWidth) (w .run) → (isJ form ≡ true → w .em ≤ sum (w .width)) → Promise form w (wordOf form w)
 unfolding wordOf plain groupWord jukugoWord
 word-kept P w s j =
     record {
@@ -213,7 +213,7 @@ unfolding answer
 set form place w f g h i = rw (f, g, h, i)
 
 -- a J that passes has base characters of one em
-one-em : (form : Form) (w : Given) → 0 < sum (w .width) → jukugoBase form w ≡ false → isJ form ≡ true → w .em ≤ sum (w .width)
+pub one-em : (form : Form) (w : Given) → 0 < sum (w .width) → jukugoBase form w ≡ false → isJ form ≡ true → w .em ≤ sum (w .width)
 one-em J w s e h = all-least (w .em) (w .width) (sum-some (w .width) s) (or-none (any (λ c. not (kanaLike c)) (w .class)) (any (other (w .em)) (w .width)) e .1)
 one-em P w s e h = absurd (false≢true h)
 one-em M w s e h = absurd (false≢true h)
@@ -224,3 +224,13 @@ pub kept : (form : Form) (place : ℕ) (w : Given) {v : Word} → Sized form (w 
 kept form place w {v} s e =
     let p = passed form place w e in
     subst (Promise form w) (sym (p .word)) (word-kept form w s (one-em form w (s .some) (p .eight)))
+
+-- no word of one reading has another
+pub one-reading : (form : Form) (w : Given) → wordOf form w .left ≡ none
+unfolding wordOf plain wordBy shortRuby shortBase groupWord jukugoWord overEach
+one-reading P w = refl
+one-reading M w = by-cond (leb (sum (w .rubyWidth)) (sum (w .width))) (λ (v : Word). v .left ≡ none) (λ _. refl) (λ _. refl)
+one-reading G w = by-cond (leb (sum (w .rubyWidth)) (sum (w .width))) (λ (v : Word). v .left ≡ none) (λ _. refl) (λ _. refl)
+one-reading J w =
+    by-cond (anyLonger (w .em) (split (w .run) (w .rubyWidth))) (λ (v : Word). v .left ≡ none)
+    (λ _. by-cond (leb (sum (w .rubyWidth)) (sum (w .width))) (λ (v : Word). v .left ≡ none) (λ _. refl) (λ _. refl)) (λ _. refl)

@@ -1,4 +1,4 @@
-// Level one: the word alone (document 01, "Level one"). `measure` answers a word's record by value and writes nothing; where its characters stand at a given origin the definitions
+// Level one: the word alone (document 01, "Level one"). Each form's function answers a word's record by value and writes nothing; where its characters stand at a given origin the definitions
 // `baseStarts` and `rubyStarts` say (specs/Word.antt). A word is set in its own coordinates, in half units from the start of its longer string. Nothing but the word comes
 // in (em, the house ratios, form, its own characters), so no neighbour can alter what it decides. It relies on `class` for kinds, on `spread` for one string, on `refusal`
 // and on `basics`.
@@ -13,7 +13,7 @@ ghost use Rattle.word.specs.Alone.{rubyWay, baseWay, split};
 ghost use Rattle.word.specs.Word.{plain, wordBy, groupWord, jukugoWord};
 ghost use Rattle.word.specs.Numbers.{wordFrom, Measured};
 ghost use Rattle.word.specs.Answer.{answer};
-ghost use Rattle.word.specs.Sized.{Small, Sized};
+ghost use Rattle.word.specs.Sized.{Small};
 ghost use Rattle.class.specs.Class.{kanaLike};
 ghost use Rattle.word.specs.Kinds.{mixOf, mixedBy, scriptBy, notKanaBy, with};
 ghost use Rattle.word.specs.declared.Answer.the-variants.{Set};
@@ -22,6 +22,7 @@ ghost use Rattle.word.specs.Runs.{runsOf};
 mod sides;
 
 pub use sides::groups_of;
+pub use sides::measure_left;
 pub use sides::monos_of;
 pub use sides::runs_reading;
 
@@ -80,6 +81,12 @@ pub enum Answer {
     Refused(refusal::Refusal),
 }
 
+// Whether a row of numbers 7 to 10 holds of a word, and which.
+pub enum Row {
+    None,
+    Holds(refusal::Refusal),
+}
+
 // What a string is made of, once number 9 has let it pass.
 pub enum Script {
     Kana,
@@ -97,6 +104,12 @@ pub struct Mix {
 // The runs of a J: the length in units of the last, where none is longer than one em.
 pub enum Runs {
     Fit(u32),
+    Longer,
+}
+
+// The runs of one side of a J, each over its own character, where none is longer than one em.
+pub enum Fits {
+    Over(Reading),
     Longer,
 }
 
@@ -500,29 +513,4 @@ pub fn jukugo_answer(
         return Answer::Refused(refusal::Refusal::Mixed(place));
     }
     Answer::Set(jukugo_of(script_of(r), ratios, em, bs, runs, rs))
-}
-
-// An element set within itself, or the first refusal that holds of it. What its form does not have is not read: ruby and blanks of a P, runs but a J's.
-pub fn measure(
-    form: Form,
-    place: u32,
-    ratios: [[u32; 3]; 2],
-    em: u32,
-    bc: &[u32],
-    bs: &[u32],
-    before: &[u32],
-    after: &[u32],
-    rc: &[u32],
-    rs: &[u32],
-    runs: &[u32],
-) -> Answer
-    requires { ⌜ (Sized form (now bs) (now rs) (now runs)) × (Housed (ratiosOf ratios)) ⌝ }
-    ensures { λ a. ⌜ a ≡ answer form place (record { em = em; ratios = ratiosOf ratios; class = now (bc .entry); width = now (bs .entry); before = now (before .entry); after = now (after .entry); rubyClass = now (rc .entry); rubyWidth = now (rs .entry); run = now (runs .entry) }) ⌝ }
-{
-    match form {
-        Form::P => plain_answer(basics::sum_of(bs)),
-        Form::M => mono_answer(place, ratios, em, bs, before, after, rs),
-        Form::G => group_answer(place, ratios, em, bc, bs, before, after, rc, rs),
-        Form::J => jukugo_answer(place, ratios, em, bc, bs, before, after, rc, rs, runs),
-    }
 }

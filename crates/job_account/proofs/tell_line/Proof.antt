@@ -111,11 +111,11 @@ cast-q-2 c = omega (arith, few c .0)
 add-q-2 : tie.Need-add-q-2 Inv-loop μ-loop
 add-q-2 c = let f = few (c .before) in omega (arith, f .0, f .2)
 
-add-t26 : tie.Need-add-t26 Inv-loop μ-loop
-add-t26 c = let f = few (c .before .before .before) in omega (arith, f .0, f .1)
+add-t28 : tie.Need-add-t28 Inv-loop μ-loop
+add-t28 c = let f = few (c .before .before .before) in omega (arith, f .0, f .1)
 
-sub-t27 : tie.Need-sub-t27 Inv-loop μ-loop
-sub-t27 c = let l = c .before .before .before in omega (arith, one.at-cut (entry (l .before) .pre) (l .before .loop .inv) (c .before .if1 .taken) .0)
+sub-t29 : tie.Need-sub-t29 Inv-loop μ-loop
+sub-t29 c = let l = c .before .before .before in omega (arith, one.at-cut (entry (l .before) .pre) (l .before .loop .inv) (c .before .if1 .taken) .0)
 
 same-length : tie.Need-same-length Inv-loop μ-loop
 same-length c = c .before .before .before .before .loop .inv .long
@@ -125,8 +125,8 @@ returns c =
     let l = c .before .before .before in
     (one.at-cut (entry (l .before) .pre) (l .before .loop .inv) (c .before .if1 .taken) .1, one.told-all (entry (l .before) .pre) (l .before .loop .inv) (l .loop-test .left))
 
-add-t28 : tie.Need-add-t28 Inv-loop μ-loop
-add-t28 c = let f = few (c .before .before .before) in omega (arith, f .0, f .1)
+add-t30 : tie.Need-add-t30 Inv-loop μ-loop
+add-t30 c = let f = few (c .before .before .before) in omega (arith, f .0, f .1)
 
 same-length-2 : tie.Need-same-length-2 Inv-loop μ-loop
 same-length-2 c = c .before .before .before .before .loop .inv .long
@@ -160,10 +160,10 @@ tell-line-spec =
     loop-again
     cast-q-2
     add-q-2
-    add-t26
-    sub-t27
+    add-t28
+    sub-t29
     same-length
     returns
-    add-t28
+    add-t30
     same-length-2
     returns-2)

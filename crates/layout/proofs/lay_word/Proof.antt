@@ -1,6 +1,7 @@
--- Number 5, then 6, then what level one answers: each is its row, and past them all stands the piece, whose rows are written.
+-- Number 5, then 6, each its row; past them stands the piece, and the arm of its form does the rest.
 use mathlib.Core.Path.{_≡_, refl, sym, ap, _∙_, subst}
 use mathlib.Core.Bool.{Bool, true, false, _||_}
+use mathlib.Core.List.{[]}
 use Prim.Native.Nat.{ℕ, _+_, _-_, _≤_, _<_}
 use lib.Dec.{ltb}
 use lib.ListN.{length}
@@ -21,9 +22,6 @@ abbrev job : tie.Start → Job
 job a =
     let x = a .args in
     jobOf (x .em) 0 (x .ratios) (x .profile) (x .class .now) (x .width .now) (x .before .now) (x .after .now) (x .flag .now) (x .rclass .now) (x .rwidth .now) (x .kind .now) (x .ebase .now) (x .eruby .now) (x .runs .now)
-
-never : {w : Word} {r : Refusal} → Set w ≡ Refused r → ⊥
-never e = let z : _≡_ {A = ℕ} 0 1 = cc in omega arith
 
 -- the entry, from the counting on
 abbrev start : tie.After-count-element → tie.Start
@@ -95,93 +93,101 @@ returns-2 c =
     one.short-stops (x .bases) (x .rubies) (job a) (x .k) (x .b) (x .r) (x .u) (x .t .now) (a .pre) (k .before .counted .given .0 .0) (is k)
     (sym (c .before .runs-out .ensures) ∙ c .if1 .taken)
 
-measure-piece-requires : tie.Need-measure-piece-requires
-measure-piece-requires c κs =
-    let k = c .before .before in
-    let a = start (k .before .before .before) in
-    let x = a .args in
-    let p = k .before .counted .given .0 .0 in
-    let s = one.small (x .bases) (x .rubies) (job a) (x .k) (x .b) (x .r) (x .u) (x .t .now) (a .pre) p (is k) in (
-      s .2,
-      s .1,
-      one.own (x .bases) (x .rubies) (job a) (x .k) (x .b) (x .r) (x .u) (x .t .now) (a .pre) p (is k) (supplied c),
-      a .pre .house,
-    )
-
-enum-known-answer : tie.Need-enum-known-answer
-enum-known-answer c = search needs
-
-enum-known-answer-2 : tie.Need-enum-known-answer-2
-enum-known-answer-2 c = search needs
-
-enum-known-answer-3 : tie.Need-enum-known-answer-3
-enum-known-answer-3 c = search needs
+-- the arm of a form: what is known before it
+abbrev known : tie.Else1 → tie.After-known-told
+known c = c .before .before
 
 enum-told-2 : tie.Need-enum-told-2
 enum-told-2 c = search needs
 
+enum-told-3 : tie.Need-enum-told-3
+enum-told-3 c = search needs
+
+lay-mono-requires : tie.Need-lay-mono-requires
+lay-mono-requires c κs =
+    let f = c .before in
+    let e = f .before .before in
+    let k = known e in
+    let a = start (k .before .before .before) in
+    let x = a .args in
+    let p = k .before .counted .given .0 .0 in (
+      one.one (x .bases) (x .rubies) (job a) (x .k) (x .b) (x .r) (x .u) (x .t .now) (a .pre) p (is k) (supplied e) (f .enum-told3 .given .1),
+      one.ready (x .bases) (x .rubies) (job a) (x .k) (x .b) (x .r) (x .u) (x .t .now) (a .pre) p (is k) (supplied e) [] [] [],
+    )
+
+enum-told-4 : tie.Need-enum-told-4
+enum-told-4 c = search needs
+
+lay-group-requires : tie.Need-lay-group-requires
+lay-group-requires c κs =
+    let e = c .before .before .before in
+    let k = known e in
+    let a = start (k .before .before .before) in
+    let x = a .args in
+    let p = k .before .counted .given .0 .0 in
+    let own = one.own (x .bases) (x .rubies) (job a) (x .k) (x .b) (x .r) (x .u) (x .t .now) (a .pre) p (is k) (supplied e) in (
+      own .class,
+      own .rubyClass,
+      one.ready (x .bases) (x .rubies) (job a) (x .k) (x .b) (x .r) (x .u) (x .t .now) (a .pre) p (is k) (supplied e) (x .class .now) (x .rclass .now) [],
+    )
+
+enum-told-5 : tie.Need-enum-told-5
+enum-told-5 c = search needs
+
+lay-jukugo-requires : tie.Need-lay-jukugo-requires
+lay-jukugo-requires c κs =
+    let f = c .before in
+    let e = f .before .before in
+    let k = known e in
+    let a = start (k .before .before .before) in
+    let x = a .args in
+    one.jukugo-ready (x .bases) (x .rubies) (job a) (x .k) (x .b) (x .r) (x .u) (x .t .now) (a .pre) (k .before .counted .given .0 .0) (is k) (supplied e) (f .enum-told5 .given .1)
+
 returns-3 : tie.Need-returns-3
-returns-3 c = absurd (never (sym (c .enum-told2 .given .1)))
+returns-3 c =
+    let k = known (c .before .before) in
+    let a = start (k .before .before .before) in
+    let x = a .args in
+    absurd (one.no-plain (x .bases) (x .rubies) (job a) (x .k) (x .b) (x .r) (x .u) (x .t .now) (a .pre) (k .before .counted .given .0 .0) (is k) (c .enum-told2 .given .1))
+
+same-length : tie.Need-same-length
+same-length c = c .before .before .lay-mono .ensures .long
 
 returns-4 : tie.Need-returns-4
 returns-4 c =
-    let m = c .before .before .before .before .before .before in
-    let e = m .before in
-    let k = e .before .before in
+    let m = c .before .before in
+    let f = m .before .before in
+    let e = f .before .before in
+    let k = known e in
     let a = start (k .before .before .before) in
     let x = a .args in
-    one.refused-stops (x .bases) (x .rubies) (job a) (x .k) (x .b) (x .r) (x .u) (x .t .now) (a .pre) (k .before .counted .given .0 .0) (is k) (supplied e)
-    (sym (m .measure-piece .ensures) ∙ c .before .before .before .before .answer2 .given .1 ∙ c .before .answer3 .given .1)
+    one.mono-judged (x .bases) (x .rubies) (job a) (x .k) (x .b) (x .r) (x .u) (x .t .now) (a .pre) (k .before .counted .given .0 .0) (is k) (supplied e) (f .enum-told3 .given .1) (m .lay-mono .ensures)
 
--- the last of its characters
-last : (c : tie.After-known-told2) →
-    let k = c .before .before .before .before .before .before in
-    let a = start (k .before .before .before) in
-    let p = k .before .counted .given .0 .0 in
-    (0 < p .bases) × (p .base + p .bases ≤ 1024) × (p .base + p .bases ≤ length (a .args .flag .now))
-last c =
-    let e = c .before .before .before .before in
-    let k = e .before .before in
-    let a = start (k .before .before .before) in
-    let x = a .args in
-    one.last (x .bases) (x .rubies) (job a) (x .k) (x .b) (x .r) (x .u) (x .t .now) (a .pre) (k .before .counted .given .0 .0) (is k) (supplied e)
-
-add-e : tie.Need-add-e
-add-e c = omega (arith, last (c .before))
-
-sub-e : tie.Need-sub-e
-sub-e c = omega (arith, last (c .before))
-
-mul-ends : tie.Need-mul-ends
-mul-ends c = omega (arith, last (c .before))
-
-shared-slice-read-ends : tie.Need-shared-slice-read-ends
-shared-slice-read-ends c = omega (arith, last (c .before .before))
-
-put-element-requires : tie.Need-put-element-requires
-put-element-requires c κs =
-    let n = c .before .before .before in
-    let e = n .before .before .before .before in
-    let k = e .before .before in
-    let a = start (k .before .before .before) in
-    let x = a .args in
-    one.ready (x .bases) (x .rubies) (job a) (x .k) (x .b) (x .r) (x .u) (x .t .now) (a .pre) (k .before .counted .given .0 .0) (is k) (supplied e)
-
-same-length : tie.Need-same-length
-same-length c = c .before .before .put-element .ensures .long
+same-length-2 : tie.Need-same-length-2
+same-length-2 c = c .before .before .lay-group .ensures .long
 
 returns-5 : tie.Need-returns-5
 returns-5 c =
-    let put = c .before .before in
-    let n = put .before .before .before .before in
-    let w = n .before in
-    let m = w .before .before in
-    let e = m .before in
-    let k = e .before .before in
+    let m = c .before .before in
+    let f = m .before .before in
+    let e = f .before .before in
+    let k = known e in
     let a = start (k .before .before .before) in
     let x = a .args in
-    one.goes-on (x .bases) (x .rubies) (job a) (x .k) (x .b) (x .r) (x .u) (x .t .now) (a .pre) (k .before .counted .given .0 .0) (is k) (supplied e) (put .put-element .last .0)
-    (w .answer .given .0 .0) (sym (m .measure-piece .ensures) ∙ w .answer .given .1) _ refl (put .put-element .ensures)
+    one.group-judged (x .bases) (x .rubies) (job a) (x .k) (x .b) (x .r) (x .u) (x .t .now) (a .pre) (k .before .counted .given .0 .0) (is k) (supplied e) (f .enum-told4 .given .1) (m .lay-group .ensures)
+
+same-length-3 : tie.Need-same-length-3
+same-length-3 c = c .before .before .lay-jukugo .ensures .long
+
+returns-6 : tie.Need-returns-6
+returns-6 c =
+    let m = c .before .before in
+    let f = m .before .before in
+    let e = f .before .before in
+    let k = known e in
+    let a = start (k .before .before .before) in
+    let x = a .args in
+    one.jukugo-judged (x .bases) (x .rubies) (job a) (x .k) (x .b) (x .r) (x .u) (x .t .now) (a .pre) (k .before .counted .given .0 .0) (is k) (supplied e) (f .enum-told5 .given .1) (m .lay-jukugo .ensures)
 
 pub lay-word-spec : {M : Type 1} → statement M
 lay-word-spec =
@@ -200,17 +206,17 @@ lay-word-spec =
     returns
     runs-out-requires
     returns-2
-    measure-piece-requires
-    enum-known-answer
-    enum-known-answer-2
-    enum-known-answer-3
     enum-told-2
+    enum-told-3
+    lay-mono-requires
+    enum-told-4
+    lay-group-requires
+    enum-told-5
+    lay-jukugo-requires
     returns-3
-    returns-4
-    add-e
-    sub-e
-    mul-ends
-    shared-slice-read-ends
-    put-element-requires
     same-length
-    returns-5)
+    returns-4
+    same-length-2
+    returns-5
+    same-length-3
+    returns-6)

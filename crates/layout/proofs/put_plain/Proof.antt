@@ -24,7 +24,24 @@ the-word e = cc
 -- a row by its word and its depths
 abbrev cell : ℕ → Bool → Word → Depths → Cell
 cell r ends w d =
-    record { bases = 1; cut = false; ends = ends; word = w; before = d .before; after = d .after; ruby = r; rubies = 0; own = 0; wide = 0; over = 0; western = false }
+    record {
+      bases = 1;
+      cut = false;
+      ends = ends;
+      word = w;
+      before = d .before;
+      after = d .after;
+      ruby = r;
+      rubies = 0;
+      left = 0;
+      lefts = 0;
+      own = 0;
+      wide = 0;
+      over = 0;
+      western = false;
+      ownleft = 0;
+      more = false;
+    }
 
 mul-plain-answer : tie.Need-mul-plain-answer
 mul-plain-answer c = search needs

@@ -1,26 +1,23 @@
--- A J of one character is set as it stands; of a longer one the row has no word.
-use borrow.Author.Tests.{lt-ltb, le-ltb}
-use borrow.Author.Needs.{needs}
+-- It may be cut, and has no word.
+use borrow.Author.Tests.{lt-ltb}
+use native.Mathlib.Omega.{arith}
 use Rattle.layout.proofs.run_row.Statement.{statement}
 use Rattle.layout.proofs.run_row.Tie as tie
 
-add-bases : tie.Need-add-bases
-add-bases c = search needs
+add-t8 : tie.Need-add-t8
+add-t8 c = omega (arith, c .before .pre)
 
-sub-bases : tie.Need-sub-bases
-sub-bases c = search needs
+sub-t9 : tie.Need-sub-t9
+sub-t9 c = omega (arith, c .before .pre)
 
-cast-bases : tie.Need-cast-bases
-cast-bases c = search needs
+cast-t10 : tie.Need-cast-t10
+cast-t10 c = omega (arith, c .before .pre)
 
-cast-ruby : tie.Need-cast-ruby
-cast-ruby c = search needs
+cast-t14 : tie.Need-cast-t14
+cast-t14 c = omega (arith, c .before .before .pre)
 
 returns : tie.Need-returns
-returns c = rw (lt-ltb _ _ (c .if1 .taken))
-
-returns-2 : tie.Need-returns-2
-returns-2 c = rw (le-ltb _ _ (c .if1 .left))
+returns c = rw (lt-ltb _ _ (c .before .before .pre .0))
 
 pub run-row-spec : {M : Type 1} → statement M
-run-row-spec = tie.close (tie.spec add-bases sub-bases cast-bases cast-ruby returns returns-2)
+run-row-spec = tie.close (tie.spec add-t8 sub-t9 cast-t10 cast-t14 returns)

@@ -26,7 +26,8 @@ element-at-requires c κs = checked-has _ _ _ (c .before .loop .inv) (c .loop-te
 mul-set-within : tie.Need-mul-set-within Inv-loop μ-loop
 mul-set-within c =
     let head = c .before .before in
-    omega (arith, checked-has _ _ _ (head .loop .inv) (c .before .loop-test .taken) .rights, head .before .before .before .before .before .before .before .before .before .before .before .before .good)
+    let start = head .before .before .before .before .before .before .before .before .before .before .before .before in
+    omega (arith, checked-has _ _ _ (head .loop .inv) (c .before .loop-test .taken) .rights, start .good)
 
 shared-slice-read-set-within : tie.Need-shared-slice-read-set-within Inv-loop μ-loop
 shared-slice-read-set-within c = omega (arith, checked-has _ _ _ (c .before .before .before .loop .inv) (c .before .before .loop-test .taken) .rights)
@@ -34,7 +35,8 @@ shared-slice-read-set-within c = omega (arith, checked-has _ _ _ (c .before .bef
 mul-set-within-2 : tie.Need-mul-set-within-2 Inv-loop μ-loop
 mul-set-within-2 c =
     let head = c .before .before .before in
-    omega (arith, checked-has _ _ _ (head .loop .inv) (c .before .before .loop-test .taken) .lefts, head .before .before .before .before .before .before .before .before .before .before .before .before .good)
+    let start = head .before .before .before .before .before .before .before .before .before .before .before .before in
+    omega (arith, checked-has _ _ _ (head .loop .inv) (c .before .before .loop-test .taken) .lefts, start .good)
 
 shared-slice-read-set-within-2 : tie.Need-shared-slice-read-set-within-2 Inv-loop μ-loop
 shared-slice-read-set-within-2 c = omega (arith, checked-has _ _ _ (c .before .before .before .before .loop .inv) (c .before .before .before .loop-test .taken) .lefts)

@@ -54,7 +54,8 @@ returns-4 c =
     let within = c .before .before .before .before .before .before .before .before in
     let roomy = within .before .before in
     promise-set _ _ _ (omega (arith, roomy .if1 .left, roomy .before .shortest-of .ensures)) (within .before .all-within .ensures .yes (not-false _ (within .if2 .left)))
-    _ (sym (c .before .before .before .before .before .tried .given .1) ∙ c .before .before .before .before .before .before .before .try-line .ensures) _ _ (roomy .before .shortest-of .ensures) (c .before .before .write-line .ensures)
+    _ (sym (c .before .before .before .before .before .tried .given .1) ∙ c .before .before .before .before .before .before .before .try-line .ensures) _ _
+    (roomy .before .shortest-of .ensures) (c .before .before .write-line .ensures)
 
 pub set-line-spec : {M : Type 1} → statement M
 set-line-spec =

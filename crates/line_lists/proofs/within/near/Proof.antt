@@ -1,13 +1,8 @@
 -- Where the reading isn't there nothing is asked; else its end is what is told.
-use mathlib.Core.Path.{_≡_}
-use mathlib.Core.Bool.{Bool, true, false, cond}
-use Prim.Native.Nat.{ℕ, _≤_, _<_}
 use borrow.Author.Needs.{needs}
 use borrow.Author.Tests.{not-true, not-false}
 use native.Mathlib.Omega.{arith}
-use Rattle.line.specs.declared.Reading.{Reading}
-use Rattle.line_lists.specs.Promise.{longestElement}
-use Rattle.line_lists.specs.Passes.{Tells, told, denied}
+use Rattle.line_lists.specs.Passes.{told, denied}
 use Rattle.line_lists.proofs.within.near.Statement.{statement}
 use Rattle.line_lists.proofs.within.near.Tie as tie
 
