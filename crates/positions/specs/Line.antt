@@ -20,7 +20,7 @@ use Rattle.cells.specs.Sound.{advances}
 use Rattle.cells.specs.Walk.{next-near, stop-whole}
 use Rattle.positions.specs.Positions.{Sheet, lent, widthsOf, first, wordOf, readingOf, pieceOf, readingBy, basePut, sidePut, putFrom, baseOf, sideOf}
 use Rattle.positions.specs.Lists.{sets-any}
-use Rattle.positions.specs.Ready.{StringReady, Begins, Fits, SideFits, pick, Writable, LineReady}
+use Rattle.positions.specs.Ready.{StringReady, Begins, Fits, SideFits, pick, LineReady}
 use Rattle.positions.specs.Piece.{ReadingReady, base-long, side-long, base-ready, side-ready}
 use Rattle.positions.specs.Walk.{none-from, begins-next, stop-ahead, fits-here, side-here}
 

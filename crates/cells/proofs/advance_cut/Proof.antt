@@ -1,8 +1,5 @@
 -- The row is cut, so the piece is its part, which is set after the line so far; no ruby lies on it.
-use mathlib.Core.Path.{_≡_, sym, _∙_, subst}
-use Prim.Native.Nat.{_+_, _≤_}
-use Rattle.line.specs.Setting.{furthest, total}
-use Rattle.cells.specs.Cells.{wordAt, elementOf}
+use mathlib.Core.Path.{_∙_}
 use Rattle.cells.specs.Sound.{flat-fits, flat-step}
 use Rattle.cells.proofs.advance_cut.Statement.{statement}
 use Rattle.cells.proofs.advance_cut.Tie as tie

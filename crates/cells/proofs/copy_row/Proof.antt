@@ -1,5 +1,5 @@
 -- One number more with each turn.
-use mathlib.Core.Path.{_≡_, subst}
+use mathlib.Core.Path.{subst}
 use Prim.Native.Nat.{ℕ, _-_, _≤_}
 use lib.ListN.{length}
 use Rattle.cells.specs.Put.{Copied, copied-none, copied-more}

@@ -1,5 +1,5 @@
 -- No J that may be cut, and no left readings by the head.
-use mathlib.Core.Path.{refl, sym, _∙_}
+use mathlib.Core.Path.{sym, _∙_}
 use borrow.Author.Needs.{needs}
 use Rattle.cells.proofs.in_row.Statement.{statement}
 use Rattle.cells.proofs.in_row.Tie as tie

@@ -1,5 +1,5 @@
 -- A P is to a line what `place_plain` sets: its length and its depths are all that its row has.
-use mathlib.Core.Path.{_≡_, sym, ap}
+use mathlib.Core.Path.{sym, ap}
 use borrow.Author.Needs.{needs}
 use Rattle.word.specs.declared.Word.{Word}
 use Rattle.cells.specs.Cells.{cellAt, stepOf}

@@ -1,12 +1,11 @@
 -- A row is the copy of its numbers.
-use mathlib.Core.Path.{_≡_, subst}
+use mathlib.Core.Path.{subst}
 use mathlib.Core.List.{List}
 use Prim.Native.Nat.{ℕ}
 use lib.ListN.{length}
 use Rattle.cells.specs.Cells.{size}
 use Rattle.cells.specs.Put.{Copied, numbersOf, puts}
 use borrow.Author.Needs.{needs}
-use native.Mathlib.Omega.{arith}
 use Rattle.cells.proofs.put_cell.Statement.{statement}
 use Rattle.cells.proofs.put_cell.Tie as tie
 

@@ -1,12 +1,11 @@
 -- A left row is the copy of its numbers, in its place behind the rows.
-use mathlib.Core.Path.{_≡_, subst}
+use mathlib.Core.Path.{subst}
 use mathlib.Core.List.{List}
 use Prim.Native.Nat.{ℕ, _+_}
 use lib.ListN.{length}
 use Rattle.cells.specs.Cells.{leftSize, leftsAt}
 use Rattle.cells.specs.Put.{Copied, leftNumbersOf, puts-left}
 use borrow.Author.Needs.{needs}
-use native.Mathlib.Omega.{arith}
 use Rattle.cells.proofs.put_left.Statement.{statement}
 use Rattle.cells.proofs.put_left.Tie as tie
 

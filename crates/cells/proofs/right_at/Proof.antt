@@ -1,5 +1,5 @@
 -- Without left readings the word in the row is the whole word, and a line sees no reading on its left.
-use mathlib.Core.Path.{_≡_, sym, ap, subst}
+use mathlib.Core.Path.{sym, ap, subst}
 use Prim.Native.Nat.{_+_, _≤_}
 use borrow.Author.Needs.{needs}
 use Rattle.word.specs.declared.Word.{Word}

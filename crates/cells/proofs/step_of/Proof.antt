@@ -1,7 +1,5 @@
 -- The place that `line` gives to the word as a line sees it.
 use borrow.Author.Needs.{needs}
-use mathlib.Core.Path.{_≡_, sym, ap, _∙_, subst}
-use native.Mathlib.Omega.{arith}
 use Rattle.cells.proofs.step_of.Statement.{statement}
 use Rattle.cells.proofs.step_of.Tie as tie
 

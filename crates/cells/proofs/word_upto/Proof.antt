@@ -1,5 +1,5 @@
 -- The part of a J that may be cut, or the word that stands in its row.
-use mathlib.Core.Path.{_≡_, sym, ap, _∙_}
+use mathlib.Core.Path.{sym, ap, _∙_}
 use borrow.Author.Needs.{needs}
 use Rattle.cells.specs.declared.Cell.{Cell}
 use Rattle.cells.specs.Sound.{cut-word, whole-word}
