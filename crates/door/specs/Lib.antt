@@ -2,9 +2,4 @@ pub mod Job
 pub mod Refusals
 pub mod Verdict
 pub mod Entries
-pub mod Values
-pub mod Elements
 pub mod Passed
-pub mod Walk
-pub mod Loop
-pub mod Whole
