@@ -98,7 +98,7 @@ part-ruby false = refl
 within-long : (a m : ℕ) (xs : List ℕ) → a + m ≤ length xs → length (within a m xs) ≡ m
 within-long a m xs h = length-take-le m (drop a xs) (simp length-drop (omega arith))
 
-within-none : (a m : ℕ) (xs : List ℕ) → xs ≡ [] → within a m xs ≡ []
+pub within-none : (a m : ℕ) (xs : List ℕ) → xs ≡ [] → within a m xs ≡ []
 within-none a m xs e = rw (e, dropped a) (taken m)
   where
     dropped : (a : ℕ) → _≡_ {A = List ℕ} (drop a []) []
