@@ -3,3 +3,9 @@ pub mod Refusals
 pub mod Verdict
 pub mod Entries
 pub mod Passed
+pub mod Values
+pub mod Whole
+pub mod Elements
+pub mod Walk
+pub mod Loop
+pub mod Measure
