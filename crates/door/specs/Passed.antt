@@ -74,7 +74,6 @@ pub record GoodElement (job : Job) (x : Piece) : Type 0 where
   pub inside : x .base + x .bases ≤ baseCount job
   pub reads : x .ruby + x .rubies ≤ rubyCount job
   pub leftReads : x .left + x .lefts ≤ leftCount job
-  pub more : x .more ≡ false
   pub seven : blankInside (x .form) (given job x) ≡ false
   pub eight : jukugoBase (x .form) (given job x) ≡ false
   pub nine : mixedBoth (x .form) (given job x) (glossOf job x) ≡ false
@@ -299,7 +298,6 @@ good-element job k at e =
       inside = s .0;
       reads = s .1;
       leftReads = s .2;
-      more = is-whole job k at;
       seven = e .seven;
       eight = e .eight;
       nine = e .nine;
