@@ -60,6 +60,16 @@ depth (Ruby s j) = 0
 depth (Edge s) = 0
 depth Free = 0
 
+-- the other element, if there is one, stands before the one with the number i
+abbrev pub Earlier : ℕ → Reason → Type 0
+Earlier i Start = Unit {0}
+Earlier i (Block j) = j < i
+Earlier i (Under s j d) = j < i
+Earlier i (Over s j d) = j < i
+Earlier i (Ruby s j) = j < i
+Earlier i (Edge s) = Unit {0}
+Earlier i Free = Unit {0}
+
 -- The reason holds of the element with the number i: the rule that it names is met with equality.
 abbrev pub Holds : List Element → List ℕ → ℕ → Reason → Type 0
 Holds es xs i Start = blockAt es xs i .start ≡ 0

@@ -6,5 +6,6 @@ pub mod Order
 pub mod Held
 pub mod Tight
 pub mod Theorems
+pub mod Behind
 pub mod Cases
 pub mod More

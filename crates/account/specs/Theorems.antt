@@ -10,10 +10,10 @@ use Rattle.line.specs.Rules.{el, org, Apart, Sounds}
 use Rattle.line.specs.Setting.{settle}
 use Rattle.line.specs.Theorems.{keeps}
 use Rattle.account.specs.declared.Reason.{Reason}
-use Rattle.account.specs.declared.Reason.the-variants.{Free}
+use Rattle.account.specs.declared.Reason.the-variants.{Start, Block, Under, Over, Ruby, Edge, Free}
 use Rattle.account.specs.Reasons.{reason, gap, accountOf}
 use Rattle.account.specs.Step.{accountAfter, standing}
-use Rattle.account.specs.Claims.{rank, First, Written, Tight, Rule, width}
+use Rattle.account.specs.Claims.{rank, Earlier, Holds, First, Written, Tight, Rule, width}
 use Rattle.account.specs.Law as law
 use Rattle.account.specs.Order as order
 use Rattle.account.specs.Held.{held}
@@ -26,6 +26,19 @@ first es xs i = order.right es xs i
 -- there is only one such.
 pub determined : (es : List Element) (xs : List ℕ) (i : ℕ) (r q : Reason) → First es xs i r → First es xs i q → r ≡ q
 determined es xs i r q f g = order.only es xs i q g r f
+
+-- It names an earlier element, if any.
+pub earlier : (es : List Element) (xs : List ℕ) (i : ℕ) → Earlier i (reason es xs i)
+earlier es xs i = go (reason es xs i) (first es xs i .holds)
+  where
+    go : (r : Reason) → Holds es xs i r → Earlier i r
+    go Start h = tt
+    go (Block j) h = omega (arith, h .0)
+    go (Under s j d) h = omega (arith, h .0)
+    go (Over s j d) h = omega (arith, h .0)
+    go (Ruby s j) h = h .0
+    go (Edge s) h = tt
+    go Free h = tt
 
 -- The named rule is tight: it is broken once the element's block or ruby is one half unit nearer the line's start and all else stands as it does.
 pub tight : (es : List Element) (xs : List ℕ) → Sounds es → Written es → (i : ℕ) → i < length es → Tight es xs i (reason es xs i)
