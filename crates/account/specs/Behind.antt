@@ -15,7 +15,7 @@ use Rattle.account.specs.declared.Far.the-variants.{Nothing, Ends}
 use Rattle.account.specs.declared.Before.{Before}
 use Rattle.account.specs.Claims.{Earlier}
 use Rattle.account.specs.Reasons.{drawn, touches, under, over, starts, bySide, beside}
-use Rattle.account.specs.Step.{far, touchedAt, touched, touchedOn, rubyAfter, besideLast, reasonAfter, longer, further, passed, nothing}
+use Rattle.account.specs.Step.{touchedAt, touched, rubyAfter, besideLast, reasonAfter, longer, further, passed, nothing}
 
 -- the ruby that reaches furthest is that of an element before number i
 abbrev pub Of : ℕ → Far → Type 0

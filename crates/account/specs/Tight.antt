@@ -1,6 +1,6 @@
 -- Why the named rule is tight, and how wide a gap it makes. Of two stretches that touch, one a half unit nearer lies on the other: it can't have passed it, since a
 -- reading is two half units long and lies on a block no deeper than the block is long.
-use mathlib.Core.Path.{_≡_, refl, sym, ap, subst}
+use mathlib.Core.Path.{_≡_, sym, ap, subst}
 use mathlib.Core.Bool.{cond}
 use mathlib.Core.List.{List}
 use mathlib.Core.Logic.{inl, inr}
