@@ -180,7 +180,7 @@ bv_answer bv_account_job(
     uint32_t *extents, size_t extents_length);
 
 /*
- * Room for the answer to any sheet: a result is proved never to be longer than 90,129 bytes, an account than 127,039.
+ * Room for the answer to any sheet: a result is proved never to be longer than 90,129 bytes, an account than 119,871.
  */
 #define BV_MOST_TEXT 131072
 

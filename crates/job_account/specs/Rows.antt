@@ -1,7 +1,7 @@
 -- The accounts of a line as a list of numbers, six for each piece.
 use mathlib.Core.Path.{_≡_, refl, ap}
 use mathlib.Core.List.{List, [], _∷_, _++_}
-use Prim.Native.Nat.{ℕ, zero, suc, _+_, _*_, _^_, _≤_, _<_}
+use Prim.Native.Nat.{ℕ, zero, suc, _+_, _*_, _^_, _≤_, _<_, zero-le}
 use native.Mathlib.Omega.{arith}
 use lib.ListN.{length, getD, set, length-append}
 use lib.Seq.{sets}
@@ -35,6 +35,15 @@ other-by f g n (Over s j d) h e = e j h
 other-by f g n (Ruby s j) h e = e j h
 other-by f g n (Edge s) h e = refl
 other-by f g n Free h e = refl
+
+pub other-few : (f : ℕ → ℕ) (n : ℕ) (r : Reason) → ((j : ℕ) → f j ≤ n) → otherBy f r ≤ n
+other-few f n Start h = zero-le
+other-few f n (Block j) h = h j
+other-few f n (Under s j d) h = h j
+other-few f n (Over s j d) h = h j
+other-few f n (Ruby s j) h = h j
+other-few f n (Edge s) h = zero-le
+other-few f n Free h = zero-le
 
 -- the element's index in the job, its block's start, the gap, the reason's number, the other element and the depth
 abbrev pub row : (ℕ → ℕ) → ℕ → ℕ → Account → List ℕ
@@ -76,7 +85,7 @@ unfoldable pub rowsIn : Job → ℕ → ℕ → List ℕ
 unfolding firstIn
 rowsIn job s e = rowsUpto job s e (length (lineOf job s e))
 
-length-upto : (job : Job) (s e n : ℕ) → length (rowsUpto job s e n) ≡ 6 * n
+pub length-upto : (job : Job) (s e n : ℕ) → length (rowsUpto job s e n) ≡ 6 * n
 length-upto job s e zero = refl
 length-upto job s e (suc n) = omega (arith, length-append (rowsUpto job s e n) (rowIn job s e n), length-upto job s e n)
 
