@@ -294,6 +294,18 @@ cut-is job x e = let q = both (isJ (x .form)) _ e in (q .0, group (x .gloss) _ (
     group left.G longer e = absurd (false≢true e)
     group left.J longer e = refl
 
+single-whole : (job : Job) (y : Piece) (i : ℕ) → cuts job (part job y i 1) ≡ false
+unfolding cuts part
+single-whole job y i = refl
+
+-- a word that is cut is an element, and its element does not go on behind it
+pub cut-last : (job : Job) (x : Piece) → IsWord job x → cuts job x ≡ true → x .more ≡ false
+cut-last job x at c = go (at .of .word)
+  where
+    go : (x ≡ at .of .element) ⊎ Single job (at .of .element) x → x .more ≡ false
+    go (inl e) = ap (λ (p : Piece). p .more) e ∙ at .of .good .last
+    go (inr s) = absurd (true≢false (sym c ∙ ap (cuts job) (s .is) ∙ single-whole job (at .of .element) (s .at)))
+
 module _ (job : Job) (passed : Passed job) where
   -- a part of a word that is cut
   pub cut-piece : (x : Piece) → GoodWord job x → cuts job x ≡ true → (i n : ℕ) → 0 < n → i + n ≤ x .bases → GoodPiece job (part job x i n)

@@ -121,7 +121,7 @@ by-none : (r b : Way) (h : Ratios) (em : ℕ) (bs rs : List ℕ) → one.wordBy 
 unfolding one.wordBy one.shortRuby one.shortBase
 by-none r b h em bs rs = by-cond (leb (sum rs) (sum bs)) _ _ refl refl
 
-none-left : (form : Form) (w : Given) → one.wordOf form w .left ≡ one.none
+pub none-left : (form : Form) (w : Given) → one.wordOf form w .left ≡ one.none
 unfolding one.wordOf one.plain one.groupWord one.jukugoWord overEach
 none-left form.P w = refl
 none-left form.M w = by-none Solid Solid (w .ratios) (w .em) (w .width) (w .rubyWidth)
