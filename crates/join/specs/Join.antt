@@ -57,7 +57,8 @@ use Rattle.job.specs.Words.{promise, readings-narrow, runs-of-j, none-of-j, is-
 use Rattle.job.specs.Bounded.{piece-short}
 use Rattle.refusal.specs.declared.Refusal.the-variants.{NoBreak}
 use Rattle.join.specs.Rows.{firstAt, runAt, runWidth, wideBefore, longer, isCut, upto, runsBefore, leftRowBy, endsBehind, rowOf, HasRows, Holds}
-use Rattle.join.specs.Part.{first-next, first-more, wide-more, wide-next, longer-next, longer-few, good, widths, reads, within, part-word, both-word}
+use Rattle.join.specs.Runs.{first-next, first-more, wide-more, wide-next, longer-next, longer-few}
+use Rattle.join.specs.Part.{good, widths, reads, within, part-word, both-word}
 
 -- only a P has no ruby, and a P is no more than its length
 bare-word : (form : Form) (w : Given) (g : Gloss) → hasRuby form ≡ false → hasLeft (g .kind) ≡ false → sides.wordOf form w g ≡ bare (sides.wordOf form w g .len)

@@ -48,6 +48,7 @@ use Rattle.job.specs.Line.{part, cuts, wordOf, firstOf, widthsOf}
 use Rattle.job.specs.Laws.{entries-at, entries-cut, entries-add, count-join, keep-append, both}
 use Rattle.job.specs.Pieces.{IsWord, cut-is, cut-piece}
 use Rattle.job.specs.Words.{GoodPiece, runs-of-j}
+use Rattle.join.specs.Runs.{first-next, first-more, wide-more, longer-more}
 use Rattle.join.specs.Rows.{runsOf, runOf, taken, firstAt, runAt, runWidth, wideBefore, longer}
 
 -- entries in two pieces
@@ -94,17 +95,6 @@ not-not false = refl
 
 -- The runs of one side.
 module _ (side : Side) (job : Job) (x : Piece) where
-  -- one run more
-  pub first-next : (k : ℕ) → firstAt side job x k + runAt side job x k ≡ firstAt side job x (suc k)
-  first-next k = omega (arith, entries-add (runsOf side job) (runOf side x) k 1, ap (λ (z : ℕ). sum (entries (runsOf side job) (runOf side x) z)) (one k))
-    where
-      one : (k : ℕ) → k + 1 ≡ suc k
-      one k = omega arith
-
-  -- the characters between two rows
-  pub first-more : (k n : ℕ) → firstAt side job x (k + n) ≡ firstAt side job x k + sum (entries (runsOf side job) (runOf side x + k) n)
-  first-more k n = omega (arith, entries-add (runsOf side job) (runOf side x) k n)
-
   -- the runs of the base characters from k on, and their widths
   abbrev pub runsFrom : ℕ → ℕ → List (List ℕ)
   runsFrom k n =
@@ -115,7 +105,7 @@ module _ (side : Side) (job : Job) (x : Piece) where
   lengths (suc n) k =
       let c = getD (runsOf side job) (runOf side x + k) 0 in
       let m = sum (entries (runsOf side job) (suc (runOf side x + k)) n) in
-      rw (entries-take (widthsOf side job) (firstAt side job x k) c m, entries-drop (widthsOf side job) (firstAt side job x k) c m, first-next k, ← add-suc (runOf side x) k)
+      rw (entries-take (widthsOf side job) (firstAt side job x k) c m, entries-drop (widthsOf side job) (firstAt side job x k) c m, first-next side job x k, ← add-suc (runOf side x) k)
       (ap (λ (l : List ℕ). runWidth side job x k ∷ l) (lengths n (suc k)))
 
   pub first-length : (k n : ℕ) → 0 < n → getD (map sum (runsFrom k n)) 0 0 ≡ runWidth side job x k
@@ -166,47 +156,7 @@ runs-each : (r l : Script) (h : Ratios) (em : ℕ) (bs runs rs lruns ls : List �
 unfolding sides.jukugosWord
 runs-each r l h em bs runs rs lruns ls e f = rw (e, f)
 
--- Of ruby: how many of the runs are longer, and the width of the runs up to a character.
 module _ (job : Job) (x : Piece) where
-  -- the longer runs among them
-  pub longer-more : (k n : ℕ) → longer job x (k + n) ≡ longer job x k + length (keep (ltb (job .em)) (map (runWidth Right job x) (count k n)))
-  longer-more k n =
-      ap (λ l. length (keep (ltb (job .em)) (map (runWidth Right job x) l))) (sym (count-join 0 k k n (k + n) (sym (zero-add k)) refl))
-      ∙ ap (λ l. length (keep (ltb (job .em)) l)) (map-append (runWidth Right job x) (count 0 k) (count k n))
-      ∙ ap length (keep-append (ltb (job .em)) (map (runWidth Right job x) (count 0 k)) (map (runWidth Right job x) (count k n)))
-      ∙ length-append (keep (ltb (job .em)) (map (runWidth Right job x) (count 0 k))) (keep (ltb (job .em)) (map (runWidth Right job x) (count k n)))
-
-  -- the width of the runs up to a character
-  pub wide-more : (k n : ℕ) → wideBefore job x (k + n) ≡ wideBefore job x k + sum (entries (job .rubyWidth) (firstAt Right job x k) (sum (entries (job .run) (x .run + k) n)))
-  wide-more k n =
-      ap (λ m. sum (entries (job .rubyWidth) (x .ruby) m)) (entries-add (job .run) (x .run) k n)
-      ∙ entries-add (job .rubyWidth) (x .ruby) (taken Right job x k) (sum (entries (job .run) (x .run + k) n))
-
-  pub wide-next : (k : ℕ) → wideBefore job x k + runWidth Right job x k ≡ wideBefore job x (suc k)
-  wide-next k = sym (ap (wideBefore job x) (one k) ∙ wide-more k 1 ∙ ap (λ m. wideBefore job x k + sum (entries (job .rubyWidth) (firstAt Right job x k) m)) (add-zero (runAt Right job x k)))
-    where
-      one : (k : ℕ) → suc k ≡ k + 1
-      one k = omega arith
-
-  -- one more of the longer runs
-  pub longer-next : (k : ℕ) → longer job x k + cond (ltb (job .em) (runWidth Right job x k)) 1 0 ≡ longer job x (suc k)
-  longer-next k = sym (ap (longer job x) (one k) ∙ longer-more k 1 ∙ ap (λ m. longer job x k + m) (go (ltb (job .em) (runWidth Right job x k))))
-    where
-      one : (k : ℕ) → suc k ≡ k + 1
-      one k = omega arith
-
-      go : (b : Bool) → length (cond b (runWidth Right job x k ∷ []) []) ≡ cond b 1 0
-      go true = refl
-      go false = refl
-
-  pub longer-few : (k : ℕ) → longer job x k ≤ k
-  longer-few zero = zero-le
-  longer-few (suc k) = subst (λ m. m ≤ suc k) (longer-next k) (go (ltb (job .em) (runWidth Right job x k)) (longer-few k))
-    where
-      go : (b : Bool) → longer job x k ≤ k → longer job x k + cond b 1 0 ≤ suc k
-      go true h = omega arith
-      go false h = omega arith
-
   -- A part of a J that is cut: it is not taken as group, and its left reading is none or a left J.
   module _ (passed : Passed job) (at : IsWord job x) (cut : cuts job x ≡ true) (k n : ℕ) (some : 0 < n) (fits : k + n ≤ x .bases) where
     jukugo : isJ (x .form) ≡ true
@@ -238,7 +188,7 @@ module _ (job : Job) (x : Piece) where
 
     pub wide : sum (given job (part job x k n) .rubyWidth) ≡ wideBefore job x (k + n) - wideBefore job x k
     unfolding part
-    wide = omega (arith, wide-more k n)
+    wide = omega (arith, wide-more job x k n)
 
     abbrev runs : List (List ℕ)
     runs = alone.split (given job (part job x k n) .run) (given job (part job x k n) .rubyWidth)
@@ -249,7 +199,7 @@ module _ (job : Job) (x : Piece) where
 
     pub same : eqb (longer job x k) (longer job x (k + n)) ≡ not (alone.anyLonger (job .em) runs)
     same =
-        ap (λ z. eqb (longer job x k) z) (longer-more k n) ∙ stays (ltb (job .em)) (map (runWidth Right job x) (count k n)) (longer job x k)
+        ap (λ z. eqb (longer job x k) z) (longer-more job x k n) ∙ stays (ltb (job .em)) (map (runWidth Right job x) (count k n)) (longer job x k)
         ∙ ap (λ l. not (any (ltb (job .em)) l)) (sym (lengths Right job x n k)) ∙ ap (λ r. not (alone.anyLonger (job .em) r)) (sym runs-are)
 
     first : getD (map sum runs) 0 0 ≡ runWidth Right job x k
