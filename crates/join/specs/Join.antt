@@ -28,14 +28,13 @@ use Rattle.word.specs.declared.Reading.{Reading}
 use Rattle.word.specs.Both.{Gloss, hasLeft, apart, isGroup, isJukugo}
 use Rattle.word.specs.Sides as sides
 use Rattle.word.specs.Part.{formOfPart}
-use Rattle.sides.specs.Standing as standing
 use Rattle.sides.specs.Parts.{leftBy, leftOfPart}
 use Rattle.line.specs.declared.Side.the-variants.{Right, Left}
 use Rattle.line.specs.declared.State.{State}
 use Rattle.line.specs.Setting.{start, furthest, total}
 use Rattle.cells.specs.declared.Cell.{Cell}
 use Rattle.cells.specs.Cells as cells
-use Rattle.cells.specs.Cells.{ratiosAt, noLeft, leftReading, cellAt, partBy, bothBy, overWith, wordAt, elementOf, Ran, Plain, Flat, bare, piece, next, stop, rest, stateAt, mayEnd, lastOf, breaks, endOf, linesOf}
+use Rattle.cells.specs.Cells.{ratiosAt, leftReading, cellAt, partBy, bothBy, overWith, wordAt, elementOf, Ran, Plain, Flat, bare, piece, next, stop, rest, stateAt, mayEnd, lastOf, breaks, endOf, linesOf}
 use Rattle.cells.specs.Sound.{Row, Sound}
 use Rattle.cells.specs.Walk as walk
 use Rattle.door.specs.declared.Piece.{Piece}
@@ -56,7 +55,7 @@ use Rattle.job.specs.Declined.{Way, lines-way}
 use Rattle.job.specs.Words.{promise, readings-narrow, runs-of-j, none-of-j, is-j, left-fits, whole-piece}
 use Rattle.job.specs.Bounded.{piece-short}
 use Rattle.refusal.specs.declared.Refusal.the-variants.{NoBreak}
-use Rattle.join.specs.Rows.{firstAt, runAt, runWidth, wideBefore, longer, isCut, upto, runsBefore, leftRowBy, endsBehind, rowOf, HasRows, Holds}
+use Rattle.join.specs.Rows.{firstAt, runAt, runWidth, wideBefore, longer, isCut, upto, runsBefore, none, leftRuns, leftRowBy, endsBehind, rowOf, HasRows, Holds}
 use Rattle.join.specs.Runs.{first-next, first-more, wide-more, wide-next, longer-next, longer-few}
 use Rattle.join.specs.Part.{good, widths, reads, within, part-word, both-word}
 
@@ -67,11 +66,6 @@ bare-word P w g e f = rw f
 bare-word M w g e f = absurd (true≢false e)
 bare-word G w g e f = absurd (true≢false e)
 bare-word J w g e f = absurd (true≢false e)
-
--- a word without a left reading has none in its record
-none-left : (form : Form) (w : Given) (g : Gloss) → hasLeft (g .kind) ≡ false → sides.wordOf form w g .left ≡ word.none
-unfolding sides.wordOf
-none-left form w g f = rw f (standing.none-left form w)
 
 j-reads : (form : Form) → isJ form ≡ true → hasRuby form ≡ true
 j-reads P e = absurd (false≢true e)
@@ -125,9 +119,9 @@ module _ (job : Job) (passed : Passed job) (t : List ℕ) (table : Holds job t) 
     unfolding rowOf
     right-word-at j i h l = ap (λ z. z .word) (has x at i h l) ∙ rw j
 
-    -- a left reading has characters
-    left-many : hasLeft (x .gloss) ≡ true → isCut job x ≡ false → (i : ℕ) → x .base ≤ i → i < x .base + x .bases → 0 < cond (cuts job x) (runAt Left job x (runsBefore job x i)) (x .lefts)
-    left-many h e i l u = go (cuts job x) refl
+    -- a left reading has characters, and a word without one has none
+    left-many : isCut job x ≡ false → (i : ℕ) → x .base ≤ i → i < x .base + x .bases → ltb 0 (leftRowBy job x (line.wordOf job x) i .many) ≡ hasLeft (x .gloss)
+    left-many e i l u = go (cuts job x) (hasLeft (x .gloss)) refl refl
       where
         single : cuts job x ≡ true → x .bases ≡ 1
         single c = let m = ltb-false 1 (x .bases) (sym (rw c) ∙ e) in omega (arith, at .good .counts .some)
@@ -137,23 +131,27 @@ module _ (job : Job) (passed : Passed job) (t : List ℕ) (table : Holds job t) 
             subst (λ (m : ℕ). 0 < getD (job .leftRun) m 0) (sym (ap (λ (m : ℕ). x .leftrun + m) z ∙ add-zero (x .leftrun)))
             (subst (λ (m : ℕ). All (λ r. 0 < r) (entries (job .leftRun) (x .leftrun) m)) b (at .good .gloss .each j) .0)
 
-        go : (t : Bool) → cuts job x ≡ t → 0 < cond t (runAt Left job x (cond t (i - x .base) 0)) (x .lefts)
-        go true c = let q = cut-is job x c in own (runs-of-j (x .form) (x .gloss) (q .0) h (q .1)) (single c) (i - x .base) (omega (arith, single c))
-        go false c = at .good .gloss .reads h (at .good .takes)
+        go : (t h : Bool) → cuts job x ≡ t → hasLeft (x .gloss) ≡ h → ltb 0 (cond (t && h) (runAt Left job x (cond (t && h) (i - x .base) 0)) (x .lefts)) ≡ h
+        go true true c h = let q = cut-is job x c in lt-ltb 0 _ (own (runs-of-j (x .form) (x .gloss) (q .0) h (q .1)) (single c) (i - x .base) (omega (arith, single c)))
+        go true false c h = le-ltb 0 (x .lefts) (omega (arith, at .good .gloss .none h))
+        go false true c h = lt-ltb 0 (x .lefts) (at .good .gloss .reads h (at .good .takes))
+        go false false c h = le-ltb 0 (x .lefts) (omega (arith, at .good .gloss .none h))
 
     pub word-at : isCut job x ≡ false → (i : ℕ) → x .base ≤ i → i < x .base + x .bases → cellAt t i .word ≡ line.wordOf job x
     word-at j i h l =
         right-word-at j i h l
-        ∙ ap (λ (u : Reading). record { front = line.wordOf job x .front; len = line.wordOf job x .len; inbase = line.wordOf job x .inbase; right = line.wordOf job x .right; left = u }) (left-of (hasLeft (x .gloss)) refl)
+        ∙ ap (λ (u : Reading). record { front = line.wordOf job x .front; len = line.wordOf job x .len; inbase = line.wordOf job x .inbase; right = line.wordOf job x .right; left = u }) left-of
       where
         v : Reading
         v = line.wordOf job x .left
 
-        left-of : (t : Bool) → hasLeft (x .gloss) ≡ t → leftReading (leftRowBy job x (line.wordOf job x) i) ≡ line.wordOf job x .left
-        left-of true e =
-            rw (e, j, lt-ltb 0 _ (left-many e j i h l))
-            (ap (λ (b : Bool). record { there = b; from = v .from; upto = v .upto; within = v .within; runs = v .runs }) (sym (promise job x (whole-piece job passed x (at .good) (at .whole)) .left .is ∙ e)))
-        left-of false e = rw e (sym (none-left (x .form) (given job x) (glossOf job x) e))
+        left-of : leftReading (leftRowBy job x (line.wordOf job x) i) ≡ line.wordOf job x .left
+        left-of =
+            ap (λ (b : Bool).
+            let u = cond b none (line.wordOf job x) .left in
+            record { there = ltb 0 (leftRowBy job x (line.wordOf job x) i .many); from = u .from; upto = u .upto; within = u .within; runs = u .runs }) j
+            ∙ ap (λ (b : Bool). record { there = b; from = v .from; upto = v .upto; within = v .within; runs = v .runs })
+            (left-many j i h l ∙ sym (promise job x (whole-piece job passed x (at .good) (at .whole)) .left .is))
 
     pub before-at : (i : ℕ) → x .base ≤ i → i < x .base + x .bases → cellAt t i .before ≡ onP (x .form) (depthsAt job (x .base) .before)
     unfolding rowOf
@@ -171,26 +169,31 @@ module _ (job : Job) (passed : Passed job) (t : List ℕ) (table : Holds job t) 
     unfolding rowOf
     many-at j i h l = ap (λ z. z .rubies) (has x at i h l) ∙ rw j
 
-    -- left characters: none without a left reading, of a J that is cut those of its own left run, and of any other word all
-    lefts-at : hasLeft (x .gloss) ≡ false → (i : ℕ) → x .base ≤ i → i < x .base + x .bases → cellAt t i .lefts ≡ 0
+    -- left characters: of a J that is cut those of its own left run, and of any other word all
+    pub left-first-at : (i : ℕ) → x .base ≤ i → i < x .base + x .bases → cellAt t i .left ≡ firstAt Left job x (cond (leftRuns job x) (i - x .base) 0)
     unfolding rowOf
-    lefts-at e i h l = ap (λ z. z .lefts) (has x at i h l) ∙ rw e
+    left-first-at i h l = ap (λ z. z .left) (has x at i h l)
+
+    pub left-many-at : (i : ℕ) → x .base ≤ i → i < x .base + x .bases → cellAt t i .lefts ≡ cond (leftRuns job x) (runAt Left job x (cond (leftRuns job x) (i - x .base) 0)) (x .lefts)
+    unfolding rowOf
+    left-many-at i h l = ap (λ z. z .lefts) (has x at i h l)
+
+    pub left-own-at : (i : ℕ) → x .base ≤ i → i < x .base + x .bases → cellAt t i .ownleft ≡ cond (leftRuns job x) (runWidth Left job x (cond (leftRuns job x) (i - x .base) 0)) 0
+    unfolding rowOf
+    left-own-at i h l = ap (λ z. z .ownleft) (has x at i h l)
+
+    pub no-runs : hasLeft (x .gloss) ≡ false → leftRuns job x ≡ false
+    no-runs e = go (cuts job x)
+      where
+        go : (b : Bool) → (b && hasLeft (x .gloss)) ≡ false
+        go true = e
+        go false = refl
+
+    lefts-at : hasLeft (x .gloss) ≡ false → (i : ℕ) → x .base ≤ i → i < x .base + x .bases → cellAt t i .lefts ≡ 0
+    lefts-at e i h l = left-many-at i h l ∙ rw (no-runs e) (at .good .gloss .none e)
 
     own-lefts-at : hasLeft (x .gloss) ≡ false → (i : ℕ) → x .base ≤ i → i < x .base + x .bases → cellAt t i .ownleft ≡ 0
-    unfolding rowOf
-    own-lefts-at e i h l = ap (λ z. z .ownleft) (has x at i h l) ∙ rw e
-
-    pub left-first-at : hasLeft (x .gloss) ≡ true → (i : ℕ) → x .base ≤ i → i < x .base + x .bases → cellAt t i .left ≡ firstAt Left job x (runsBefore job x i)
-    unfolding rowOf
-    left-first-at e i h l = ap (λ z. z .left) (has x at i h l) ∙ rw e
-
-    pub left-many-at : hasLeft (x .gloss) ≡ true → (i : ℕ) → x .base ≤ i → i < x .base + x .bases → cellAt t i .lefts ≡ cond (cuts job x) (runAt Left job x (runsBefore job x i)) (x .lefts)
-    unfolding rowOf
-    left-many-at e i h l = ap (λ z. z .lefts) (has x at i h l) ∙ rw e
-
-    pub left-own-at : hasLeft (x .gloss) ≡ true → (i : ℕ) → x .base ≤ i → i < x .base + x .bases → cellAt t i .ownleft ≡ cond (cuts job x) (runWidth Left job x (runsBefore job x i)) 0
-    unfolding rowOf
-    left-own-at e i h l = ap (λ z. z .ownleft) (has x at i h l) ∙ rw e
+    own-lefts-at e i h l = left-own-at i h l ∙ rw (no-runs e)
 
     -- of a J
     pub ruby-at : cuts job x ≡ true → (i : ℕ) → x .base ≤ i → i < x .base + x .bases → cellAt t i .ruby ≡ firstAt Right job x (i - x .base)
@@ -256,10 +259,10 @@ module _ (job : Job) (passed : Passed job) (t : List ℕ) (table : Holds job t) 
         all-getD (y ∷ ys) a (suc k) h = all-getD ys (a .1) k (omega arith)
 
     pub lefts-by : hasLeft (x .gloss) ≡ true → cuts job x ≡ true → (i : ℕ) → x .base ≤ i → i < x .base + x .bases → cellAt t i .lefts ≡ runAt Left job x (i - x .base)
-    lefts-by hl c i h l = left-many-at hl i h l ∙ rw c
+    lefts-by hl c i h l = left-many-at i h l ∙ rw (c, hl)
 
     pub own-left-by : hasLeft (x .gloss) ≡ true → cuts job x ≡ true → (i : ℕ) → x .base ≤ i → i < x .base + x .bases → cellAt t i .ownleft ≡ runWidth Left job x (i - x .base)
-    own-left-by hl c i h l = left-own-at hl i h l ∙ rw c
+    own-left-by hl c i h l = left-own-at i h l ∙ rw (c, hl)
 
     -- a part of a J by its rows
     one-part : hasLeft (x .gloss) ≡ false → cuts job x ≡ true → (i c : ℕ) → x .base ≤ i → i < c → c ≤ x .base + x .bases → cells.part (job .em) t i c ≡ line.wordOf job (part job x (i - x .base) (c - i))
@@ -493,11 +496,7 @@ module _ (job : Job) (passed : Passed job) (t : List ℕ) (table : Holds job t) 
     none-word i h l e = ap (λ z. z .word) (has x at i h l) ∙ rw e
 
     none-upto : (i : ℕ) → isCut job x ≡ true → leftReading (leftRowBy job x (line.wordOf job x) i) .upto ≡ 0
-    none-upto i e = go (hasLeft (x .gloss)) refl
-      where
-        go : (b : Bool) → hasLeft (x .gloss) ≡ b → leftRowBy job x (line.wordOf job x) i .upto ≡ 0
-        go true g = rw (g, e)
-        go false g = rw g
+    none-upto i e = ap (λ (b : Bool). cond b none (line.wordOf job x) .left .upto) e
 
     none-long : (i : ℕ) → x .base ≤ i → i < x .base + x .bases → isCut job x ≡ true → total (elementOf (cellAt t i .word) 0 0) ≤ 524288
     none-long i h l e = subst (λ w. total (elementOf w 0 0) ≤ 524288) (sym (none-word i h l e)) (short (leftReading (leftRowBy job x (line.wordOf job x) i)) (none-upto i e))
