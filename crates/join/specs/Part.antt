@@ -52,10 +52,10 @@ use Rattle.join.specs.Runs.{first-next, first-more, wide-more, longer-mo
 use Rattle.join.specs.Rows.{runsOf, runOf, taken, firstAt, runAt, runWidth, wideBefore, longer}
 
 -- entries in two pieces
-entries-take : (xs : List ℕ) (a c n : ℕ) → take c (entries xs a (c + n)) ≡ entries xs a c
+pub entries-take : (xs : List ℕ) (a c n : ℕ) → take c (entries xs a (c + n)) ≡ entries xs a c
 entries-take xs a c n = entries-cut xs a (c + n) 0 c (omega arith) ∙ ap (λ (z : ℕ). entries xs z c) (add-zero a)
 
-entries-drop : (xs : List ℕ) (a c n : ℕ) → drop c (entries xs a (c + n)) ≡ entries xs (a + c) n
+pub entries-drop : (xs : List ℕ) (a c n : ℕ) → drop c (entries xs a (c + n)) ≡ entries xs (a + c) n
 entries-drop xs a c n =
     sym (take-all n (drop c (entries xs a (c + n))) (omega (arith, length-drop c (entries xs a (c + n)), length-entries xs a (c + n)))) ∙ entries-cut xs a (c + n) c n (omega arith)
 
