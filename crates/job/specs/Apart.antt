@@ -185,21 +185,29 @@ by-apart job Q x f g = go (apart (x .form) (x .gloss)) refl
     go false e = g e
 
 module _ (job : Job) (pass : Passed job) where
-  pub good-words : All (GoodWord job) (words job)
-  unfolding words
-  good-words =
-      all-each (GoodElement job) (GoodWord job) (wordsIn job) (elements job)
-      (λ x g. by-apart job (All (GoodWord job)) x (λ e. singles job pass x g e 0 (x .bases) (omega arith)) (λ e. (record { good = g; whole = e }, tt))) (pass .each)
+  -- the words of elements that stand one after the other
+  pub good-words-of : (xs : List Piece) → All (GoodElement job) xs → All (GoodWord job) (each (wordsIn job) xs)
+  good-words-of xs =
+      all-each (GoodElement job) (GoodWord job) (wordsIn job) xs
+      (λ x g. by-apart job (All (GoodWord job)) x (λ e. singles job pass x g e 0 (x .bases) (omega arith)) (λ e. (record { good = g; whole = e }, tt)))
 
   tiles : (first many : Piece → ℕ) → ((x : Piece) → GoodElement job x → apart (x .form) (x .gloss) ≡ true → Tiled first many (first x) (map (λ i. part job x i 1) (count 0 (x .bases))) (first x + many x)) →
       (xs : List Piece) → All (GoodElement job) xs → All (λ x. Tiled first many (first x) (wordsIn job x) (first x + many x)) xs
   tiles first many f [] a = tt
   tiles first many f (x ∷ xs) a = (by-apart job (λ ps. Tiled first many (first x) ps (first x + many x)) x (f x (a .0)) (λ _. (refl, refl)), tiles first many f xs (a .1))
 
+  pub words-tiled-of : (b d : ℕ) (xs : List Piece) → BaseTiled b xs d → All (GoodElement job) xs → BaseTiled b (each (wordsIn job) xs) d
+  words-tiled-of b d xs t a = tiled-each (λ p. p .base) (λ p. p .bases) (wordsIn job) b d xs t (tiles (λ p. p .base) (λ p. p .bases) (base-single job pass) xs a)
+
+  -- the words of the job
+  pub good-words : All (GoodWord job) (words job)
+  unfolding words
+  good-words = good-words-of (elements job) (pass .each)
+
   -- they take all base characters, and all characters of either side
   pub words-tiled : BaseTiled 0 (words job) (baseCount job)
   unfolding words
-  words-tiled = tiled-each (λ p. p .base) (λ p. p .bases) (wordsIn job) 0 (baseCount job) (elements job) (pass .tiled) (tiles (λ p. p .base) (λ p. p .bases) (base-single job pass) (elements job) (pass .each))
+  words-tiled = words-tiled-of 0 (baseCount job) (elements job) (pass .tiled) (pass .each)
 
   pub readings-tiled : (side : Side) → Tiled (firstOf side) (manyOf side) 0 (words job) (countOf side job)
   unfolding words
