@@ -168,7 +168,8 @@ module _ (l : Line) (set : IsSet l) where
       go true true a b =
           let s : from l ≡ 0 = ap (λ m. getD (0 ∷ result l .lines) m 0) (eqb-true (l .number) 0 a) in
           eq-eqb (piece l k .base) 0
-          (zeroth (characters.base-of (l .job) (l .base) (l .ruby) (l .left) (l .lines) accepted (from l) (upto l) this 0 (omega arith) (omega (arith, ahead (l .number) (set .there)))) (eqb-true k 0 b))
+          (zeroth (characters.base-of (l .job) (l .base) (l .ruby) (l .left) (l .lines) accepted (from l) (upto l) this 0 (omega arith) (omega (arith, ahead (l .number) (set .there))))
+          (eqb-true k 0 b))
       go true false a b =
           let n = eqb-false k 0 b in
           ne-eqb (piece l k .base) 0 (λ z. omega (arith, sorted 0 k (omega arith) h, good 0 (omega arith) .some))
