@@ -329,7 +329,7 @@ module _ {job : Job} {t : List ℕ} {i c : ℕ} {p : Piece} (q : Same job t i c 
   abbrev w : Word
   w = wordOf job p
 
-  there-is : (side : Side) → on side w .there ≡ hasReading side p
+  pub there-is : (side : Side) → on side w .there ≡ hasReading side p
   there-is Right = promise job p (q .good) .right .is
   there-is Left = promise job p (q .good) .left .is
 
