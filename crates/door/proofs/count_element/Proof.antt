@@ -1,5 +1,7 @@
 -- By the kind, once it is known. Each form is counted as its own row has it.
+use mathlib.Core.Path.{ap}
 use borrow.Author.Tests.{not-true, not-false}
+use Rattle.door.specs.declared.Counted.the-variants.{Is}
 use Rattle.door.specs.Elements.{countedBy}
 use borrow.Author.Needs.{needs}
 use Rattle.door.proofs.count_element.Statement.{statement}
@@ -17,6 +19,9 @@ form-of-requires c κs = search needs
 
 enum-told : tie.Need-enum-told
 enum-told c = search needs
+
+piece-of-requires : tie.Need-piece-of-requires
+piece-of-requires c κs = search needs
 
 enum-told-2 : tie.Need-enum-told-2
 enum-told-2 c = search needs
@@ -38,19 +43,31 @@ count-jukugo-requires c κs = search needs
 
 returns-2 : tie.Need-returns-2
 unfolding countedBy
-returns-2 c = rw (← c .before .before .before .before .is-known .ensures, not-false (c .before .before .before .before .is-known .result) (c .before .before .before .if1 .left), ← c .before .before .form-of .ensures, c .enum-told .given .1)
+returns-2 c =
+    let m = c .before .before in
+    let e = m .before .before in
+    rw (← e .before .is-known .ensures, not-false (e .before .is-known .result) (e .if1 .left), ← m .before .form-of .ensures, c .before .enum-told .given .1) (ap Is (c .piece-of .ensures))
 
 returns-3 : tie.Need-returns-3
 unfolding countedBy
-returns-3 c = rw (← c .before .before .before .before .before .is-known .ensures, not-false (c .before .before .before .before .before .is-known .result) (c .before .before .before .before .if1 .left), ← c .before .before .before .form-of .ensures, c .before .enum-told2 .given .1) (c .count-mono .ensures)
+returns-3 c =
+    let m = c .before .before in
+    let e = m .before .before in
+    rw (← e .before .is-known .ensures, not-false (e .before .is-known .result) (e .if1 .left), ← m .before .form-of .ensures, c .before .enum-told2 .given .1) (c .count-mono .ensures)
 
 returns-4 : tie.Need-returns-4
 unfolding countedBy
-returns-4 c = rw (← c .before .before .before .before .before .is-known .ensures, not-false (c .before .before .before .before .before .is-known .result) (c .before .before .before .before .if1 .left), ← c .before .before .before .form-of .ensures, c .before .enum-told3 .given .1) (c .count-group .ensures)
+returns-4 c =
+    let m = c .before .before in
+    let e = m .before .before in
+    rw (← e .before .is-known .ensures, not-false (e .before .is-known .result) (e .if1 .left), ← m .before .form-of .ensures, c .before .enum-told3 .given .1) (c .count-group .ensures)
 
 returns-5 : tie.Need-returns-5
 unfolding countedBy
-returns-5 c = rw (← c .before .before .before .before .before .is-known .ensures, not-false (c .before .before .before .before .before .is-known .result) (c .before .before .before .before .if1 .left), ← c .before .before .before .form-of .ensures, c .before .enum-told4 .given .1) (c .count-jukugo .ensures)
+returns-5 c =
+    let m = c .before .before in
+    let e = m .before .before in
+    rw (← e .before .is-known .ensures, not-false (e .before .is-known .result) (e .if1 .left), ← m .before .form-of .ensures, c .before .enum-told4 .given .1) (c .count-jukugo .ensures)
 
 pub count-element-spec : {M : Type 1} → statement M
 count-element-spec =
@@ -60,6 +77,7 @@ count-element-spec =
     returns
     form-of-requires
     enum-told
+    piece-of-requires
     enum-told-2
     count-mono-requires
     enum-told-3

@@ -10,7 +10,8 @@ use Rattle.engine.proofs.set_job.Tie as tie
 abbrev job : tie.Start → Job
 job a =
     let x = a .args in
-    jobOf (x .em) (x .measure) (x .ratios) (x .profile) (x .class .now) (x .width .now) (x .before .now) (x .after .now) (x .flag .now) (x .rclass .now) (x .rwidth .now) (x .kind .now) (x .ebase .now) (x .eruby .now) (x .runs .now)
+    jobOf (x .em) (x .measure) (x .ratios) (x .profile) (x .class .now) (x .width .now) (x .before .now) (x .after .now) (x .flag .now) (x .rclass .now) (x .rwidth .now) (x .lclass .now) (x .lwidth .now) (x .kind .now) (x .ebase .now)
+    (x .eruby .now) (x .lkind .now) (x .eleft .now) (x .runs .now) (x .lruns .now)
 
 small : (c : tie.After-set-table-arg3) → baseCount (job (c .before .before .before .before .before .before .before .before .before .before .before .before .before .before .before .before .before .before .before .before .before .before)) ≤ 128
 unfolding baseCount
@@ -29,7 +30,7 @@ slice-aggregate-set-table-3 : tie.Need-slice-aggregate-set-table-3
 slice-aggregate-set-table-3 c = search needs
 
 set-table-requires : tie.Need-set-table-requires
-set-table-requires c κs = record { rows = λ _. omega (arith, small c); ends = λ _. small c; extents = λ _. small c }
+set-table-requires c κs = record { rows = λ _. omega (arith, small c); left = λ _ _. omega (arith, small c); ends = λ _. small c; extents = λ _. small c }
 
 same-length : tie.Need-same-length
 same-length c = search needs
