@@ -22,7 +22,7 @@ use Rattle.engine.proofs.fill_job.Statement.{statement}
 use Rattle.engine.proofs.fill_job.Tie as tie
 
 abbrev start : tie.After-check-characters → tie.Start
-start c = c .before .before .before .before .before .before .before .before .before .before .before .before .before .before .before
+start c = c .before .before .before .before .before .before .before .before .before .before .before .before .before .before .before .before .before .before .before .before
 
 abbrev job : tie.Start → Job
 job a =

@@ -11,7 +11,7 @@ use Rattle.engine.proofs.set_table.Statement.{statement}
 use Rattle.engine.proofs.set_table.Tie as tie
 
 abbrev start : tie.After-fill-job → tie.Start
-start c = c .before .before .before .before .before .before .before .before .before .before .before .before .before .before .before .before .before .before .before .before .before
+start c = c .before .before .before .before .before .before .before .before .before .before .before .before .before .before .before .before .before .before .before .before .before .before .before .before .before .before .before
 
 abbrev job : tie.Start → Job
 job a =
@@ -29,7 +29,7 @@ told c e =
     (c .fill-job .ensures)
 
 fill-job-requires : tie.Need-fill-job-requires
-fill-job-requires c κs = c .before .before .before .before .before .before .before .before .before .before .before .before .before .before .before .before .before .before .before .before .pre
+fill-job-requires c κs = c .before .before .before .before .before .before .before .before .before .before .before .before .before .before .before .before .before .before .before .before .before .before .before .before .before .before .pre
 
 enum-known-why : tie.Need-enum-known-why
 enum-known-why c = search needs
@@ -39,7 +39,7 @@ enum-known-n c = search needs
 
 put-lines-requires : tie.Need-put-lines-requires
 put-lines-requires c κs =
-    let n = c .before .before .before .before .before in
+    let n = c .before .before .before .before .before .before in
     let f = n .before .before .before .before .before .before .before .before in
     let x = start f .args in
     whole.ready (job (start f)) (x .base .now) (x .ruby .now) (x .left .now) (x .lines .now) (x .extents .now) (f .fill-job .last .0) (f .fill-job .last .1 .0) (f .fill-job .last .1 .1 .0) (n .n .given .0 .0)
@@ -47,7 +47,7 @@ put-lines-requires c κs =
 
 put-ends-requires : tie.Need-put-ends-requires
 put-ends-requires c κs =
-    let n = c .before .before .before .before .before .before .before .before .before .before .before .before in
+    let n = c .before .before .before .before .before .before .before .before .before .before .before .before .before .before .before in
     let f = n .before .before .before .before .before .before .before .before in
     let x = start f .args in
     whole.room (job (start f)) (x .base .now) (x .ruby .now) (x .left .now) (x .lines .now) (x .extents .now) (f .fill-job .last .0) (f .fill-job .last .1 .0) (f .fill-job .last .1 .1 .0) (n .n .given .0 .0)
@@ -86,11 +86,14 @@ same-length-8 c = search needs
 same-length-9 : tie.Need-same-length-9
 same-length-9 c = search needs
 
+same-length-10 : tie.Need-same-length-10
+same-length-10 c = search needs
+
 returns-2 : tie.Need-returns-2
 returns-2 c =
     let e = c .before .before in
-    let p = e .before .before .before .before .before .before .before in
-    let n = p .before .before .before .before .before .before in
+    let p = e .before .before .before .before .before .before .before .before .before in
+    let n = p .before .before .before .before .before .before .before in
     let f = n .before .before .before .before .before .before .before .before in
     let x = start f .args in (
       whole.sets (job (start f)) (x .base .now) (x .ruby .now) (x .left .now) (x .lines .now) (x .extents .now) (f .fill-job .last .0) (f .fill-job .last .1 .0) (f .fill-job .last .1 .1 .0) (n .n .given .0 .0)
@@ -117,4 +120,5 @@ set-table-spec =
     same-length-7
     same-length-8
     same-length-9
+    same-length-10
     returns-2)
