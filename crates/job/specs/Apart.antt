@@ -104,6 +104,8 @@ piece-word job p g n =
     }
 
 -- The characters of a J with a mono left reading, each a word.
+abbrev pub oneByOne : Job → Piece → List Piece
+oneByOne job x = map (λ i. part job x i 1) (count 0 (x .bases))
 
 module _ (job : Job) (pass : Passed job) (x : Piece) (good : GoodElement job x) (separate : apart (x .form) (x .gloss) ≡ true) where
   mono-left : x .gloss ≡ left.M
@@ -135,12 +137,12 @@ module _ (job : Job) (pass : Passed job) (x : Piece) (good : GoodElement job x) 
         step : (a n : ℕ) → suc a + n ≡ a + suc n
         step a n = omega arith
 
-    single-tiled : sofar 0 ≡ 0 → sofar (x .bases) ≡ many x → Tiled first many (first x) (map (λ i. part job x i 1) (count 0 (x .bases))) (first x + many x)
+    single-tiled : sofar 0 ≡ 0 → sofar (x .bases) ≡ many x → Tiled first many (first x) (oneByOne job x) (first x + many x)
     single-tiled none all =
-        subst (λ (b : ℕ). Tiled first many b (map (λ i. part job x i 1) (count 0 (x .bases))) (first x + many x)) (ap (λ k. first x + k) none ∙ add-zero (first x))
-        (subst (λ (d : ℕ). Tiled first many (first x + sofar 0) (map (λ i. part job x i 1) (count 0 (x .bases))) (first x + d)) (ap sofar (zero-add (x .bases)) ∙ all) (tiled-from 0 (x .bases)))
+        subst (λ (b : ℕ). Tiled first many b (oneByOne job x) (first x + many x)) (ap (λ k. first x + k) none ∙ add-zero (first x))
+        (subst (λ (d : ℕ). Tiled first many (first x + sofar 0) (oneByOne job x) (first x + d)) (ap sofar (zero-add (x .bases)) ∙ all) (tiled-from 0 (x .bases)))
 
-  base-single : Tiled (λ p. p .base) (λ p. p .bases) (x .base) (map (λ i. part job x i 1) (count 0 (x .bases))) (x .base + x .bases)
+  base-single : Tiled (λ p. p .base) (λ p. p .bases) (x .base) (oneByOne job x) (x .base + x .bases)
   unfolding part
   base-single = single-tiled (λ p. p .base) (λ p. p .bases) (λ i. i) (λ i. refl) (λ i. omega arith) refl refl
 
@@ -150,15 +152,16 @@ module _ (job : Job) (pass : Passed job) (x : Piece) (good : GoodElement job x) 
       more : (i : ℕ) → suc i ≡ i + 1
       more i = omega arith
 
-  ruby-single : Tiled (λ p. p .ruby) (λ p. p .rubies) (x .ruby) (map (λ i. part job x i 1) (count 0 (x .bases))) (x .ruby + x .rubies)
+  ruby-single : Tiled (λ p. p .ruby) (λ p. p .rubies) (x .ruby) (oneByOne job x) (x .ruby + x .rubies)
   unfolding part
   ruby-single =
-      single-tiled (λ p. p .ruby) (λ p. p .rubies) (λ i. sum (entries (job .run) (x .run) i)) (λ i. refl) (sum-next (job .run) (x .run)) refl (sym (good .counts .whole (apart-is (x .form) (x .gloss) separate .0)))
+      single-tiled (λ p. p .ruby) (λ p. p .rubies) (λ i. sum (entries (job .run) (x .run) i)) (λ i. refl) (sum-next (job .run) (x .run)) refl
+      (sym (good .counts .whole (apart-is (x .form) (x .gloss) separate .0)))
 
   has-runs : leftByRuns (x .form) (x .gloss) ≡ true
   has-runs = let q = apart-is (x .form) (x .gloss) separate in runs-of-j (x .form) (x .gloss) (q .0) (rw (q .1)) (rw (q .1))
 
-  left-single : Tiled (λ p. p .left) (λ p. p .lefts) (x .left) (map (λ i. part job x i 1) (count 0 (x .bases))) (x .left + x .lefts)
+  left-single : Tiled (λ p. p .left) (λ p. p .lefts) (x .left) (oneByOne job x) (x .left + x .lefts)
   unfolding part
   left-single =
       single-tiled (λ p. p .left) (λ p. p .lefts) (λ i. sum (entries (job .leftRun) (x .leftrun) i)) (λ i. rw has-runs) (λ i. rw has-runs (sum-next (job .leftRun) (x .leftrun) i)) refl
@@ -176,32 +179,43 @@ module _ (first many : Piece → ℕ) where
   tiled-each f b d (x ∷ xs) t a =
       tiled-append b (b + many x) d (f x) (each f xs) (subst (λ (k : ℕ). Tiled first many k (f x) (k + many x)) (t .0) (a .0)) (tiled-each f (b + many x) d xs (t .1) (a .1))
 
-pub by-apart : (job : Job) (Q : List Piece → Type 0) (x : Piece) → (apart (x .form) (x .gloss) ≡ true → Q (map (λ i. part job x i 1) (count 0 (x .bases)))) → (apart (x .form) (x .gloss) ≡ false → Q (x ∷ [])) → Q (wordsIn job x)
+pub by-apart : (job : Job) (Q : List Piece → Type 0) (x : Piece) → (apart (x .form) (x .gloss) ≡ true → Q (oneByOne job x)) → (apart (x .form) (x .gloss) ≡ false → Q (x ∷ [])) → Q (wordsIn job x)
 unfolding wordsIn
 by-apart job Q x f g = go (apart (x .form) (x .gloss)) refl
   where
-    go : (t : Bool) → apart (x .form) (x .gloss) ≡ t → Q (cond t (map (λ i. part job x i 1) (count 0 (x .bases))) (x ∷ []))
+    go : (t : Bool) → apart (x .form) (x .gloss) ≡ t → Q (cond t (oneByOne job x) (x ∷ []))
     go true e = f e
     go false e = g e
 
 module _ (job : Job) (pass : Passed job) where
+  -- the words of elements that stand one after the other
+  pub good-words-of : (xs : List Piece) → All (GoodElement job) xs → All (GoodWord job) (each (wordsIn job) xs)
+  good-words-of xs =
+      all-each (GoodElement job) (GoodWord job) (wordsIn job) xs
+      (λ x g. by-apart job (All (GoodWord job)) x (λ e. singles job pass x g e 0 (x .bases) (omega arith)) (λ e. (record { good = g; whole = e }, tt)))
+
+  module _ (first many : Piece → ℕ) (single : (x : Piece) → GoodElement job x → apart (x .form) (x .gloss) ≡ true → Tiled first many (first x) (oneByOne job x) (first x + many x)) where
+    tiles : (xs : List Piece) → All (GoodElement job) xs → All (λ x. Tiled first many (first x) (wordsIn job x) (first x + many x)) xs
+    tiles [] a = tt
+    tiles (x ∷ xs) a = (by-apart job (λ ps. Tiled first many (first x) ps (first x + many x)) x (single x (a .0)) (λ _. (refl, refl)), tiles xs (a .1))
+
+    tiled-words : (b d : ℕ) (xs : List Piece) → Tiled first many b xs d → All (GoodElement job) xs → Tiled first many b (each (wordsIn job) xs) d
+    tiled-words b d xs t a = tiled-each first many (wordsIn job) b d xs t (tiles xs a)
+
+  pub words-tiled-of : (b d : ℕ) (xs : List Piece) → BaseTiled b xs d → All (GoodElement job) xs → BaseTiled b (each (wordsIn job) xs) d
+  words-tiled-of = tiled-words (λ p. p .base) (λ p. p .bases) (base-single job pass)
+
+  -- the words of the job
   pub good-words : All (GoodWord job) (words job)
   unfolding words
-  good-words =
-      all-each (GoodElement job) (GoodWord job) (wordsIn job) (elements job)
-      (λ x g. by-apart job (All (GoodWord job)) x (λ e. singles job pass x g e 0 (x .bases) (omega arith)) (λ e. (record { good = g; whole = e }, tt))) (pass .each)
-
-  tiles : (first many : Piece → ℕ) → ((x : Piece) → GoodElement job x → apart (x .form) (x .gloss) ≡ true → Tiled first many (first x) (map (λ i. part job x i 1) (count 0 (x .bases))) (first x + many x)) →
-      (xs : List Piece) → All (GoodElement job) xs → All (λ x. Tiled first many (first x) (wordsIn job x) (first x + many x)) xs
-  tiles first many f [] a = tt
-  tiles first many f (x ∷ xs) a = (by-apart job (λ ps. Tiled first many (first x) ps (first x + many x)) x (f x (a .0)) (λ _. (refl, refl)), tiles first many f xs (a .1))
+  good-words = good-words-of (elements job) (pass .each)
 
   -- they take all base characters, and all characters of either side
   pub words-tiled : BaseTiled 0 (words job) (baseCount job)
   unfolding words
-  words-tiled = tiled-each (λ p. p .base) (λ p. p .bases) (wordsIn job) 0 (baseCount job) (elements job) (pass .tiled) (tiles (λ p. p .base) (λ p. p .bases) (base-single job pass) (elements job) (pass .each))
+  words-tiled = words-tiled-of 0 (baseCount job) (elements job) (pass .tiled) (pass .each)
 
   pub readings-tiled : (side : Side) → Tiled (firstOf side) (manyOf side) 0 (words job) (countOf side job)
   unfolding words
-  readings-tiled Right = tiled-each (λ p. p .ruby) (λ p. p .rubies) (wordsIn job) 0 _ (elements job) (pass .rubies) (tiles (λ p. p .ruby) (λ p. p .rubies) (ruby-single job pass) (elements job) (pass .each))
-  readings-tiled Left = tiled-each (λ p. p .left) (λ p. p .lefts) (wordsIn job) 0 _ (elements job) (pass .lefts) (tiles (λ p. p .left) (λ p. p .lefts) (left-single job pass) (elements job) (pass .each))
+  readings-tiled Right = tiled-words (firstOf Right) (manyOf Right) (ruby-single job pass) 0 (countOf Right job) (elements job) (pass .rubies) (pass .each)
+  readings-tiled Left = tiled-words (firstOf Left) (manyOf Left) (left-single job pass) 0 (countOf Left job) (elements job) (pass .lefts) (pass .each)

@@ -48,11 +48,8 @@ left-part : (job : Job) → Passed job → (x : Piece) → GoodWord job x → cu
 unfolding part
 left-part job passed x g b i n some fits = go (leftByRuns (x .form) (x .gloss)) refl
   where
-    q : _
-    q = cut-is job x b
-
     go : (t : Bool) → leftByRuns (x .form) (x .gloss) ≡ t → cond t (sum (entries (job .leftRun) (x .leftrun + i) n)) 0 ≤ x .lefts
-    go true e = omega (arith, left-fits job passed x (g .good) (q .0) (q .1) i n some fits e)
+    go true e = let q = cut-is job x b in omega (arith, left-fits job passed x (g .good) (q .0) (q .1) i n some fits e)
     go false e = zero-le
 
 in-many : (job : Job) → Passed job → (s e : ℕ) (x : Piece) → GoodWord job x → sum (map many (inLine job s e x)) ≤ many x

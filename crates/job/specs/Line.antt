@@ -12,9 +12,9 @@ use Rattle.word.specs.declared.Form.{Form}
 use Rattle.word.specs.declared.Form.the-variants.{P, M, G, J}
 use Rattle.word.specs.declared.Word.{Word}
 use Rattle.word.specs.declared.Reading as word-reading
-use Rattle.word.specs.Given.{isJ}
+use Rattle.word.specs.Given.{hasRuby, isJ}
 use Rattle.word.specs.Alone.{split, anyLonger}
-use Rattle.word.specs.Both.{Both, apart, uncut, places}
+use Rattle.word.specs.Both.{Both, hasLeft, apart, uncut, places}
 use Rattle.word.specs.Sides as word
 use Rattle.word.specs.Part.{formOfPart}
 use Rattle.sides.specs.Parts.{leftOfPart}
@@ -181,6 +181,14 @@ widthsOf Left job = job .leftWidth
 abbrev pub countOf : Side → Job → ℕ
 countOf Right job = rubyCount job
 countOf Left job = leftCount job
+
+abbrev pub hasReading : Side → Piece → Bool
+hasReading Right p = hasRuby (p .form)
+hasReading Left p = hasLeft (p .gloss)
+
+-- the widths of a piece's characters of one side
+abbrev pub widthsIn : Side → Job → Piece → List ℕ
+widthsIn side job p = entries (widthsOf side job) (firstOf side p) (manyOf side p)
 
 abbrev pub onSide : Side → Both → List ℕ
 onSide Right b = b .right

@@ -4,6 +4,7 @@ use mathlib.Core.Option.{Option, none, some}
 use Prim.Native.Nat.{ℕ}
 use lib.ListN.{length, drop}
 use Rattle.refusal.specs.declared.Refusal.{Refusal}
+use Rattle.line.specs.declared.Side.{Side}
 use Rattle.line.specs.declared.Side.the-variants.{Right, Left}
 use Rattle.door.specs.Job.{Job}
 use Rattle.job.specs.declared.Answer.{Answer}
@@ -19,6 +20,11 @@ pub record Outcome : Type 0 where
   pub ruby : List ℕ
   pub left : List ℕ
   pub lines : List ℕ
+
+-- the positions of one side's characters
+abbrev pub readings : Outcome → Side → List ℕ
+readings o Right = o .ruby
+readings o Left = o .left
 
 -- "On success, entries past those used stay as they were"
 abbrev pub over : List ℕ → List ℕ → List ℕ

@@ -8,17 +8,22 @@ use Prim.Native.Nat.{ℕ, zero, suc, _+_, _-_, _≤_, _<_, min, max}
 use native.Mathlib.Omega.{arith}
 use borrow.Author.Tests.{lt-ltb, le-ltb, ne-eqb, eqb-false}
 use lib.Dec.{eqb, ltb}
+use lib.ListN.{getD}
 use lib.Seq.{append-snoc}
 use Rattle.basics.specs.Lists.{count, each, All}
+use Rattle.word.specs.declared.Form.{Form}
+use Rattle.word.specs.declared.Form.the-variants.{P, M, G, J}
 use Rattle.word.specs.declared.Left.{Left as LeftKind}
 use Rattle.word.specs.declared.Left.the-variants as left
-use Rattle.word.specs.Given.{isJ}
+use Rattle.word.specs.Given.{hasRuby, isJ}
 use Rattle.word.specs.Both.{apart, isGroup, uncut}
+use Rattle.word.specs.Kept.{LeftSized}
+use Rattle.sides.specs.Standing.{runs-only}
 use Rattle.door.specs.declared.Piece.{Piece}
 use Rattle.door.specs.declared.Taken.{Taken}
-use Rattle.door.specs.Job.{Job, baseCount, elementCount, nothing, past, element, elementsFrom, elements}
+use Rattle.door.specs.Job.{Job, baseCount, elementCount, formOf, takesBase, nothing, past, element, elementsFrom, elements, given, glossOf}
 use Rattle.door.specs.Passed.{GoodElement, Tiled, BaseTiled, Passed}
-use Rattle.job.specs.Line.{part, wordsIn, words, cuts, inLine, pieces}
+use Rattle.job.specs.Line.{part, wordsIn, words, cuts, wordOf, inLine, pieces}
 use Rattle.job.specs.Laws.{all-split, all-each, each-append, both}
 use Rattle.job.specs.Words.{GoodPiece, is-j, whole-piece, part-piece}
 use Rattle.job.specs.Apart.{GoodWord, by-apart, good-words, words-tiled}
@@ -158,6 +163,7 @@ words-some job (x ∷ xs) a = (a .0 .good .counts .some, words-some job xs (a .1
 pub record IsElement (job : Job) (x : Piece) : Type 0 where
   pub good : GoodElement job x
   pub last : x .more ≡ false
+  pub one : hasRuby (x .form) ≡ false → x .bases ≡ 1
   pub place : Among (elements job) x
 
 pub record Single (job : Job) (y x : Piece) : Type 0 where
@@ -171,19 +177,28 @@ pub record Of (job : Job) (x : Piece) : Type 0 where
   pub good : IsElement job element
   pub word : (x ≡ element) ⊎ Single job element x
 
-none-more : (job : Job) (n k : ℕ) (at : Taken) → All (λ x. x .more ≡ false) (elementsFrom job n k at)
+takes-one : (form : Form) (n : ℕ) → hasRuby form ≡ false → takesBase form n ≡ 1
+takes-one P n e = refl
+takes-one M n e = absurd (true≢false e)
+takes-one G n e = absurd (true≢false e)
+takes-one J n e = absurd (true≢false e)
+
+abbrev Alone : Piece → Type 0
+Alone x = (x .more ≡ false) × (hasRuby (x .form) ≡ false → x .bases ≡ 1)
+
+alone-from : (job : Job) (n k : ℕ) (at : Taken) → All Alone (elementsFrom job n k at)
 unfolding elementsFrom element
-none-more job zero k at = tt
-none-more job (suc n) k at = (refl, none-more job n (suc k) (past at (element job k at)))
+alone-from job zero k at = tt
+alone-from job (suc n) k at = ((refl, takes-one (formOf (getD (job .kind) k 0)) (getD (job .elementBase) k 0)), alone-from job n (suc k) (past at (element job k at)))
 
 pub all-elements : (job : Job) → Passed job → All (IsElement job) (elements job)
 unfolding elements
 all-elements job p =
-    turn (elements job) (none-more job (elementCount job) 0 nothing) (all-among (GoodElement job) (elements job) (baseCount job) (p .tiled) (elements-some job (elements job) (p .each)) (p .each))
+    turn (elements job) (alone-from job (elementCount job) 0 nothing) (all-among (GoodElement job) (elements job) (baseCount job) (p .tiled) (elements-some job (elements job) (p .each)) (p .each))
   where
-    turn : (xs : List Piece) → All (λ x. x .more ≡ false) xs → All (λ x. GoodElement job x × Among (elements job) x) xs → All (IsElement job) xs
+    turn : (xs : List Piece) → All Alone xs → All (λ x. GoodElement job x × Among (elements job) x) xs → All (IsElement job) xs
     turn [] m a = tt
-    turn (x ∷ xs) m a = (record { good = a .0 .0; last = m .0; place = a .0 .1 }, turn xs (m .1) (a .1))
+    turn (x ∷ xs) m a = (record { good = a .0 .0; last = m .0 .0; one = m .0 .1; place = a .0 .1 }, turn xs (m .1) (a .1))
 
 words-of : (job : Job) → Passed job → All (Of job) (words job)
 unfolding words
@@ -293,6 +308,33 @@ cut-is job x e = let q = both (isJ (x .form)) _ e in (q .0, group (x .gloss) _ (
     group left.M longer e = refl
     group left.G longer e = absurd (false≢true e)
     group left.J longer e = refl
+
+single-whole : (job : Job) (y : Piece) (i : ℕ) → cuts job (part job y i 1) ≡ false
+unfolding cuts part
+single-whole job y i = refl
+
+-- a word that is cut is an element, and its element does not go on behind it
+pub cut-last : (job : Job) (x : Piece) → IsWord job x → cuts job x ≡ true → x .more ≡ false
+cut-last job x at c = go (at .of .word)
+  where
+    go : (x ≡ at .of .element) ⊎ Single job (at .of .element) x → x .more ≡ false
+    go (inl e) = ap (λ (p : Piece). p .more) e ∙ at .of .good .last
+    go (inr s) = absurd (true≢false (sym c ∙ ap (cuts job) (s .is) ∙ single-whole job (at .of .element) (s .at)))
+
+-- a word whose reading stands run by run, on either side, is a J that is cut
+pub runs-cut : (job : Job) (x : Piece) → LeftSized (x .form) (glossOf job x) → (wordOf job x .right .runs ≡ true → cuts job x ≡ true) × (wordOf job x .left .runs ≡ true → cuts job x ≡ true)
+unfolding cuts
+runs-cut job x z =
+    let q = runs-only (x .form) (given job x) (glossOf job x) z in (q .0, λ e. q .1 e .0)
+
+-- a P has one base character
+pub plain-one : (job : Job) (x : Piece) → IsWord job x → hasRuby (x .form) ≡ false → x .bases ≡ 1
+unfolding part
+plain-one job x at h = go (at .of .word)
+  where
+    go : (x ≡ at .of .element) ⊎ Single job (at .of .element) x → x .bases ≡ 1
+    go (inl e) = ap (λ (p : Piece). p .bases) e ∙ at .of .good .one (sym (ap (λ (p : Piece). hasRuby (p .form)) e) ∙ h)
+    go (inr s) = ap (λ (p : Piece). p .bases) (s .is)
 
 module _ (job : Job) (passed : Passed job) where
   -- a part of a word that is cut

@@ -53,7 +53,7 @@ plain-left M k h t = absurd (true≢false h)
 plain-left G k h t = absurd (true≢false h)
 plain-left J k h t = absurd (true≢false h)
 
-is-true : (t : Bool) → T t → t ≡ true
+pub is-true : (t : Bool) → T t → t ≡ true
 is-true true h = refl
 is-true false h = absurd h
 

@@ -1,8 +1,8 @@
 -- The index of a line's first element in the job, which the account needs to name elements by their index.
 use mathlib.Core.Path.{_≡_, refl, sym, ap, ap₂, _∙_, subst}
-use mathlib.Core.Bool.{Bool}
+use mathlib.Core.Bool.{Bool, true, false, cond}
 use mathlib.Core.List.{List, [], _∷_, _++_, append-nil}
-use Prim.Native.Nat.{ℕ, _+_, _≤_, _<_}
+use Prim.Native.Nat.{ℕ, suc, _+_, _≤_, _<_, zero-le}
 use native.Mathlib.Omega.{arith}
 use borrow.Author.Tests.{le-leb, lt-leb}
 use lib.Dec.{leb}
@@ -14,6 +14,7 @@ use Rattle.door.specs.Job.{Job, baseCount, elements}
 use Rattle.door.specs.Passed.{GoodElement, Passed, BaseTiled}
 use Rattle.job.specs.Laws.{keep-append}
 use Rattle.job.specs.Pieces.{tiled-ends, tiled-starts, tiled-split}
+use Rattle.job.specs.Walk.{length-elements}
 
 abbrev endsBy : ℕ → Piece → Bool
 endsBy s x = leb (x .base + x .bases) s
@@ -61,3 +62,16 @@ first-end job door = ap length (keeps-all (baseCount job) (elements job) (tiled-
 pub first-none : (job : Job) → Passed job → 0 ≡ firstIn job 0
 unfolding firstIn
 first-none job door = ap length (sym (keeps-none 0 (elements job) (all-map (GoodElement job) (λ y. 0 < y .base + y .bases) (elements job) (λ y g. omega (arith, g .counts .some)) (door .each))))
+
+-- it is an index of at most 1,024 elements
+pub first-few : (job : Job) → Passed job → (s : ℕ) → firstIn job s ≤ 1024
+unfolding firstIn
+first-few job door s = omega (arith, kept (elements job), length-elements job, door .fewElements)
+  where
+    kept : (xs : List Piece) → length (keep (endsBy s) xs) ≤ length xs
+    kept [] = zero-le
+    kept (x ∷ xs) = go (endsBy s x) (kept xs)
+      where
+        go : (b : Bool) → length (keep (endsBy s) xs) ≤ length xs → length (cond b (x ∷ keep (endsBy s) xs) (keep (endsBy s) xs)) ≤ suc (length xs)
+        go true h = omega arith
+        go false h = omega arith

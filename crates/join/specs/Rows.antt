@@ -17,7 +17,7 @@ use Rattle.line.specs.declared.Side.{Side}
 use Rattle.line.specs.declared.Side.the-variants.{Right, Left}
 use Rattle.cells.specs.declared.Cell.{Cell}
 use Rattle.cells.specs.declared.LeftRow.{LeftRow}
-use Rattle.cells.specs.Cells.{size, ratiosAt, noLeft, beside, cellAt}
+use Rattle.cells.specs.Cells.{size, ratiosAt, beside, cellAt}
 use Rattle.door.specs.declared.Piece.{Piece}
 use Rattle.door.specs.Job.{Job, baseCount, entries, leftByRuns}
 use Rattle.job.specs.Line.{part, words, cuts, wordOf, onP, depthsAt, firstOf, manyOf, widthsOf}
@@ -91,14 +91,18 @@ rowBy job x w ends before after i =
       more = false;
     }
 
--- and its left row, of a word that has a left reading: where that stands in the word, and its characters, of a J that is cut those of its own left run
+-- a J that is cut is laid by its left runs too, where it has a left reading
+abbrev pub leftRuns : Job → Piece → Bool
+leftRuns job x = cuts job x && hasLeft (x .gloss)
+
+-- and its left row: where the left reading stands in the word, and its characters, of a J that is cut those of its own left run. A word without a left reading has no characters
+-- there, and the next ones begin where it stands.
 abbrev pub leftRowBy : Job → Piece → Word → ℕ → LeftRow
 leftRowBy job x w i =
-    let k = runsBefore job x i in
-    let j = cuts job x in
+    let j = leftRuns job x in
+    let k = cond j (i - x .base) 0 in
     let v = cond (isCut job x) none w .left in
-    cond (hasLeft (x .gloss))
-    (record {
+    record {
       from = v .from;
       upto = v .upto;
       within = v .within;
@@ -107,8 +111,7 @@ leftRowBy job x w i =
       many = cond j (runAt Left job x k) (x .lefts);
       own = cond j (runWidth Left job x k) 0;
       more = x .more;
-    })
-    noLeft
+    }
 
 -- "A line may end after the last base character of an element whose flag is 1", and where an element goes on behind a character that is a word of its own
 abbrev pub endsBehind : Job → Piece → Bool

@@ -75,7 +75,7 @@ part-takes left.G one e f = absurd (true≢false e)
 part-takes left.J true e f = refl
 part-takes left.J false e f = refl
 
-part-has : (k : Left) (one : Bool) → hasLeft (leftBy k one) ≡ hasLeft k
+pub part-has : (k : Left) (one : Bool) → hasLeft (leftBy k one) ≡ hasLeft k
 part-has left.N one = refl
 part-has left.M one = refl
 part-has left.G one = refl

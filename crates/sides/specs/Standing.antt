@@ -1,7 +1,7 @@
 -- Where the characters of a word stand, with a left reading or without: those of its base and of either reading are strings, each from its first character's start to its last
 -- one's end, and none of its characters reaches a later one. What is said of a reading is said once, of either side.
 use mathlib.Core.Path.{_≡_, refl, sym, ap, ap₂, _∙_, subst}
-use mathlib.Core.Bool.{Bool, true, false, cond, not, true≢false, false≢true}
+use mathlib.Core.Bool.{Bool, true, false, cond, not, _&&_, _||_, true≢false, false≢true}
 use mathlib.Core.List.{List, [], _∷_, map}
 use Prim.Native.Nat.{ℕ, zero, suc, _+_, _-_, _*_, _≤_, _<_}
 use native.Mathlib.Nat.{zero-add}
@@ -34,9 +34,10 @@ use Rattle.word.specs.Alone as alone
 use Rattle.word.specs.Word.{overEach, runStarts}
 use Rattle.word.specs.Word as one
 use Rattle.word.specs.Joined.{base-alone, ruby-alone}
+use Rattle.word.specs.Joined as joined
 use Rattle.word.specs.Spans.{Spans, Some, flat, flat-split, split-some, length-split, starts-span, each-spans}
 use Rattle.word.specs.Rising.{Rises, Lies, rises, lies, starts-follow, runs-follow}
-use Rattle.word.specs.Both.{Both, Gloss, hasLeft, takes, apart, isGroup, isJukugo, groups, jukugos, two, places}
+use Rattle.word.specs.Both.{Both, Gloss, hasLeft, takes, apart, isGroup, isJukugo, uncut, groups, jukugos, two, places}
 use Rattle.word.specs.Sides.{strOf, readingOver, sided, groupsWord, jukugosWord, wordOf, wordTwo, twoBy, jukugosBy, blockStarts, readingStarts}
 use Rattle.word.specs.SidesJoined.{bothAt, monos-are, groups-are, jukugos-are}
 use Rattle.word.specs.Kept.{Kept, Reads, LeftSized}
@@ -121,7 +122,7 @@ by-none : (r b : Way) (h : Ratios) (em : ℕ) (bs rs : List ℕ) → one.wordBy 
 unfolding one.wordBy one.shortRuby one.shortBase
 by-none r b h em bs rs = by-cond (leb (sum rs) (sum bs)) _ _ refl refl
 
-none-left : (form : Form) (w : Given) → one.wordOf form w .left ≡ one.none
+pub none-left : (form : Form) (w : Given) → one.wordOf form w .left ≡ one.none
 unfolding one.wordOf one.plain one.groupWord one.jukugoWord overEach
 none-left form.P w = refl
 none-left form.M w = by-none Solid Solid (w .ratios) (w .em) (w .width) (w .rubyWidth)
@@ -214,35 +215,42 @@ string-only : (r l b : Way) (h : Ratios) (em : ℕ) (bs rs ls : Str) → (sided 
 unfolding sided readingOver
 string-only r l b h em bs rs ls = (refl, refl)
 
-abbrev Only : Form → Gloss → Word → Type 0
-Only form g v = (v .right .runs ≡ true → isJ form ≡ true) × (v .left .runs ≡ true → (isJ form ≡ true) × (isJukugo (g .kind) ≡ true))
+-- a J whose runs stand over their own characters, by document 02's words on which J is cut
+abbrev pub byRuns : Form → Given → Gloss → Bool
+byRuns form w g = isJ form && not (uncut (g .kind) (anyLonger (w .em) (split (w .run) (w .rubyWidth)) || anyLonger (w .em) (split (g .run) (g .width))))
 
-only-strings : (form : Form) (g : Gloss) (r l b : Way) (h : Ratios) (em : ℕ) (bs rs ls : Str) → Only form g (sided r l b h em bs rs ls)
-only-strings form g r l b h em bs rs ls =
+abbrev Only : Form → Given → Gloss → Word → Type 0
+Only form w g v = (v .right .runs ≡ true → byRuns form w g ≡ true) × (v .left .runs ≡ true → (byRuns form w g ≡ true) × (isJukugo (g .kind) ≡ true))
+
+only-strings : (form : Form) (w : Given) (g : Gloss) (r l b : Way) (h : Ratios) (em : ℕ) (bs rs ls : Str) → Only form w g (sided r l b h em bs rs ls)
+only-strings form w g r l b h em bs rs ls =
     let q = string-only r l b h em bs rs ls in (λ e. absurd (false≢true (sym (q .0) ∙ e)), λ e. absurd (false≢true (sym (q .1) ∙ e)))
 
-by-two : (t : Bool) (form : Form) (g : Gloss) (a b : Word) → (t ≡ true → Only form g a) → (t ≡ false → Only form g b) → Only form g (cond t a b)
-by-two true form g a b p q = p refl
-by-two false form g a b p q = q refl
+by-two : (t : Bool) (form : Form) (w : Given) (g : Gloss) (a b : Word) → (t ≡ true → Only form w g a) → (t ≡ false → Only form w g b) → Only form w g (cond t a b)
+by-two true form w g a b p q = p refl
+by-two false form w g a b p q = q refl
 
-jukugo-left : (k : Left) → apart form.J k ≡ false → hasLeft k ≡ true → isGroup k ≡ false → isJukugo k ≡ true
+jukugo-left : (k : Left) → apart form.J k ≡ false → hasLeft k ≡ true → isGroup k ≡ false → k ≡ left.J
 jukugo-left left.N a h e = absurd (false≢true h)
 jukugo-left left.M a h e = absurd (true≢false a)
 jukugo-left left.G a h e = absurd (true≢false e)
 jukugo-left left.J a h e = refl
 
-only-two : (form : Form) (w : Given) (g : Gloss) → LeftSized form g → hasLeft (g .kind) ≡ true → Only form g (wordTwo form w g)
+only-two : (form : Form) (w : Given) (g : Gloss) → LeftSized form g → hasLeft (g .kind) ≡ true → Only form w g (wordTwo form w g)
 unfolding wordTwo twoBy jukugosBy jukugosWord one.plain
 only-two form.P w g z h = (λ e. absurd (false≢true e), λ e. absurd (false≢true e))
-only-two form.M w g z h = only-strings form.M g Solid Solid Solid (w .ratios) (w .em) (strOf (w .width)) (strOf (w .rubyWidth)) (strOf (g .width))
+only-two form.M w g z h = only-strings form.M w g Solid Solid Solid (w .ratios) (w .em) (strOf (w .width)) (strOf (w .rubyWidth)) (strOf (g .width))
 only-two form.G w g z h =
     let r = alone.script (w .rubyClass) in
     let l = alone.script (g .class) in
     let b = alone.script (w .class) in
-    only-strings form.G g (alone.rubyWay r b) (alone.rubyWay l b) (cond (leb (sum (g .width)) (sum (w .rubyWidth))) (alone.baseWay r b) (alone.baseWay l b)) (w .ratios) (w .em)
+    only-strings form.G w g (alone.rubyWay r b) (alone.rubyWay l b) (cond (leb (sum (g .width)) (sum (w .rubyWidth))) (alone.baseWay r b) (alone.baseWay l b)) (w .ratios) (w .em)
     (strOf (w .width)) (strOf (w .rubyWidth)) (strOf (g .width))
 only-two form.J w g z h =
-    by-two (isGroup (g .kind)) form.J g group (jukugosWord r l (w .ratios) (w .em) (w .width) (w .run) (w .rubyWidth) (g .run) (g .width)) (λ _. strings) (λ e. (λ _. refl, λ _. (refl, jukugo-left (g .kind) (z .whole) h e)))
+    by-two (isGroup (g .kind)) form.J w g group (jukugosWord r l (w .ratios) (w .em) (w .width) (w .run) (w .rubyWidth) (g .run) (g .width)) (λ _. strings)
+    (λ e.
+    let k = jukugo-left (g .kind) (z .whole) h e in
+    by-two longer form.J w g group each (λ _. strings) (λ f. (λ _. fits k f, λ _. (fits k f, ap isJukugo k))))
   where
     r : Script
     r = alone.script (w .rubyClass)
@@ -250,19 +258,43 @@ only-two form.J w g z h =
     l : Script
     l = alone.script (g .class)
 
+    longer : Bool
+    longer = anyLonger (w .em) (split (w .run) (w .rubyWidth)) || anyLonger (w .em) (split (g .run) (g .width))
+
     group : Word
     group = groupsWord r l Kana (w .ratios) (w .em) (strOf (w .width)) (strOf (w .rubyWidth)) (strOf (g .width))
 
-    strings : Only form.J g group
+    each : Word
+    each =
+        record {
+          front = 0;
+          len = 2 * sum (w .width);
+          inbase = 0;
+          right = one.byRuns (w .em) (sum (w .width)) (map sum (split (w .run) (w .rubyWidth)));
+          left = one.byRuns (w .em) (sum (w .width)) (map sum (split (g .run) (g .width)));
+        }
+
+    fits : g .kind ≡ left.J → longer ≡ false → byRuns form.J w g ≡ true
+    fits k f = ap (λ (q : Left). not (uncut q longer)) k ∙ ap not f
+
+    strings : Only form.J w g group
     strings =
-        only-strings form.J g (alone.rubyWay r Kana) (alone.rubyWay l Kana) (cond (leb (sum (g .width)) (sum (w .rubyWidth))) (alone.baseWay r Kana) (alone.baseWay l Kana)) (w .ratios) (w .em)
+        only-strings form.J w g (alone.rubyWay r Kana) (alone.rubyWay l Kana) (cond (leb (sum (g .width)) (sum (w .rubyWidth))) (alone.baseWay r Kana) (alone.baseWay l Kana)) (w .ratios) (w .em)
         (strOf (w .width)) (strOf (w .rubyWidth)) (strOf (g .width))
 
-runs-only : (form : Form) (w : Given) (g : Gloss) → LeftSized form g → Only form g (wordOf form w g)
+pub runs-only : (form : Form) (w : Given) (g : Gloss) → LeftSized form g → Only form w g (wordOf form w g)
 unfolding wordOf
 runs-only form w g z =
-    by-two (hasLeft (g .kind)) form g (wordTwo form w g) (one.wordOf form w) (only-two form w g z)
-    (λ _. (only-j form w, λ e. absurd (false≢true (sym (ap (λ (u : Reading). u .runs) (none-left form w)) ∙ e))))
+    by-two (hasLeft (g .kind)) form w g (wordTwo form w g) (one.wordOf form w) (only-two form w g z)
+    (λ f. (λ e. rw (only-j form w e, no-left (g .kind) f), λ e. absurd (false≢true (sym (ap (λ (u : Reading). u .runs) (none-left form w)) ∙ e))))
+
+-- so it is a J
+pub by-runs-j : (form : Form) (w : Given) (g : Gloss) → byRuns form w g ≡ true → isJ form ≡ true
+by-runs-j form w g e = go (isJ form) e
+  where
+    go : (t : Bool) → (t && not (uncut (g .kind) (anyLonger (w .em) (split (w .run) (w .rubyWidth)) || anyLonger (w .em) (split (g .run) (g .width))))) ≡ true → t ≡ true
+    go true e = refl
+    go false e = absurd (false≢true e)
 
 -- Where there are no characters, none stand.
 no-runs : (em at : ℕ) (runs : List ℕ) → runStarts em at (split runs []) ≡ []
@@ -278,6 +310,13 @@ none-start u em runs ws e = rw e (go (u .runs))
     go : (t : Bool) → cond t (runStarts em 0 (split runs [])) [] ≡ []
     go true = no-runs em 0 runs
     go false = refl
+
+-- a reading at an origin, by a word that has it on the right
+reading-moved : (u : Reading) (em x : ℕ) (runs ws : List ℕ) → readingStarts u em x runs ws ≡ map (λ y. x + y) (readingStarts u em 0 runs ws)
+unfolding readingStarts one.rubyStarts
+reading-moved u em x runs ws =
+    joined.ruby-moved (record { front = 0; len = 0; inbase = 0; right = u; left = one.none }) em x runs ws
+    ∙ ap (λ (z : ℕ). map (λ y. x + y) (cond (u .runs) (runStarts em 0 (split runs ws)) (starts (u .within) z ws))) (sym (zero-add (u .from)))
 
 -- The characters of a word that is set: those of the base, and of either reading that it has.
 pub record Standing (form : Form) (w : Given) (g : Gloss) (v : Word) : Type 0 where
@@ -313,15 +352,28 @@ module _ (form : Form) (place : ℕ) (w : Given) (g : Gloss) (v : Word) (answere
             subst (λ (b : Both). Stands (b .right) (w .rubyWidth) (v .right .from) (v .right .upto)) same
             (on-side (v .right) (hasRuby form) (w .run) (w .rubyWidth) (keeps .right) h (ready .sized .reads h)
             (λ e.
-            let j = runs-only form w g (ready .left) .0 (sym (ap (λ (u : Word). u .right .runs) is) ∙ e) in
+            let j = by-runs-j form w g (runs-only form w g (ready .left) .0 (sym (ap (λ (u : Word). u .right .runs) is) ∙ e)) in
             record { whole = ready .sized .whole j; many = ready .runs j .0; some = ready .runs j .1; ems = ems j; wide = ready .sized .some }));
         left = λ h.
             subst (λ (b : Both). Stands (b .left) (g .width) (v .left .from) (v .left .upto)) same
             (on-side (v .left) (hasLeft (g .kind)) (g .run) (g .width) (keeps .left) h (ready .left .reads h)
             (λ e.
-            let j = runs-only form w g (ready .left) .1 (sym (ap (λ (u : Word). u .left .runs) is) ∙ e) in
-            let q = ready .leftRuns (j .0) (j .1) in
-            record { whole = q .0; many = q .1; some = q .2; ems = ems (j .0); wide = ready .sized .some }));
+            let r = runs-only form w g (ready .left) .1 (sym (ap (λ (u : Word). u .left .runs) is) ∙ e) in
+            let j = by-runs-j form w g (r .0) in
+            let q = ready .leftRuns j (r .1) in
+            record { whole = q .0; many = q .1; some = q .2; ems = ems j; wide = ready .sized .some }));
         noRight = λ h. ap (λ (b : Both). b .right) (sym same) ∙ none-start (v .right) (w .em) (w .run) (w .rubyWidth) (ready .plain h);
         noLeft = λ h. ap (λ (b : Both). b .left) (sym same) ∙ none-start (v .left) (w .em) (g .run) (g .width) (ready .left .none h);
       }
+
+  -- An origin moves each character alike: the word's record puts them at the origin plus their places.
+  pub base-moved : (x : ℕ) → one.baseStarts v x (w .width) ≡ map (λ y. x + y) (places form w g .base)
+  unfolding blockStarts
+  base-moved x =
+      joined.base-moved v x (w .width) ∙ ap (map (λ y. x + y)) (ap (λ (z : ℕ). starts (v .inbase) z (w .width)) (sym (zero-add (v .front))) ∙ ap (λ (b : Both). b .base) same)
+
+  pub right-moved : (x : ℕ) → readingStarts (v .right) (w .em) x (w .run) (w .rubyWidth) ≡ map (λ y. x + y) (places form w g .right)
+  right-moved x = reading-moved (v .right) (w .em) x (w .run) (w .rubyWidth) ∙ ap (λ (b : Both). map (λ y. x + y) (b .right)) same
+
+  pub left-moved : (x : ℕ) → readingStarts (v .left) (w .em) x (g .run) (g .width) ≡ map (λ y. x + y) (places form w g .left)
+  left-moved x = reading-moved (v .left) (w .em) x (g .run) (g .width) ∙ ap (λ (b : Both). map (λ y. x + y) (b .left)) same

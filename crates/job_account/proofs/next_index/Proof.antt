@@ -1,0 +1,18 @@
+-- The test is the definition's.
+use borrow.Author.Needs.{needs}
+use borrow.Author.Tests.{le-leb, lt-leb}
+use native.Mathlib.Nat.{add-zero}
+use Rattle.job_account.proofs.next_index.Statement.{statement}
+use Rattle.job_account.proofs.next_index.Tie as tie
+
+add-result : tie.Need-add-result
+add-result c = search needs
+
+returns : tie.Need-returns
+returns c = rw (le-leb _ _ (c .if1 .taken))
+
+returns-2 : tie.Need-returns-2
+returns-2 c = rw (lt-leb _ _ (c .if1 .left), add-zero)
+
+pub next-index-spec : {M : Type 1} → statement M
+next-index-spec = tie.close (tie.spec add-result returns returns-2)
