@@ -112,7 +112,7 @@ all-within : (xs : List ℕ) (a n : ℕ) → 0 < n → All (λ m. 0 < m) (entrie
 all-within xs a n h all = some-within xs a n h (none-any (eqb 0) (entries xs a n) (all-map (λ m. 0 < m) (λ m. eqb 0 m ≡ false) (entries xs a n) (λ m l. ne-eqb 0 m (λ e. omega arith)) all))
 
 -- an element with a left reading that it takes has ruby, and its left reading has runs where it is a J and no group
-left-over-ruby : (form : Form) (gloss : Left) → hasLeft gloss ≡ true → takes form gloss ≡ true → hasRuby form ≡ true
+pub left-over-ruby : (form : Form) (gloss : Left) → hasLeft gloss ≡ true → takes form gloss ≡ true → hasRuby form ≡ true
 left-over-ruby form left.N h t = absurd (false≢true h)
 left-over-ruby P left.M h t = absurd (false≢true t)
 left-over-ruby P left.G h t = absurd (false≢true t)
@@ -127,7 +127,7 @@ left-over-ruby J left.M h t = refl
 left-over-ruby J left.G h t = refl
 left-over-ruby J left.J h t = refl
 
-jukugo-runs : (form : Form) (gloss : Left) → isJ form ≡ true → hasLeft gloss ≡ true → isGroup gloss ≡ false → leftByRuns form gloss ≡ true
+pub jukugo-runs : (form : Form) (gloss : Left) → isJ form ≡ true → hasLeft gloss ≡ true → isGroup gloss ≡ false → leftByRuns form gloss ≡ true
 jukugo-runs P gloss j h g = absurd (false≢true j)
 jukugo-runs M gloss j h g = absurd (false≢true j)
 jukugo-runs G gloss j h g = absurd (false≢true j)
