@@ -3,7 +3,8 @@ use Prim.Native.Nat.{ℕ, zero, suc, _+_, _-_, _/_, _%_, _^_, _<_, _≤_}
 use mathlib.Core.Path.{_≡_, refl, _∙_, sym, ap}
 use mathlib.Core.List.{List, _++_}
 use native.Mathlib.Omega.{arith}
-use borrow.Author.Tests.{le-leb, lt-leb}
+use native.Mathlib.Decide.{decLt}
+use borrow.Author.Tests.{le-leb, lt-leb, leb-true}
 use mathlib.Core.Bool.{Bool, true, false, cond}
 use lib.Dec.{leb}
 use lib.ListN.{length, set, length-append}
@@ -86,3 +87,24 @@ width-le n = widthFrom-le 9 1 n
 -- a number takes at most ten digits
 pub decimal-le : (n : ℕ) → length (decimal n) ≤ 10
 decimal-le n = omega (arith, length-decimal n, width-le n)
+
+-- and one below 10 ^ j at most j
+width-within : (fuel k n j : ℕ) → k ≤ j → n < 10 ^ j → widthFrom fuel k n ≤ j
+unfolding widthFrom
+width-within zero k n j h l = h
+width-within (suc fuel) k n j h l = go (leb (10 ^ k) n) refl (λ g. width-within fuel (k + 1) n j g l)
+  where
+    less : 10 ^ k ≤ n → k < j
+    less g = by (decLt k j)
+      where
+        by : Dec (k < j) → k < j
+        by (yes m) = m
+        by (no m) = let e : k ≡ j = omega arith in let q : 10 ^ j ≤ n = rw e at g in absurd (omega arith)
+
+    go : (b : Bool) → leb (10 ^ k) n ≡ b → (k + 1 ≤ j → widthFrom fuel (k + 1) n ≤ j) → cond b (widthFrom fuel (k + 1) n) k ≤ j
+    go true e f = f (omega (arith, less (leb-true (10 ^ k) n e)))
+    go false e f = h
+
+pub decimal-within : (j n : ℕ) → 1 ≤ j → n < 10 ^ j → length (decimal n) ≤ j
+unfolding width
+decimal-within j n h l = omega (arith, length-decimal n, width-within 9 1 n j h l)
