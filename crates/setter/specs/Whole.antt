@@ -42,7 +42,7 @@ take-same v zero m h = refl
 take-same v (suc n) zero h = absurd (omega arith)
 take-same v (suc n) (suc m) h = ap (λ (l : List ℕ). v ∷ l) (take-same v n m (omega arith))
 
-first-same : (v e : ℕ) → e ≤ 1024 → part 0 e (replicate 1024 v) ≡ replicate e v
+pub first-same : (v e : ℕ) → e ≤ 1024 → part 0 e (replicate 1024 v) ≡ replicate e v
 first-same v e h = ap (λ k. take k (replicate 1024 v)) (sub-zero e) ∙ take-same v e 1024 h
 
 -- what is told of a job by its elements' left kinds and counts, where none has a left reading
