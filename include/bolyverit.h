@@ -305,7 +305,7 @@ BV_INLINE bv_answer bv_account(const bv_job *j, const bv_reasons *to)
 }
 
 /*
- * Room for the answer to any sheet: a result is proved never to be longer than 108,561 bytes, an account than 127,039.
+ * Room for the answer to any sheet: a result is proved never to be longer than 108,561 bytes, an account than 119,871.
  */
 #define BV_MOST_TEXT 131072
 

@@ -274,10 +274,6 @@ stands job p g = stand (p .form) 0 (given job p) (glossOf job p) (wordOf job p) 
 pub base-counted : (job : Job) (p : Piece) → GoodPiece job p → length (alone job p .base) ≡ p .bases
 base-counted job p g = stands job p g .base .count ∙ length-entries (job .width) (p .base) (p .bases)
 
-pub base-many : (job : Job) (p : Piece) (o : ℕ) → GoodPiece job p → length (baseAt job p o) ≡ p .bases
-unfolding baseAt
-base-many job p o g = length-map (alone job p .base) (λ y. o + y) ∙ base-counted job p g
-
 pub reading-counted : (side : Side) (job : Job) (p : Piece) → GoodPiece job p → length (onSide side (alone job p)) ≡ manyOf side p
 reading-counted Right job p g = go (hasRuby (p .form)) refl
   where

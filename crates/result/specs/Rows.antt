@@ -6,7 +6,7 @@ use native.Mathlib.Numerals.{add-one}
 use native.Mathlib.Omega.{arith}
 use lib.ListN.{length, getD, length-append}
 use Rattle.text.specs.Print.{decimal, Wrote}
-use Rattle.text.specs.Written.{decimal-le, decimal-within}
+use Rattle.text.specs.Written.{decimal-le, decimal-below}
 use Rattle.result.specs.Text.{lineOne, lineTwo, rows}
 use Rattle.result.specs.Left.{Left, left-first, fits, left-next, left-end}
 
@@ -74,7 +74,7 @@ rows-short word positions i (suc n) e h =
       arith,
       length-append (lineTwo word i p) (rows word positions (suc i) n),
       length-two word i p,
-      decimal-within 4 i (omega arith) (omega arith),
+      decimal-below 4 i (omega arith) (omega arith),
       decimal-le p,
       rows-short word positions (suc i) n e (omega arith),
     )

@@ -3,7 +3,6 @@ use Prim.Native.Nat.{ℕ, zero, suc, _+_, _-_, _/_, _%_, _^_, _<_, _≤_}
 use mathlib.Core.Path.{_≡_, refl, _∙_, sym, ap}
 use mathlib.Core.List.{List, _++_}
 use native.Mathlib.Omega.{arith}
-use native.Mathlib.Decide.{decLt}
 use borrow.Author.Tests.{le-leb, lt-leb, leb-true}
 use mathlib.Core.Bool.{Bool, true, false, cond}
 use lib.Dec.{leb}
@@ -88,23 +87,19 @@ width-le n = widthFrom-le 9 1 n
 pub decimal-le : (n : ℕ) → length (decimal n) ≤ 10
 decimal-le n = omega (arith, length-decimal n, width-le n)
 
--- and one below 10 ^ j at most j
-width-within : (fuel k n j : ℕ) → k ≤ j → n < 10 ^ j → widthFrom fuel k n ≤ j
+-- and one below 10 ^ m at most m
+width-below : (m fuel k n : ℕ) → k ≤ m → n < 10 ^ m → widthFrom fuel k n ≤ m
 unfolding widthFrom
-width-within zero k n j h l = h
-width-within (suc fuel) k n j h l = go (leb (10 ^ k) n) refl (λ g. width-within fuel (k + 1) n j g l)
+width-below m zero k n h l = h
+width-below m (suc fuel) k n h l = go (leb (10 ^ k) n) refl (λ q. width-below m fuel (k + 1) n q l)
   where
-    less : 10 ^ k ≤ n → k < j
-    less g = by (decLt k j)
-      where
-        by : Dec (k < j) → k < j
-        by (yes m) = m
-        by (no m) = let e : k ≡ j = omega arith in let q : 10 ^ j ≤ n = rw e at g in absurd (omega arith)
+    short : 10 ^ k ≤ n → k ≡ m → ⊥
+    short q e = let f : 10 ^ m ≤ n = rw e at q in omega arith
 
-    go : (b : Bool) → leb (10 ^ k) n ≡ b → (k + 1 ≤ j → widthFrom fuel (k + 1) n ≤ j) → cond b (widthFrom fuel (k + 1) n) k ≤ j
-    go true e f = f (omega (arith, less (leb-true (10 ^ k) n e)))
+    go : (b : Bool) → leb (10 ^ k) n ≡ b → (k + 1 ≤ m → widthFrom fuel (k + 1) n ≤ m) → cond b (widthFrom fuel (k + 1) n) k ≤ m
+    go true e f = f (omega (arith, short (leb-true _ _ e)))
     go false e f = h
 
-pub decimal-within : (j n : ℕ) → 1 ≤ j → n < 10 ^ j → length (decimal n) ≤ j
+pub decimal-below : (m n : ℕ) → 0 < m → n < 10 ^ m → length (decimal n) ≤ m
 unfolding width
-decimal-within j n h l = omega (arith, length-decimal n, width-within 9 1 n j h l)
+decimal-below m n h l = omega (arith, length-decimal n, width-below m 9 1 n h l)
