@@ -1,10 +1,14 @@
 -- The counts of one element (5) as the door finds them, its left reading after its right one; and level one's own rows (7 to 10) as its answer gives them.
 use mathlib.Core.Path.{_≡_, refl, sym, _∙_}
-use mathlib.Core.Bool.{Bool, true, false, cond, false≢true}
+use mathlib.Core.Bool.{Bool, true, false, cond, _||_, false≢true}
 use mathlib.Core.List.{List, [], _∷_, _++_}
 use Prim.Native.Nat.{ℕ, _+_, _≤_}
+use native.Mathlib.Omega.{arith}
+use borrow.Author.Tests.{ltb-false}
+use lib.Dec.{eqb, ltb}
 use lib.ListN.{length}
-use Rattle.basics.specs.Lists.{sum}
+use Rattle.basics.specs.Lists.{sum, any}
+use Rattle.basics.specs.Laws.{or-none}
 use Rattle.refusal.specs.declared.Refusal.{Refusal}
 use Rattle.refusal.specs.declared.Refusal.the-variants.{BlankInside, JukugoBase, Mixed, WesternOver}
 use Rattle.word.specs.declared.Form.{Form}
@@ -48,15 +52,15 @@ alone form bases rubies at =
       more = false;
     }
 
-abbrev pub countedAs : Form → ℕ → ℕ → List ℕ → Taken → Counted
-countedAs form base ruby runs at =
+abbrev pub rightAs : Form → ℕ → ℕ → List ℕ → Taken → Counted
+rightAs form base ruby runs at =
     let n = takesBase form base in
     let es = entries runs (at .run) n in
     let m = takesRuby form ruby (sum es) in
     cond (countsOut form n m es) Out (Is (alone form n m at))
 
-unfoldable pub countedBy : ℕ → ℕ → ℕ → List ℕ → Taken → Counted
-countedBy kind base ruby runs at = cond (known kind) (countedAs (formOf kind) base ruby runs at) Out
+unfoldable pub rightBy : ℕ → ℕ → ℕ → List ℕ → Taken → Counted
+rightBy kind base ruby runs at = cond (known kind) (rightAs (formOf kind) base ruby runs at) Out
 
 -- And with its left reading, by the kind and counts of that.
 
@@ -84,6 +88,66 @@ glossedAs p gloss left runs =
 
 unfoldable pub glossedBy : Piece → ℕ → ℕ → List ℕ → Counted
 glossedBy p kind left runs = cond (knownLeft kind) (glossedAs p (leftOf kind) left runs) Out
+
+-- what the left counts ask of an element whose right counts are in range
+few-bases : (form : Form) (b r : ℕ) (runs : List ℕ) → countsOut form (takesBase form b) r runs ≡ false → takesBase form b ≤ 32
+few-bases P b r runs e = omega arith
+few-bases M b r runs e = omega arith
+few-bases G b r runs e = ltb-false 32 b (or-none (ltb b 1) (ltb 32 b) (or-none (outside 1 32 b) (outside 1 64 r) e .0) .1)
+few-bases J b r runs e = ltb-false 32 b (or-none (ltb b 1) (ltb 32 b) (or-none (outside 1 32 b) (any (eqb 0) runs || ltb 64 r) e .0) .1)
+
+pub right-few : (kind base ruby : ℕ) (runs : List ℕ) (at : Taken) {p : Piece} → at .leftrun ≤ 1024 → rightBy kind base ruby runs at ≡ Is p → (p .leftrun ≤ 1024) × (p .bases ≤ 32)
+unfolding rightBy
+right-few kind base ruby runs at {p} h e = go (known kind) (countsOut f n m es) refl e
+  where
+    f : Form
+    f = formOf kind
+
+    n : ℕ
+    n = takesBase f base
+
+    es : List ℕ
+    es = entries runs (at .run) n
+
+    m : ℕ
+    m = takesRuby f ruby (sum es)
+
+    go : (t w : Bool) → countsOut f n m es ≡ w → cond t (cond w Out (Is (alone f n m at))) Out ≡ Is p → (p .leftrun ≤ 1024) × (p .bases ≤ 32)
+    go true true d e = absurd (let z : _≡_ {A = ℕ} 0 1 = cc in omega arith)
+    go true false d e = let same : p ≡ alone f n m at = cc in rw same (h, few-bases f base m es d)
+    go false w d e = absurd (let z : _≡_ {A = ℕ} 0 1 = cc in omega arith)
+
+-- Both, "right first".
+
+abbrev pub andThen : Counted → (Piece → Counted) → Counted
+andThen (Is p) f = f p
+andThen Out f = Out
+
+unfoldable pub countedBy : ℕ → ℕ → ℕ → ℕ → ℕ → List ℕ → List ℕ → Taken → Counted
+unfolding rightBy glossedBy
+countedBy kind base ruby lkind left runs lruns at = andThen (rightBy kind base ruby runs at) (λ p. glossedBy p lkind left lruns)
+
+-- without a left reading the right one is all
+pub right-only : (kind base ruby lkind left : ℕ) (runs lruns : List ℕ) (at : Taken) → lkind ≡ 78 → rightBy kind base ruby runs at ≡ countedBy kind base ruby lkind left runs lruns at
+unfolding countedBy
+right-only kind base ruby lkind left runs lruns at e = rw e (go (known kind) (countsOut f n m es))
+  where
+    f : Form
+    f = formOf kind
+
+    n : ℕ
+    n = takesBase f base
+
+    es : List ℕ
+    es = entries runs (at .run) n
+
+    m : ℕ
+    m = takesRuby f ruby (sum es)
+
+    go : (t w : Bool) → let c = cond t (cond w Out (Is (alone f n m at))) Out in c ≡ andThen c (λ p. glossedBy p 78 left lruns)
+    go true true = refl
+    go true false = refl
+    go false w = refl
 
 -- a left reading has runs or one count, not both
 one-way : (form : Form) (gloss : Left) → leftByRuns form gloss ≡ true → leftByCount form gloss ≡ false

@@ -30,8 +30,8 @@ use Rattle.door.specs.declared.Step.the-variants.{Next, Stop}
 use Rattle.door.specs.Job.{Job, baseCount, rubyCount, leftCount, elementCount, entries, known, knownLeft, formOf, leftOf, leftByRuns, takesRuns, takesLeft, takesLeftRuns, element, given, glossOf}
 use Rattle.door.specs.Refusals.{_when_, countsOut, leftOut, countsWrong, runOut, elementFaults}
 use Rattle.door.specs.Entries.{length-entries, sum-most, sum-first, some-within}
-use Rattle.door.specs.Elements.{withLeft, countedBy, glossedBy, stepped, Reads, by-rows}
-use Rattle.door.specs.Passed.{Few, FewLeft, few-of, counts-few, gloss-few, supplied}
+use Rattle.door.specs.Elements.{withLeft, rightBy, glossedBy, andThen, countedBy, stepped, Reads, by-rows}
+use Rattle.door.specs.Passed.{Few, FewLeft, counts-few, gloss-few, supplied}
 use Rattle.door.specs.Whole.{base-within, ruby-within, left-within}
 
 -- characters that their checks leave, and no more of them and of elements than the maximum
@@ -65,31 +65,26 @@ pub record Stands (job : Job) (k : ℕ) (at : Taken) : Type 0 where
 abbrev pub elementStep : Job → ℕ → Taken → Step
 elementStep job k at = stepped (elementFaults job k (element job k at)) (element job k at)
 
--- 5, of either side
-abbrev rightWrong : Job → ℕ → Piece → Bool
-rightWrong job k x = not (known (getD (job .kind) k 0)) || countsOut (x .form) (x .bases) (x .rubies) (given job x .run)
-
-abbrev leftWrong : Job → ℕ → Piece → Bool
-leftWrong job k x = not (knownLeft (getD (job .leftKind) k 0)) || leftOut (x .form) (x .gloss) (x .lefts) (glossOf job x .run)
-
 -- what the counting of an element says
 abbrev pub counting : Job → ℕ → Taken → Counted
-counting job k at = countedBy (getD (job .kind) k 0) (getD (job .elementBase) k 0) (getD (job .elementRuby) k 0) (job .run) at
+counting job k at =
+    countedBy (getD (job .kind) k 0) (getD (job .elementBase) k 0) (getD (job .elementRuby) k 0) (getD (job .leftKind) k 0) (getD (job .elementLeft) k 0) (job .run) (job .leftRun) at
 
-abbrev pub glossing : Job → ℕ → Piece → Counted
-glossing job k p = glossedBy p (getD (job .leftKind) k 0) (getD (job .elementLeft) k 0) (job .leftRun)
+-- right first, then left
+in-turn : (t w s v : Bool) (y x : Piece) (f : Piece → Counted) → f y ≡ cond s (cond v Out (Is x)) Out →
+    andThen (cond t (cond w Out (Is y)) Out) f ≡ cond ((not t || w) || (not s || v)) Out (Is x)
+in-turn true true s v y x f e = refl
+in-turn true false true true y x f e = e
+in-turn true false true false y x f e = e
+in-turn true false false v y x f e = e
+in-turn false w s v y x f e = refl
 
-by-known : (t w : Bool) (p : Piece) → cond t (cond w Out (Is p)) Out ≡ cond (not t || w) Out (Is p)
-by-known true w p = refl
-by-known false w p = refl
-
-counted : (job : Job) (k : ℕ) (at : Taken) → let x = element job k at in counting job k at ≡ cond (rightWrong job k x) Out (Is (withLeft x left.N 0))
+counted : (job : Job) (k : ℕ) (at : Taken) → let x = element job k at in counting job k at ≡ cond (countsWrong job k x) Out (Is x)
 unfolding countedBy element
-counted job k at = by-known (known (getD (job .kind) k 0)) _ _
-
-glossed : (job : Job) (k : ℕ) (at : Taken) → let x = element job k at in glossing job k (withLeft x left.N 0) ≡ cond (leftWrong job k x) Out (Is x)
-unfolding glossedBy element
-glossed job k at = by-known (knownLeft (getD (job .leftKind) k 0)) _ _
+counted job k at =
+    let x = element job k at in
+    in-turn (known (getD (job .kind) k 0)) (countsOut (x .form) (x .bases) (x .rubies) (given job x .run)) (knownLeft (getD (job .leftKind) k 0)) (leftOut (x .form) (x .gloss) (x .lefts) (glossOf job x .run))
+    (withLeft x left.N 0) x _ refl
 
 cond-out : (t : Bool) (p : Piece) → cond t Out (Is p) ≡ Out → t ≡ true
 cond-out true p e = refl
@@ -147,37 +142,10 @@ module _ (job : Job) (k : ℕ) (at : Taken) where
 
   -- number 5
   pub out-stops : counting job k at ≡ Out → Stop (Element k) ≡ elementStep job k at
-  out-stops e = rw (cond-out (rightWrong job k x) _ (sym (counted job k at) ∙ e))
+  out-stops e = rw (cond-out (countsWrong job k x) _ (sym (counted job k at) ∙ e))
 
-  right : {p : Piece} → counting job k at ≡ Is p → (rightWrong job k x ≡ false) × (p ≡ withLeft x left.N 0)
-  right e = cond-is (rightWrong job k x) _ (sym (counted job k at) ∙ e)
-
-  glossed-as : {p : Piece} → counting job k at ≡ Is p → glossing job k p ≡ cond (leftWrong job k x) Out (Is x)
-  glossed-as is = ap (glossing job k) (right is .1) ∙ glossed job k at
-
-  pub left-out-stops : {p : Piece} → counting job k at ≡ Is p → glossing job k p ≡ Out → Stop (Element k) ≡ elementStep job k at
-  left-out-stops is e = rw (right is .0, cond-out (leftWrong job k x) _ (sym (glossed-as is) ∙ e))
-
-  -- an element that passes 5, with its left reading
-  pub both-are : {p q : Piece} → counting job k at ≡ Is p → glossing job k p ≡ Is q → (countsWrong job k x ≡ false) × (q ≡ x)
-  both-are is e =
-      let l = cond-is (leftWrong job k x) x (sym (glossed-as is) ∙ e) in
-      (rw (right is .0, l .0), l .1)
-
-  -- or without one
-  pub one-is : {p : Piece} → counting job k at ≡ Is p → getD (job .leftKind) k 0 ≡ 78 → (countsWrong job k x ≡ false) × (p ≡ x)
-  unfolding element
-  one-is is e = (rw (right is .0, e), right is .1 ∙ sym (rw e))
-
-  -- what the counting of its left reading asks for
-  pub right-small : {p : Piece} → Stands job k at → counting job k at ≡ Is p → (p .leftrun ≤ 1024) × (p .bases ≤ 32)
-  unfolding element
-  right-small st is =
-      let w = st .within in
-      let f =
-      few-of (x .form) (getD (job .elementBase) k 0) (getD (job .elementRuby) k 0) (given job x .run) (length-entries (job .run) (x .run) (x .bases))
-      (or-none (not (known (getD (job .kind) k 0))) (countsOut (x .form) (x .bases) (x .rubies) (given job x .run)) (right is .0) .1) in
-      rw (right is .1) (omega (arith, w .leftRuns, w .base, st .clean .few), f .few)
+  pub passes-five : {p : Piece} → counting job k at ≡ Is p → (countsWrong job k x ≡ false) × (p ≡ x)
+  passes-five e = cond-is (countsWrong job k x) x (sym (counted job k at) ∙ e)
 
   module _ (five : countsWrong job k x ≡ false) where
     pub few : Few (x .form) (x .bases) (x .rubies) (given job x .run)

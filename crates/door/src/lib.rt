@@ -19,7 +19,7 @@ ghost use Rattle.refusal.specs.declared.Refusal.the-variants.{Character};
 ghost use Rattle.door.specs.Verdict.{verdict};
 ghost use Rattle.door.specs.Values.{houseRows, sizeRows, characterWrong, baseRows, runsFrom, basesOnly, BaseHolds, ReadingHolds};
 ghost use Rattle.word.specs.declared.Form.the-variants as form;
-ghost use Rattle.door.specs.Elements.{alone, withLeft, countedAs, countedBy, glossedBy};
+ghost use Rattle.door.specs.Elements.{alone, withLeft, rightAs, rightBy, glossedBy, countedBy};
 ghost use Rattle.door.specs.Whole.{ahead};
 use refusal::Refusal;
 
@@ -455,7 +455,7 @@ fn piece_of(form: word::Form, bases: usize, rubies: usize, at: Taken) -> Piece
 
 // Number 5 of an M, a G and a J.
 fn count_mono(ruby: u32, at: Taken) -> Counted
-    ensures { λ c. ⌜ c ≡ countedAs form.M 1 ruby [] at ⌝ }
+    ensures { λ c. ⌜ c ≡ rightAs form.M 1 ruby [] at ⌝ }
 {
     if is_outside(1, ELEMENT_RUBIES, ruby) {
         return Counted::Out;
@@ -464,7 +464,7 @@ fn count_mono(ruby: u32, at: Taken) -> Counted
 }
 
 fn count_group(base: u32, ruby: u32, at: Taken) -> Counted
-    ensures { λ c. ⌜ c ≡ countedAs form.G base ruby [] at ⌝ }
+    ensures { λ c. ⌜ c ≡ rightAs form.G base ruby [] at ⌝ }
 {
     if is_outside(1, ELEMENT_BASES, base) {
         return Counted::Out;
@@ -477,7 +477,7 @@ fn count_group(base: u32, ruby: u32, at: Taken) -> Counted
 
 fn count_jukugo(base: u32, at: Taken, runs: &[u32]) -> Counted
     requires { ⌜ at .run ≤ 1024 ⌝ }
-    ensures { λ c. ⌜ c ≡ countedAs form.J base 0 (now (runs .entry)) at ⌝ }
+    ensures { λ c. ⌜ c ≡ rightAs form.J base 0 (now (runs .entry)) at ⌝ }
 {
     if is_outside(1, ELEMENT_BASES, base) {
         return Counted::Out;
@@ -489,9 +489,9 @@ fn count_jukugo(base: u32, at: Taken, runs: &[u32]) -> Counted
 }
 
 // Number 5 but for a left reading: an element by its kind and counts, behind what those before it have taken. Counts that its kind does not show are not read.
-pub fn count_element(kind: u32, base: u32, ruby: u32, at: Taken, runs: &[u32]) -> Counted
+fn count_right(kind: u32, base: u32, ruby: u32, at: Taken, runs: &[u32]) -> Counted
     requires { ⌜ at .run ≤ 1024 ⌝ }
-    ensures { λ c. ⌜ c ≡ countedBy kind base ruby (now (runs .entry)) at ⌝ }
+    ensures { λ c. ⌜ c ≡ rightBy kind base ruby (now (runs .entry)) at ⌝ }
 {
     if !is_known(kind) {
         return Counted::Out;
@@ -568,7 +568,7 @@ fn with_left(p: Piece, gloss: word::Left, lefts: usize) -> Piece
 }
 
 // Number 5 of an element's left reading, by its kind and counts, "as for right ones".
-pub fn count_left(p: Piece, kind: u32, left: u32, runs: &[u32]) -> Counted
+fn count_left(p: Piece, kind: u32, left: u32, runs: &[u32]) -> Counted
     requires { ⌜ (p .leftrun ≤ 1024) × (p .bases ≤ 32) ⌝ }
     ensures { λ c. ⌜ c ≡ glossedBy p kind left (now (runs .entry)) ⌝ }
 {
@@ -590,6 +590,30 @@ pub fn count_left(p: Piece, kind: u32, left: u32, runs: &[u32]) -> Counted
         return Counted::Is(with_left(p, gloss, left as usize));
     }
     Counted::Is(with_left(p, gloss, 0))
+}
+
+// Number 5, right first; most elements have no left reading.
+pub fn count_element(
+    kind: u32,
+    base: u32,
+    ruby: u32,
+    lkind: u32,
+    left: u32,
+    at: Taken,
+    runs: &[u32],
+    lruns: &[u32],
+) -> Counted
+    requires { ⌜ (at .run ≤ 1024) × (at .leftrun ≤ 1024) ⌝ }
+    ensures { λ c. ⌜ c ≡ countedBy kind base ruby lkind left (now (runs .entry)) (now (lruns .entry)) at ⌝ }
+{
+    let counted = count_right(kind, base, ruby, at, runs);
+    if lkind == LEFT_NONE {
+        return counted;
+    }
+    let Counted::Is(p) = counted else {
+        return counted;
+    };
+    count_left(p, lkind, left, lruns)
 }
 
 // Number 16: "A left reading is mono on M, group on G, and mono, jukugo or group on J."
@@ -636,7 +660,7 @@ pub fn runs_out(p: Piece, bases: usize, rubies: usize, lefts: usize) -> bool
 }
 
 // How many runs an element takes: only a J has any.
-fn runs_taken(p: Piece) -> usize
+pub fn runs_taken(p: Piece) -> usize
     ensures { λ n. ⌜ n ≡ takesRuns (p .form) (p .bases) ⌝ }
 {
     let form = p.form;
@@ -649,7 +673,7 @@ fn runs_taken(p: Piece) -> usize
 }
 
 // And of its left reading.
-fn left_runs_taken(p: Piece) -> usize
+pub fn left_runs_taken(p: Piece) -> usize
     ensures { λ n. ⌜ n ≡ takesLeftRuns (p .form) (p .gloss) (p .bases) ⌝ }
 {
     let form = p.form;
