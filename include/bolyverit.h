@@ -16,9 +16,8 @@
  *     the two ratios too;
  *   - nothing else writes these lists while the call runs. Calls on different lists may run at the same time: there is no
  *     state between calls, no heap and no file;
- *   - 512 kilobytes of stack are free: the functions keep their tables there, at most 96,816 bytes of them in bv_set_job, 86,040
- *     in bv_account_job, 282,656 in bv_set_sheet and 376,888 in bv_account_sheet; the rest is for the calls themselves.
- *     TODO(R-5): these five numbers are those before left readings; the engine's landing has the new ones (docs/DEMANDS.md too).
+ *   - 512 kilobytes of stack are free: the functions keep their tables there, at most 133,688 bytes of them in bv_set_job, 118,812
+ *     in bv_account_job, 331,812 in bv_set_sheet and 450,624 in bv_account_sheet; the rest is for the calls themselves.
  * Nothing else is asked: any numbers in the lists and the ratios, any profile and any lengths are answered.
  *
  * What is proved, for every call that keeps the above. Of bv_set_job: the answer and the four result lists are those of the
@@ -305,7 +304,7 @@ BV_INLINE bv_answer bv_account(const bv_job *j, const bv_reasons *to)
 }
 
 /*
- * Room for the answer to any sheet: a result is proved never to be longer than 90,129 bytes, an account than 119,871.
+ * Room for the answer to any sheet: a result is proved never to be longer than 108,561 bytes, an account than 119,871.
  */
 #define BV_MOST_TEXT 131072
 

@@ -181,11 +181,11 @@ module _ (job : Job) (passed : Passed job) where
   pub account-short : Filled job (ends job) → length (accountText job) ≤ longest
   unfolding accountText
   account-short fill =
-      let v = verdictText (length (ends job)) (elementCount job) (readingsOf (job .kind) (elementCount job)) in
+      let v = verdictText (length (ends job)) (elementCount job) (readingsOf (job .kind) (job .leftKind) (elementCount job)) in
       omega (
         arith,
         length-append v (byLine (lineText job) 0 (ends job)),
-        verdict-short (length (ends job)) (elementCount job) (readingsOf (job .kind) (elementCount job)),
+        verdict-short (length (ends job)) (elementCount job) (readingsOf (job .kind) (job .leftKind) (elementCount job)),
         lines-short 0 (ends job),
         all-few job passed fill,
         chain-few job 0 (baseCount job) (ends job) fill,

@@ -1,6 +1,6 @@
 -- The text of an account, in bytes: the verdict of the page, then for each line its extent, and for each element its index, its block's start, the gap before it, the
 -- rule and the other element, one a line. All lengths are in half units, as positions are.
-use mathlib.Core.Bool.{cond}
+use mathlib.Core.Bool.{Bool, cond}
 use mathlib.Core.List.{List, [], _∷_, _++_}
 use Prim.Native.Nat.{ℕ, _+_, _-_, _*_}
 use lib.Dec.{eqb, leb}
@@ -8,7 +8,8 @@ use lib.ListN.{length, getD, take, drop}
 use Rattle.basics.specs.Lists.{count, keep}
 use Rattle.text.specs.Print.{decimal}
 use Rattle.word.specs.Given.{hasRuby}
-use Rattle.door.specs.Job.{Job, formOf, elementCount}
+use Rattle.word.specs.Both.{hasLeft}
+use Rattle.door.specs.Job.{Job, formOf, leftOf, elementCount}
 use Rattle.job.specs.Line.{extentOf, ends, byLine}
 use Rattle.result.specs.Text.{bytes}
 use Rattle.job_account.specs.Rows.{rowsIn}
@@ -85,9 +86,13 @@ unfoldable pub verdictText : ℕ → ℕ → ℕ → List ℕ
 unfolding said
 verdictText lines elements readings = said (bytes "clear lines ") lines ++ (said (bytes " elements ") elements ++ (said (bytes " readings ") readings ++ (10 ∷ [])))
 
--- a reading is the ruby of an M, a G or a J
-unfoldable pub readingsOf : List ℕ → ℕ → ℕ
-readingsOf kinds n = length (keep (λ k. hasRuby (formOf (getD kinds k 0))) (count 0 n))
+-- how many of the n elements pass a test
+abbrev pub many : (ℕ → Bool) → ℕ → ℕ
+many test n = length (keep test (count 0 n))
+
+-- a reading is the ruby of an M, a G or a J, and a left reading is another: those of n elements of these kinds, with left readings of these kinds
+unfoldable pub readingsOf : List ℕ → List ℕ → ℕ → ℕ
+readingsOf kinds glosses n = many (λ k. hasRuby (formOf (getD kinds k 0))) n + many (λ k. hasLeft (leftOf (getD glosses k 0))) n
 
 -- The account of an accepted job: the text of its lines, one after the other.
 unfoldable pub lineText : Job → ℕ → ℕ → List ℕ
@@ -96,7 +101,7 @@ lineText job s e = headText (extentOf job s e) ++ rowsText (rowsIn job s e)
 
 unfoldable pub accountText : Job → List ℕ
 unfolding verdictText readingsOf lineText ends
-accountText job = verdictText (length (ends job)) (elementCount job) (readingsOf (job .kind) (elementCount job)) ++ byLine (lineText job) 0 (ends job)
+accountText job = verdictText (length (ends job)) (elementCount job) (readingsOf (job .kind) (job .leftKind) (elementCount job)) ++ byLine (lineText job) 0 (ends job)
 
 -- the extent that the shortest permitted line would need, and the measure, both in half units
 unfoldable pub needsText : ℕ → ℕ → List ℕ

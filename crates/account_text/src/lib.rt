@@ -7,7 +7,8 @@ ghost use mathlib.Core.Bool.{cond};
 ghost use mathlib.Core.List.{_++_};
 ghost use Rattle.text.specs.Print.{Wrote};
 ghost use Rattle.word.specs.Given.{hasRuby};
-ghost use Rattle.door.specs.Job.{formOf};
+ghost use Rattle.word.specs.Both.{hasLeft};
+ghost use Rattle.door.specs.Job.{formOf, leftOf};
 ghost use Rattle.account_text.specs.Text.{said, deep, named, underText, overText, touchText, edgeText, rubyText, reasonText, rowAt, segment, rowsText, headText, verdictText, listsText, readingsOf, needsText};
 ghost use Rattle.account_text.specs.Rows.{SegmentReady};
 ghost use Rattle.account_text.specs.Lists.{ListsReady};
@@ -158,7 +159,7 @@ fn put_verdict(out: &mut [u8], lines: u32, elements: u32, readings: u32) -> usiz
     text::print::put_byte(out, c, 10)
 }
 
-// 1 for an element of this kind that has a reading: any but a P.
+// 1 for an element of this kind that has ruby: any but a P.
 fn reads(kind: u32) -> usize
     ensures { λ r. ⌜ r ≡ cond (hasRuby (formOf kind)) 1 0 ⌝ }
 {
@@ -171,15 +172,30 @@ fn reads(kind: u32) -> usize
     }
 }
 
-// How many of n elements have a reading.
-pub fn count_readings(n: usize, kind: &[u32]) -> usize
-    requires { ⌜ (n ≤ length (now kind)) × (n ≤ 1024) ⌝ }
-    ensures { λ r. ⌜ r ≡ readingsOf (now (kind .entry)) n ⌝ }
+// 1 for an element with a left reading of this kind, and 0 where it says that there is none.
+fn reads_left(kind: u32) -> usize
+    ensures { λ r. ⌜ r ≡ cond (hasLeft (leftOf kind)) 1 0 ⌝ }
+{
+    let left = door::left_of(kind);
+    match left {
+        word::Left::N => 0,
+        word::Left::M => 1,
+        word::Left::G => 1,
+        word::Left::J => 1,
+    }
+}
+
+// How many readings n elements have on either side.
+pub fn count_readings(n: usize, kind: &[u32], lkind: &[u32]) -> usize
+    requires { ⌜ (n ≤ length (now kind)) × (n ≤ length (now lkind)) × (n ≤ 1024) ⌝ }
+    ensures { λ r. ⌜ r ≡ readingsOf (now (kind .entry)) (now (lkind .entry)) n ⌝ }
 {
     let mut k: usize = 0;
     let mut readings: usize = 0;
     while k < n {
-        readings += reads(kind[k]);
+        let right = reads(kind[k]);
+        let left = reads_left(lkind[k]);
+        readings += right + left;
         k += 1;
     }
     readings

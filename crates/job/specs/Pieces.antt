@@ -6,6 +6,7 @@ use mathlib.Core.List.{List, [], _∷_, _++_, map, append-nil, append-assoc}
 use mathlib.Core.Logic.{_⊎_, inl, inr}
 use Prim.Native.Nat.{ℕ, zero, suc, _+_, _-_, _≤_, _<_, min, max}
 use native.Mathlib.Omega.{arith}
+use native.Mathlib.Decide.{decLt}
 use borrow.Author.Tests.{lt-ltb, le-ltb, ne-eqb, eqb-false}
 use lib.Dec.{eqb, ltb}
 use lib.ListN.{getD}
@@ -26,7 +27,7 @@ use Rattle.door.specs.Passed.{GoodElement, Tiled, BaseTiled, Passed}
 use Rattle.job.specs.Line.{part, wordsIn, words, cuts, wordOf, inLine, pieces}
 use Rattle.job.specs.Laws.{all-split, all-each, each-append, both}
 use Rattle.job.specs.Words.{GoodPiece, is-j, whole-piece, part-piece}
-use Rattle.job.specs.Apart.{GoodWord, by-apart, good-words, words-tiled}
+use Rattle.job.specs.Apart.{GoodWord, oneByOne, by-apart, good-words, words-tiled}
 
 module _ (job : Job) (s e : ℕ) (x : Piece) where
   -- n base characters from the i-th on
@@ -249,6 +250,35 @@ all-words job p = go [] (words job) refl
     go front [] e = tt
     go front (x ∷ rest) e = (is-word job p front rest x e, go (front ++ (x ∷ [])) rest (e ∙ sym (append-snoc front x rest)))
 
+counted : (job : Job) (x : Piece) (a n : ℕ) → All (IsWord job) (map (λ i. part job x i 1) (count a n)) → (k : ℕ) → a ≤ k → k < a + n → IsWord job (part job x k 1)
+counted job x a zero all k l u = absurd (omega arith)
+counted job x a (suc n) all k l u = go (decLt a k) (λ m. counted job x (suc a) n (all .1) k m (omega arith))
+  where
+    go : Dec (a < k) → (suc a ≤ k → IsWord job (part job x k 1)) → IsWord job (part job x k 1)
+    go (yes m) f = f (omega arith)
+    go (no m) f = subst (λ (i : ℕ). IsWord job (part job x i 1)) (same a k l (omega arith)) (all .0)
+      where
+        same : (a k : ℕ) → a ≤ k → k ≤ a → a ≡ k
+        same a k l m = omega arith
+
+-- an element that is not taken apart is one, and of one that is each character
+module _ (job : Job) (p : Passed job) (x : Piece) (at : IsElement job x) where
+  element-words : All (IsWord job) (wordsIn job x)
+  unfolding words
+  element-words =
+      let front = at .place .front in
+      let rest = at .place .rest in
+      let all = subst (All (IsWord job)) (ap (each (wordsIn job)) (at .place .split) ∙ each-append (wordsIn job) front (x ∷ rest)) (all-words job p) in
+      all-split (IsWord job) (wordsIn job x) (each (wordsIn job) rest) (all-split (IsWord job) (each (wordsIn job) front) (wordsIn job x ++ each (wordsIn job) rest) all .1) .0
+
+  pub whole-word : apart (x .form) (x .gloss) ≡ false → IsWord job x
+  unfolding wordsIn
+  whole-word e = subst (λ (b : Bool). All (IsWord job) (cond b (oneByOne job x) (x ∷ []))) e element-words .0
+
+  pub single-word : apart (x .form) (x .gloss) ≡ true → (k : ℕ) → k < x .bases → IsWord job (part job x k 1)
+  unfolding wordsIn
+  single-word e k h = counted job x 0 (x .bases) (subst (λ (b : Bool). All (IsWord job) (cond b (oneByOne job x) (x ∷ []))) e element-words) k (omega arith) (omega arith)
+
 -- The line up to somewhere in a word.
 
 module _ (job : Job) (x : Piece) (at : IsWord job x) where
@@ -309,7 +339,7 @@ cut-is job x e = let q = both (isJ (x .form)) _ e in (q .0, group (x .gloss) _ (
     group left.G longer e = absurd (false≢true e)
     group left.J longer e = refl
 
-single-whole : (job : Job) (y : Piece) (i : ℕ) → cuts job (part job y i 1) ≡ false
+pub single-whole : (job : Job) (y : Piece) (i : ℕ) → cuts job (part job y i 1) ≡ false
 unfolding cuts part
 single-whole job y i = refl
 

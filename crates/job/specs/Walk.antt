@@ -240,7 +240,7 @@ module _ (job : Job) (x : Piece) (at : IsElement job x) where
       go false false b = refl
 
   -- within it: where it is cut
-  element-within : (e : ℕ) → x .base < e → e < x .base + x .bases → permitted job e ≡ cuts job x
+  pub element-within : (e : ℕ) → x .base < e → e < x .base + x .bases → permitted job e ≡ cuts job x
   element-within e l h =
       permitted-in e l (omega arith)
       ∙ rw (ne-eqb e (baseCount job) (λ z. omega (arith, at .good .inside)), ne-eqb e (x .base + x .bases) (λ z. omega arith), lt-ltb (x .base) e l, lt-ltb e (x .base + x .bases) h)
@@ -251,7 +251,7 @@ module _ (job : Job) (x : Piece) (at : IsElement job x) where
       go false = refl
 
 -- a J with a mono left reading is cut
-apart-cuts : (job : Job) (y : Piece) → apart (y .form) (y .gloss) ≡ true → cuts job y ≡ true
+pub apart-cuts : (job : Job) (y : Piece) → apart (y .form) (y .gloss) ≡ true → cuts job y ≡ true
 unfolding cuts
 apart-cuts job y e = let q = apart-is (y .form) (y .gloss) e in rw (q .0, q .1)
 

@@ -1,4 +1,4 @@
--- Where table and job meet: for a job that passed the door and a table that holds it, what is told by rows is the account of the job's lines. Element by element, what is told of
+-- Where table and job meet: for a job that passed the door and a table that holds it, what is told by rows is the account of the job's lines. Word by word, what is told of
 -- the line before it and what its piece and those behind it add make up the whole.
 use mathlib.Core.Path.{_≡_, refl, sym, ap, ap₂, _∙_, subst}
 use mathlib.Core.Bool.{Bool, true, false, cond, _&&_}
@@ -8,27 +8,26 @@ use native.Mathlib.Omega.{arith}
 use native.Mathlib.Decide.{decLt}
 use borrow.Author.Tests.{lt-ltb, le-leb, lt-leb}
 use lib.Dec.{ltb}
-use lib.ListN.{length, getD, length-map, length-append}
+use lib.ListN.{length, getD, length-map}
 use lib.Seq.{append-snoc}
 use Rattle.line.specs.Setting.{start, furthest}
 use Rattle.cells.specs.Cells.{cellAt, piece, stop}
-use Rattle.word.specs.Given.{isJ}
 use Rattle.door.specs.declared.Piece.{Piece}
-use Rattle.door.specs.Job.{Job, baseCount, elements}
+use Rattle.door.specs.Job.{Job, baseCount}
 use Rattle.door.specs.Passed.{Passed, BaseTiled}
-use Rattle.job.specs.Line.{part, pieces, seen, lineOf, origins, byLine}
-use Rattle.job.specs.Pieces.{IsElement, is-element, into, none-before}
+use Rattle.job.specs.Line.{part, words, cuts, pieces, seen, lineOf, origins, byLine}
+use Rattle.job.specs.Pieces.{IsWord, is-word, into, none-before}
 use Rattle.job.specs.Walk.{stateOf, state-more, state-none, extent-of}
 use Rattle.job.specs.Promise.{nobody, Chain}
 use Rattle.job.specs.Stretches.{length-line}
 use Rattle.account.specs.Step.{nothing}
 use Rattle.account.specs.Theorems.{earlier}
 use Rattle.filling.specs.Lines.{extentsOf}
-use Rattle.join.specs.Rows.{upto, Holds}
+use Rattle.join.specs.Rows.{upto, rowOf, Holds}
 use Rattle.join.specs.Join as join
 use Rattle.job_account.specs.declared.Told.{Told}
 use Rattle.job_account.specs.declared.Place.{Place}
-use Rattle.job_account.specs.First.{firstIn, first-in, first-end}
+use Rattle.job_account.specs.First.{firstIn, within-word, behind-word}
 use Rattle.job_account.specs.Rows.{row, row-by, startIn, indexIn, rowIn, rowsIn}
 use Rattle.job_account.specs.Theorems.{accountIn}
 use Rattle.job_account.specs.Tell.{countIn, standingIn}
@@ -57,10 +56,10 @@ pub record LineJoined (job : Job) (t : List ℕ) (s e : ℕ) : Type 0 where
   pub many : piecesIn t s e ≡ countIn job s e
   pub ends : firstIn job s + endedIn t s e ≡ firstIn job e
 
--- a piece of an element begins in it
+-- a piece of a word begins in it
 begins : (job : Job) (x : Piece) (i c : ℕ) → x .base ≤ i → i < x .base + x .bases → (x .base ≤ upto job x i c .base) × (upto job x i c .base < x .base + x .bases)
 unfolding part
-begins job x i c l h = go (isJ (x .form) && ltb (c - i) (x .bases))
+begins job x i c l h = go (cuts job x && ltb (c - i) (x .bases))
   where
     go : (b : Bool) → let p = cond b (part job x (i - x .base) (c - i)) x in (x .base ≤ p .base) × (p .base < x .base + x .bases)
     go true = (omega arith, omega arith)
@@ -76,11 +75,11 @@ module _ (job : Job) (door : Passed job) (t : List ℕ) (table : Holds job t) (s
         ends = omega (arith, none-ended t n i e l, f);
       }
 
-  -- the piece of an element in the line
-  module _ (front : List Piece) (x : Piece) (xs : List Piece) (split : elements job ≡ front ++ (x ∷ xs)) (i : ℕ) (from : max s (x .base) ≡ i) (before : i < x .base + x .bases)
+  -- the piece of a word in the line
+  module _ (front : List Piece) (x : Piece) (xs : List Piece) (split : words job ≡ front ++ (x ∷ xs)) (i : ℕ) (from : max s (x .base) ≡ i) (before : i < x .base + x .bases)
       (ahead : i < e) where
-    at : IsElement job x
-    at = is-element job door front xs x split
+    at : IsWord job x
+    at = is-word job door front xs x split
 
     abbrev d : ℕ
     d = min e (x .base + x .bases)
@@ -128,10 +127,10 @@ module _ (job : Job) (door : Passed job) (t : List ℕ) (table : Holds job t) (s
 
     -- its element's index
     abbrev k : ℕ
-    k = length front
+    k = firstIn job (x .base)
 
     own : firstIn job (p .base) ≡ k
-    own = let b = begins job x i d (lies .0) before in first-in job door front x xs split (p .base) (b .0) (b .1)
+    own = let b = begins job x i d (lies .0) before in within-word job x at (p .base) (b .0) (b .1)
 
     indexes-more : indexes job s d ≡ indexes job s (x .base) ++ (k ∷ [])
     indexes-more =
@@ -186,14 +185,22 @@ module _ (job : Job) (door : Passed job) (t : List ℕ) (table : Holds job t) (s
     unfolding endedFrom
     ended-on m = rw (lt-ltb i e ahead) (ap (λ (z : ℕ). ended t i e + endedFrom t m z e) row-end)
 
-    -- the element behind it, where the line goes on
-    next-whole : x .base + x .bases ≤ e → next ≡ k + 1
-    next-whole h = rw (row-end, le-leb (x .base + x .bases) e h)
+    -- the index behind it, where the line goes on, and where it ends within it
+    row-more : cellAt t i .more ≡ x .more
+    unfolding rowOf
+    row-more = ap (λ z. z .more) (join.has job door t table x at i (lies .0) before)
 
-    next-cut : e < x .base + x .bases → next ≡ k + 0
-    next-cut h = rw (row-end, lt-leb (x .base + x .bases) e h)
+    next-whole : x .base + x .bases ≤ e → next ≡ firstIn job (x .base + x .bases)
+    next-whole h = rw (row-end, row-more, le-leb (x .base + x .bases) e h) (sym (behind-word job x at))
 
-    on : (m : ℕ) → (x .base + x .bases ≤ e → Joined job t s e m (x .base + x .bases) (k + 1) (x .base + x .bases)) → Joined job t s e (suc m) (x .base) k i
+    next-cut : e < x .base + x .bases → next ≡ firstIn job e
+    next-cut h = rw (row-end, lt-leb (x .base + x .bases) e h) (omega (arith, stays (cellAt t i .more), within-word job x at e (omega (arith, lies .0)) h))
+      where
+        stays : (m : Bool) → _≡_ {A = ℕ} (cond m 0 0) 0
+        stays true = refl
+        stays false = refl
+
+    on : (m : ℕ) → (x .base + x .bases ≤ e → Joined job t s e m (x .base + x .bases) (firstIn job (x .base + x .bases)) (x .base + x .bases)) → Joined job t s e (suc m) (x .base) k i
     on m rest = go (decLt e (x .base + x .bases))
       where
         short : (e z : ℕ) → e < z → min e z ≡ e
@@ -211,7 +218,7 @@ module _ (job : Job) (door : Passed job) (t : List ℕ) (table : Holds job t) (s
                   ∙ ap (λ r. rowsIn job s d ++ r) (no-rows (job .em) t (indexes job s d) next m (stateOf job s d) (standingIn job s d) (x .base + x .bases) e (omega arith))
                   ∙ append-nil (rowsIn job s d) ∙ ap (rowsIn job s) is;
               many = omega (arith, pieces-on m, no-pieces t m (x .base + x .bases) e (omega arith), one-more, ap (countIn job s) is);
-              ends = omega (arith, ended-on m, next-cut l, none-ended t m (x .base + x .bases) e (omega arith), first-in job door front x xs split e (omega (arith, lies .0)) l);
+              ends = omega (arith, ended-on m, next-cut l, none-ended t m (x .base + x .bases) e (omega arith));
             }
         go (no l) =
             let is = long e (x .base + x .bases) (omega arith) in
@@ -226,30 +233,25 @@ module _ (job : Job) (door : Passed job) (t : List ℕ) (table : Holds job t) (s
               ends = omega (arith, ended-on m, one, r .ends);
             }
 
-  -- on from an element's end
-  walks : (front xs : List Piece) → elements job ≡ front ++ xs → (i : ℕ) → BaseTiled i xs (baseCount job) → s ≤ i → i ≤ e → e ≤ baseCount job →
-      (n : ℕ) → e ≤ i + n → Joined job t s e n i (length front) i
-  walks front [] q i b l u w n room =
-      let is : i ≡ e = omega arith in
-      done n i (length front) i is (omega arith) (ap length (sym (q ∙ append-nil front)) ∙ sym (first-end job door) ∙ ap (firstIn job) (omega arith))
+  -- on from a word's end
+  walks : (front xs : List Piece) → words job ≡ front ++ xs → (i : ℕ) → BaseTiled i xs (baseCount job) → s ≤ i → i ≤ e → e ≤ baseCount job →
+      (n : ℕ) → e ≤ i + n → Joined job t s e n i (firstIn job i) i
+  walks front [] q i b l u w n room = let is : i ≡ e = omega arith in done n i (firstIn job i) i is (omega arith) (ap (firstIn job) is)
   walks front (x ∷ xs) q i b l u w n room =
-      let some = is-element job door front xs x q .good .counts .some in
-      go (decLt i e) n room some (λ m j v. subst (λ k. Joined job t s e m (x .base + x .bases) k (x .base + x .bases)) (length-append front (x ∷ []))
-      (walks (front ++ (x ∷ [])) xs (q ∙ sym (append-snoc front x xs)) (x .base + x .bases)
-      (subst (λ z. BaseTiled (z + x .bases) xs (baseCount job)) (sym (b .0)) (b .1)) (omega (arith, b .0)) j w m v))
+      go (decLt i e) n room (is-word job door front xs x q .good .counts .some) (λ m j v.
+      walks (front ++ (x ∷ [])) xs (q ∙ sym (append-snoc front x xs)) (x .base + x .bases)
+      (subst (λ z. BaseTiled (z + x .bases) xs (baseCount job)) (sym (b .0)) (b .1)) (omega (arith, b .0)) j w m v)
     where
       most : (s b i : ℕ) → b ≡ i → s ≤ i → max s b ≡ i
       most s b i z l = omega arith
 
       go : Dec (i < e) → (n : ℕ) → e ≤ i + n → 0 < x .bases →
-          ((m : ℕ) → x .base + x .bases ≤ e → e ≤ x .base + x .bases + m → Joined job t s e m (x .base + x .bases) (length front + 1) (x .base + x .bases)) →
-          Joined job t s e n i (length front) i
-      go (no m) n r some g =
-          let is : i ≡ e = omega arith in
-          done n i (length front) i is (omega arith) (sym (first-in job door front x xs q e (omega (arith, b .0)) (omega (arith, b .0))))
+          ((m : ℕ) → x .base + x .bases ≤ e → e ≤ x .base + x .bases + m → Joined job t s e m (x .base + x .bases) (firstIn job (x .base + x .bases)) (x .base + x .bases)) →
+          Joined job t s e n i (firstIn job i) i
+      go (no m) n r some g = let is : i ≡ e = omega arith in done n i (firstIn job i) i is (omega arith) (ap (firstIn job) is)
       go (yes m) zero r some g = absurd (omega arith)
       go (yes m) (suc n) r some g =
-          subst (λ z. Joined job t s e (suc n) z (length front) i) (b .0)
+          subst (λ (z : ℕ). Joined job t s e (suc n) z (firstIn job z) i) (b .0)
           (on front x xs q i (most s (x .base) i (b .0) l) (omega (arith, b .0)) m n (λ j. g n j (omega (arith, b .0))))
 
   -- THE JOIN: what is told of a line by rows is the account of the job's line
@@ -265,21 +267,20 @@ module _ (job : Job) (door : Passed job) (t : List ℕ) (table : Holds job t) (s
       begun : join.Covers job s → LineJoined job t s e
       begun v =
           let x = v .x in
-          let at = is-element job door (v .front) (v .rest) x (v .split) in
+          let at = is-word job door (v .front) (v .rest) x (v .split) in
           let empty = none-before job x at s (v .from) in
           let none = tell.count-none job s (x .base) empty in
-          let first = first-in job door (v .front) x (v .rest) (v .split) s (v .from) (v .ahead) in
+          let first = within-word job x at s (v .from) (v .ahead) in
           let j = on (v .front) x (v .rest) (v .split) s (over s (x .base) (v .from)) (v .ahead) l (e - s - 1)
-          (λ h. subst (λ k. Joined job t s e (e - s - 1) (x .base + x .bases) k (x .base + x .bases)) (length-append (v .front) (x ∷ []))
-          (walks (v .front ++ (x ∷ [])) (v .rest) (v .split ∙ sym (append-snoc (v .front) x (v .rest))) (x .base + x .bases) (v .tiled)
-          (omega (arith, v .ahead)) h u (e - s - 1) (omega (arith, v .ahead)))) in
+          (λ h. walks (v .front ++ (x ∷ [])) (v .rest) (v .split ∙ sym (append-snoc (v .front) x (v .rest))) (x .base + x .bases) (v .tiled)
+          (omega (arith, v .ahead)) h u (e - s - 1) (omega (arith, v .ahead))) in
           record {
             rows =
                 ap₂ (λ n k. rowsFrom (job .em) t [] k n start nothing s e) (one s e l) first
-                ∙ ap (λ ks. rowsFrom (job .em) t ks (length (v .front)) (suc (e - s - 1)) start nothing s e) (sym (ap (map (λ (p : Piece). firstIn job (p .base))) empty))
-                ∙ ap₂ (λ st b. rowsFrom (job .em) t (indexes job s (x .base)) (length (v .front)) (suc (e - s - 1)) st b s e)
+                ∙ ap (λ ks. rowsFrom (job .em) t ks (firstIn job (x .base)) (suc (e - s - 1)) start nothing s e) (sym (ap (map (λ (p : Piece). firstIn job (p .base))) empty))
+                ∙ ap₂ (λ st b. rowsFrom (job .em) t (indexes job s (x .base)) (firstIn job (x .base)) (suc (e - s - 1)) st b s e)
                 (sym (state-none job s (x .base) empty)) (sym (tell.stands-none job s (x .base) empty))
-                ∙ ap (λ r. r ++ rowsOn job t s e (suc (e - s - 1)) (x .base) (length (v .front)) s) (sym (tell.rows-none job s (x .base) empty))
+                ∙ ap (λ r. r ++ rowsOn job t s e (suc (e - s - 1)) (x .base) (firstIn job (x .base)) s) (sym (tell.rows-none job s (x .base) empty))
                 ∙ j .rows;
             many = ap (λ (n : ℕ). piecesFrom t n s e) (one s e l) ∙ omega (arith, none, j .many);
             ends = ap₂ (λ (k n : ℕ). k + endedFrom t n s e) first (one s e l) ∙ j .ends;

@@ -76,11 +76,12 @@ pieces-few t (suc n) i e = go (ltb i e) (pieces-few t n (i + cellAt t i .bases) 
     go false h = zero-le
 
 ended-one : (t : List ℕ) (i e : ℕ) → ended t i e ≤ 1
-ended-one t i e = go (leb (i + cellAt t i .bases) e)
+ended-one t i e = go (cellAt t i .more) (leb (i + cellAt t i .bases) e)
   where
-    go : (p : Bool) → cond p 1 0 ≤ 1
-    go true = omega arith
-    go false = zero-le
+    go : (m p : Bool) → cond m 0 (cond p 1 0) ≤ 1
+    go true p = zero-le
+    go false true = omega arith
+    go false false = zero-le
 
 pub ended-few : (t : List ℕ) (n i e : ℕ) → endedFrom t n i e ≤ n
 unfolding endedFrom

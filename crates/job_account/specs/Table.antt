@@ -29,9 +29,9 @@ pub same : {a a′ : Account} {x x′ : ℕ} {st st′ : State} {b b′ : Before
     _≡_ {A = Told} (record { account = a; start = x; st = st; before = b }) (record { account = a′; start = x′; st = st′; before = b′ })
 same p q r s = cc
 
--- How many elements end with the piece whose row is i, in a line up to e: a J that e cuts goes on in the next line.
+-- How many elements end with the piece whose row is i, in a line up to e: none where the element goes on behind it, and a J that e cuts goes on in the next line.
 abbrev pub ended : List ℕ → ℕ → ℕ → ℕ
-ended t i e = cond (leb (i + cellAt t i .bases) e) 1 0
+ended t i e = cond (cellAt t i .more) 0 (cond (leb (i + cellAt t i .bases) e) 1 0)
 
 -- the row of each of at most n pieces from i on up to e, the first of them of element k; ks has the elements' indexes of the pieces before it in its line
 unfoldable pub rowsFrom : ℕ → List ℕ → List ℕ → ℕ → ℕ → State → Before → ℕ → ℕ → List ℕ

@@ -1,12 +1,11 @@
 -- The account of every line of a job that passes the door, and so of every accepted job: for each piece of the line the gap before it, and the first rule that
 -- holds it there. What is proved of a line's account (specs/Theorems of account) holds of it, with nothing left to be supposed.
-use mathlib.Core.Path.{_≡_, refl, sym, ap, _∙_, subst}
-use mathlib.Core.Bool.{Bool, true, false}
+use mathlib.Core.Path.{_≡_, sym, subst}
 use mathlib.Core.List.{List}
 use Prim.Native.Nat.{ℕ, suc, _+_, _≤_, _<_}
 use native.Mathlib.Omega.{arith}
-use lib.Dec.{T}
-use lib.ListN.{length}
+use lib.ListN.{length, getD}
+use Rattle.sides.specs.Standing.{between}
 use Rattle.line.specs.declared.Element.{Element}
 use Rattle.line.specs.declared.Side.{Side}
 use Rattle.line.specs.declared.Side.the-variants.{Right, Left}
@@ -16,12 +15,13 @@ use Rattle.door.specs.declared.Piece.{Piece}
 use Rattle.door.specs.Job.{Job}
 use Rattle.door.specs.Entries.{length-entries}
 use Rattle.door.specs.Passed.{Passed}
-use Rattle.job.specs.Line.{seen, pieces, lineOf, origins}
+use Rattle.job.specs.Line.{seen, pieces, lineOf, origins, firstOf, manyOf, widthsOf, countOf, widthsIn}
 use Rattle.job.specs.Promise.{pieceOf}
-use Rattle.job.specs.Words.{GoodPiece, promise, good-pieces}
+use Rattle.job.specs.Words.{GoodPiece}
+use Rattle.job.specs.Pieces.{good-pieces}
 use Rattle.job.specs.Belong.{all-at}
 use Rattle.job.specs.Laws.{entries-at}
-use Rattle.job.specs.Stretches.{ruby-seen, el-seen, length-line}
+use Rattle.job.specs.Stretches.{reading-stands, some-of, seen-reading, el-seen, length-line}
 use Rattle.job.specs.Sound.{sounds}
 use Rattle.account.specs.declared.Account.{Account}
 use Rattle.account.specs.declared.Reason.{Reason}
@@ -39,32 +39,31 @@ reasonIn job s e i = reason (lineOf job s e) (origins job s e) i
 
 -- a reading runs from its first character's start to its last one's end, and a character is at least one unit wide
 pub written : (job : Job) → Passed job → (s e : ℕ) → Written (lineOf job s e)
-unfolding seen
 written job passed s e i h side t =
     let k : i < length (pieces job s e) = omega (arith, length-line job s e) in
     let good = all-at (GoodPiece job) (pieces job s e) (good-pieces job passed s e) i k in
-    subst (λ (o : Element). ruby side o .from + 2 ≤ ruby side o .upto) (sym (el-seen job s e i k)) (go side good (subst (HasRuby side) (el-seen job s e i k) t))
+    subst (λ (o : Element). ruby side o .from + 2 ≤ ruby side o .upto) (sym (el-seen job s e i k)) (go good (subst (HasRuby side) (el-seen job s e i k) t))
   where
     p : Piece
     p = pieceOf job s e i
 
-    flagged : (b : Bool) → T b → b ≡ true
-    flagged true t = refl
-    flagged false t = absurd t
+    wide : (side : Side) (k : ℕ) → k < countOf side job → 1 ≤ getD (widthsOf side job) k 0
+    wide Right k l = passed .ruby k l .some
+    wide Left k l = passed .left k l .some
 
-    go : (side : Side) → GoodPiece job p → HasRuby side (seen job p) → ruby side (seen job p) .from + 2 ≤ ruby side (seen job p) .upto
-    go Left good t = absurd (subst T (ap (λ r. r .there) (promise job p good .one)) t)
-    go Right good t =
-        let has = sym (promise job p good .reads) ∙ flagged _ t in
-        let many = length-entries (job .rubyWidth) (p .ruby) (p .rubies) in
-        let some = good .sized .reads has in
-        let lies = ruby-seen job p good has in
+    go : GoodPiece job p → HasRuby side (seen job p) → ruby side (seen job p) .from + 2 ≤ ruby side (seen job p) .upto
+    go good t =
+        let has = seen-reading job p good side t in
+        let many = length-entries (widthsOf side job) (firstOf side p) (manyOf side p) in
+        let some = some-of job p good side has in
+        let lies = between (reading-stands job p good side has) in
+        let first : 0 < length (widthsIn side job p) = omega (arith, many, some) in
         omega (
           arith,
-          lies .low 0 some,
-          lies .high 0 some,
-          entries-at (job .rubyWidth) (p .ruby) (p .rubies) 0 (omega arith),
-          passed .ruby (p .ruby + 0) (omega (arith, good .reads)) .some,
+          lies .low 0 first,
+          lies .high 0 first,
+          entries-at (widthsOf side job) (firstOf side p) (manyOf side p) 0 some,
+          wide side (firstOf side p + 0) (omega (arith, some, good .reads side)),
         )
 
 module _ (job : Job) (passed : Passed job) (s e : ℕ) where

@@ -101,11 +101,15 @@ pub struct Place {
     pub q: usize,
 }
 
-// The index of the element behind a piece of element k, which ends at row `end`: a J that the line's end e cuts goes on in the next line.
-fn next_index(k: u32, end: usize, e: usize) -> u32
+// The index of the element behind a piece of element k, whose word ends at row `end`: with `more` the element goes on behind that word, and a J that the line's end e cuts
+// goes on in the next line.
+fn next_index(k: u32, more: bool, end: usize, e: usize) -> u32
     requires { ⌜ k ≤ 1024 ⌝ }
-    ensures { λ n. ⌜ n ≡ k + cond (leb end e) 1 0 ⌝ }
+    ensures { λ n. ⌜ n ≡ k + cond more 0 (cond (leb end e) 1 0) ⌝ }
 {
+    if more {
+        return k;
+    }
     if end <= e { k + 1 } else { k }
 }
 
@@ -124,7 +128,7 @@ pub fn tell_line(t: &[u32], s: usize, e: usize, em: u32, from: Place, out: &mut 
         let end = i + a.bases as usize;
         let told = tell_piece(t, i, door::fewer(e, end), em, st, j, b);
         put_row(told.account, from.q, j, k, told.start, out);
-        k = next_index(k, end, e);
+        k = next_index(k, a.more, end, e);
         st = told.st;
         b = told.before;
         j += 1;
@@ -188,18 +192,23 @@ pub fn account_job(
     flag: &[u32],
     rclass: &[u32],
     rwidth: &[u32],
+    lclass: &[u32],
+    lwidth: &[u32],
     kind: &[u32],
     ebase: &[u32],
     eruby: &[u32],
+    lkind: &[u32],
+    eleft: &[u32],
     runs: &[u32],
+    lruns: &[u32],
     rows: &mut [u32],
     told: &mut [u32],
     extents: &mut [u32],
 ) -> job::Answer
-    ensures { λ r. ⌜ _≡_ {A = Telling} (record { answer = r; rows = now (rows .exit); told = now (told .exit); extents = now (extents .exit) }) (telling (jobOf em measure ratios profile (now (class .entry)) (now (width .entry)) (now (before .entry)) (now (after .entry)) (now (flag .entry)) (now (rclass .entry)) (now (rwidth .entry)) (now (kind .entry)) (now (ebase .entry)) (now (eruby .entry)) (now (runs .entry))) (now (rows .entry)) (now (told .entry)) (now (extents .entry))) ⌝ }
+    ensures { λ r. ⌜ _≡_ {A = Telling} (record { answer = r; rows = now (rows .exit); told = now (told .exit); extents = now (extents .exit) }) (telling (jobOf em measure ratios profile (now (class .entry)) (now (width .entry)) (now (before .entry)) (now (after .entry)) (now (flag .entry)) (now (rclass .entry)) (now (rwidth .entry)) (now (lclass .entry)) (now (lwidth .entry)) (now (kind .entry)) (now (ebase .entry)) (now (eruby .entry)) (now (lkind .entry)) (now (eleft .entry)) (now (runs .entry)) (now (lruns .entry))) (now (rows .entry)) (now (told .entry)) (now (extents .entry))) ⌝ }
 {
     let room = room_of(rows.len(), told.len(), extents.len());
-    let mut t = [0; 19463];
+    let mut t = [0; 27655];
     let mut ends = [0; 1024];
     let mut found = [0; 1024];
     match engine::fill_job(
@@ -217,11 +226,17 @@ pub fn account_job(
         flag,
         rclass,
         rwidth,
+        lclass,
+        lwidth,
         kind,
         ebase,
         eruby,
+        lkind,
+        eleft,
         runs,
+        lruns,
         1024,
+        2048,
         2048,
         room,
     ) {

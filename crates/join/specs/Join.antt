@@ -114,6 +114,10 @@ module _ (job : Job) (passed : Passed job) (t : List ℕ) (table : Holds job t) 
     unfolding rowOf
     ends-at i h l = ap (λ z. z .ends) (has x at i h l)
 
+    pub more-at : (i : ℕ) → x .base ≤ i → i < x .base + x .bases → cellAt t i .more ≡ x .more
+    unfolding rowOf
+    more-at i h l = ap (λ z. z .more) (has x at i h l)
+
     right-word-at : isCut job x ≡ false → (i : ℕ) → x .base ≤ i → i < x .base + x .bases →
         cellAt t i .word ≡ record { front = line.wordOf job x .front; len = line.wordOf job x .len; inbase = line.wordOf job x .inbase; right = line.wordOf job x .right; left = leftReading (leftRowBy job x (line.wordOf job x) i) }
     unfolding rowOf

@@ -3,6 +3,7 @@ use mathlib.Core.Path.{_≡_, refl, sym, ap, _∙_, subst}
 use mathlib.Core.Bool.{Bool, true, false, cond}
 use mathlib.Core.List.{List, [], _∷_}
 use Prim.Native.Nat.{ℕ, suc, _+_, _-_, _≤_, _<_}
+use native.Mathlib.Nat.{add-zero}
 use native.Mathlib.Omega.{arith}
 use lib.ListN.{length}
 use Rattle.spread.specs.Gap.{starts}
@@ -10,7 +11,9 @@ use Rattle.spread.specs.Laws.{length-starts}
 use Rattle.word.specs.declared.Reading.{Reading}
 use Rattle.word.specs.Word.{baseStarts}
 use Rattle.line.specs.declared.Side.{Side}
-use Rattle.cells.specs.Cells.{size, cellAt}
+use Rattle.line.specs.declared.Side.the-variants.{Right, Left}
+use Rattle.cells.specs.Cells.{size, cellAt, shareOf}
+use Rattle.cells.specs.Sound.{cut-word, part-bare}
 use Rattle.positions.specs.Positions.{Sheet, lent, widthsOf, first, runEnd, readingEnd, readingLent, runsPut, readingBy, wordOf, readingOf, basePut, sidePut}
 use Rattle.positions.specs.Lists.{lent-long}
 use Rattle.positions.specs.Ready.{StringReady, Runs, Fits, SideFits, pick, Writable}
@@ -87,6 +90,23 @@ module _ {g : Sheet} {n m l : ℕ} (table : Writable g n m l) {i c : ℕ} (ahead
             adds _ (readingEnd side (g .t) i c) (f .ahead)
             (length-starts _ _ (readingLent side (g .t) ws i c)
             ∙ lent-long ws r (readingEnd side (g .t) i c) (f .ahead) (omega (arith, f .within, table .widths side)))
+
+    -- a piece whose first row has none has none at all
+    pub no-characters : shareOf side (cellAt (g .t) i) .many ≡ 0 → readingEnd side (g .t) i c ≡ first side (g .t) i
+    no-characters e = go (cellAt (g .t) i .cut) refl
+      where
+        none-cut : (v : Side) → shareOf v (cellAt (g .t) i) .many ≡ 0 → cellAt (g .t) i .cut ≡ true → readingOf v g i c .there ≡ false
+        none-cut Right z k =
+            let some = table .sound .row i h .runs k (i + 1) (omega arith) (omega arith) .more in
+            absurd (omega (arith, z, some, ap (λ (j : ℕ). first Right (g .t) j + shareOf Right (cellAt (g .t) j) .many) (back i)))
+          where
+            back : (i : ℕ) → i + 1 - 1 ≡ i
+            back i = omega arith
+        none-cut Left z k = ap (λ w. w .left .there) (cut-word (g .em) (g .t) i c k) ∙ part-bare (g .em) (g .t) i c z
+
+        go : (b : Bool) → cellAt (g .t) i .cut ≡ b → cond b (runEnd side (g .t) (c - 1)) (runEnd side (g .t) i) ≡ first side (g .t) i
+        go true k = sym (rw k) ∙ f .none (none-cut side e k)
+        go false k = ap (λ z. first side (g .t) i + z) e ∙ add-zero (first side (g .t) i)
 
     pub side-ready : (x : ℕ) → x ≤ 536870912 → {out : List ℕ} → pick m l side ≤ length out → ReadingReady side (g .em) (g .t) i c (readingOf side g i c) x (widthsOf side g) out
     side-ready x near room =

@@ -39,13 +39,22 @@ uncut job x at f e p h l = go (cuts job x) refl f
     go true j z = omega (arith, ltb-false 1 (x .bases) z)
     go false j z = true≢false (sym p ∙ permitted-within job x at e h l ∙ j)
 
+-- so a line that begins in one begins with it
+pub opens : (job : Job) (x : Piece) → IsWord job x → (s : ℕ) → Begins job s → s < x .base + x .bases → isCut job x ≡ false → s ≤ x .base
+opens job x at s (inl z) k j = omega arith
+opens job x at s (inr z) k j = by (decLt (x .base) s)
+  where
+    by : Dec (x .base < s) → s ≤ x .base
+    by (yes m) = absurd (uncut job x at j s z m k)
+    by (no m) = omega arith
+
 module _ (job : Job) (passed : Passed job) (t : List ℕ) (table : Holds job t) where
   abbrev g : Sheet
   g = sheetOf job t
 
   -- the piece of a word in the line from s up to e
   module _ (x : Piece) (at : IsWord job x) (s i e : ℕ) (from : max s (x .base) ≡ i) (before : i < x .base + x .bases) (ahead : i < e)
-      (opens : isCut job x ≡ false → s ≤ x .base) (permits : permitted job e ≡ true) where
+      (first : isCut job x ≡ false → s ≤ x .base) (permits : permitted job e ≡ true) where
     abbrev d : ℕ
     d = min e (x .base + x .bases)
 
@@ -61,11 +70,11 @@ module _ (job : Job) (passed : Passed job) (t : List ℕ) (table : Holds job t) 
         most : (e z : ℕ) → min e z ≤ z
         most e z = omega arith
 
-    same-piece : Same job t i d (upto job x i d)
-    same-piece = same job passed t table x at i d (lies .0) (lies .1) (lies .2) (λ f. (first s (x .base) from (opens f), last (x .base + x .bases) (closes f (decLt e (x .base + x .bases)))))
+    pub same-piece : Same job t i d (upto job x i d)
+    same-piece = same job passed t table x at i d (lies .0) (lies .1) (lies .2) (λ f. (start s (x .base) from (first f), last (x .base + x .bases) (closes f (decLt e (x .base + x .bases)))))
       where
-        first : (s b : ℕ) → max s b ≡ i → s ≤ b → i ≡ b
-        first s b e h = omega arith
+        start : (s b : ℕ) → max s b ≡ i → s ≤ b → i ≡ b
+        start s b e h = omega arith
 
         last : (z : ℕ) → z ≤ e → min e z ≡ z
         last z h = omega arith
@@ -77,7 +86,7 @@ module _ (job : Job) (passed : Passed job) (t : List ℕ) (table : Holds job t) 
     row-end : i + cellAt t i .bases ≡ x .base + x .bases
     row-end = omega (arith, join.bases-at job passed t table x at i (lies .0) before)
 
-    stop-is : stop t i e ≡ d
+    pub stop-is : stop t i e ≡ d
     stop-is = ap (min e) row-end
 
     -- one piece more
@@ -161,7 +170,7 @@ module _ (job : Job) (passed : Passed job) (t : List ℕ) (table : Holds job t) 
         ap (λ (z : ℕ). putFrom f g z start s e) (one s e l)
         ∙ subst (λ z. z ++ putFrom f g (suc (e - s - 1)) start s e ≡ has s e) (none s (x .base) empty)
         (subst (λ z. has s (x .base) ++ putFrom f g (suc (e - s - 1)) z s e ≡ has s e) (state-none job s (x .base) empty)
-        (on x at s s e (over s (x .base) (v .from)) (v .ahead) l (first x at (v .from) (v .ahead) begins) permits f h has puts adds (e - s - 1)
+        (on x at s s e (over s (x .base) (v .from)) (v .ahead) l (opens job x at s begins (v .ahead)) permits f h has puts adds (e - s - 1)
         (λ k. walks (v .front ++ (x ∷ [])) (v .rest) (v .split ∙ sym (append-snoc (v .front) x (v .rest))) (x .base + x .bases) (v .tiled) s e
         (omega (arith, v .ahead)) k u permits (e - s - 1) (omega (arith, v .ahead)))))
       where
@@ -170,14 +179,6 @@ module _ (job : Job) (passed : Passed job) (t : List ℕ) (table : Holds job t) 
 
         over : (s b : ℕ) → b ≤ s → max s b ≡ s
         over s b h = omega arith
-
-        first : (x : Piece) → IsWord job x → x .base ≤ s → s < x .base + x .bases → Begins job s → isCut job x ≡ false → s ≤ x .base
-        first x at h k (inl z) j = omega arith
-        first x at h k (inr z) j = by (decLt (x .base) s)
-          where
-            by : Dec (x .base < s) → s ≤ x .base
-            by (yes m) = absurd (uncut job x at j s z m k)
-            by (no m) = omega arith
 
   -- THE JOIN: where the characters of a line stand by rows is where the job has them
   pub base-join : (s e : ℕ) → Begins job s → s < e → e ≤ baseCount job → permitted job e ≡ true → baseOf g s e ≡ baseIn job s e

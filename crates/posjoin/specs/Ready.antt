@@ -143,7 +143,7 @@ module _ (job : Job) (passed : Passed job) (t : List ℕ) (table : Holds job t) 
     here = same job passed t table x at i c from ahead within whole
 
     share : (side : Side) → Shares job (firstOf side) (manyOf side) (readTo side job) x
-    share side = reading-shares side job x (record { good = at .good; whole = at .whole })
+    share side = reading-shares side job x (at .good)
 
     to : (b : ℕ) → b ≤ i → b + (i - b) + (c - i) ≡ c
     to b h = omega arith

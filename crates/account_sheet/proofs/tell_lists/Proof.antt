@@ -1,5 +1,6 @@
 -- The account's answer decides which text is written. A refusal's is the text of the refusal that the list gives; an accepted job's lists can be printed, and their text is its account.
 use mathlib.Core.Path.{_≡_}
+use mathlib.Core.List.{[]}
 use Rattle.spread.specs.Ratio.{usualLists}
 use Rattle.door.specs.Job.{Job, jobOf, elementCount}
 use Rattle.door.specs.Whole.{element-within}
@@ -10,11 +11,40 @@ use Rattle.account_sheet.proofs.tell_lists.Tie as tie
 
 abbrev job : tie.Start → Job
 job a =
-    jobOf (a .args .em) (a .args .measure) usualLists 0 (a .args .class .now) (a .args .width .now) (a .args .before .now) (a .args .after .now) (a .args .flag .now) (a .args .rclass .now) (a .args .rwidth .now) (a .args .kind .now) (a .args .ebase .now) (a .args .eruby .now) (a .args .runs .now)
+    let x = a .args in
+    jobOf (x .em) (x .measure) usualLists 0 (x .class .now) (x .width .now) (x .before .now) (x .after .now) (x .flag .now) (x .rclass .now) (x .rwidth .now) [] [] (x .kind .now)
+    (x .ebase .now) (x .eruby .now) (x .lkind .now) (x .eleft .now) (x .runs .now) []
 
 counted : (c : tie.After-element-count) → c .element-count .result ≡ elementCount (job (c .before .before .before .before .before .before .before .before .before .before .before .before .before .before .before .before .before .before .before .before .before .before .before .before .before .before .before .before .before))
 unfolding elementCount
 counted c = c .element-count .ensures
+
+sub-account-job : tie.Need-sub-account-job
+sub-account-job c = search needs
+
+part-account-job-start : tie.Need-part-account-job-start
+part-account-job-start c = search needs
+
+part-account-job-end : tie.Need-part-account-job-end
+part-account-job-end c = search needs
+
+sub-account-job-2 : tie.Need-sub-account-job-2
+sub-account-job-2 c = search needs
+
+part-account-job-start-2 : tie.Need-part-account-job-start-2
+part-account-job-start-2 c = search needs
+
+part-account-job-end-2 : tie.Need-part-account-job-end-2
+part-account-job-end-2 c = search needs
+
+sub-account-job-3 : tie.Need-sub-account-job-3
+sub-account-job-3 c = search needs
+
+part-account-job-start-3 : tie.Need-part-account-job-start-3
+part-account-job-start-3 c = search needs
+
+part-account-job-end-3 : tie.Need-part-account-job-end-3
+part-account-job-end-3 c = search needs
 
 account-job-requires : tie.Need-account-job-requires
 account-job-requires c κs = search needs
@@ -71,6 +101,15 @@ pub tell-lists-spec : {M : Type 1} → statement M
 tell-lists-spec =
     tie.close
     (tie.spec
+    sub-account-job
+    part-account-job-start
+    part-account-job-end
+    sub-account-job-2
+    part-account-job-start-2
+    part-account-job-end-2
+    sub-account-job-3
+    part-account-job-start-3
+    part-account-job-end-3
     account-job-requires
     enum-known-why
     write-declined-requires

@@ -1,5 +1,6 @@
 -- The refusal comes first; where its number is 11, what the line needs follows it. Such a job has no fault of its own, so the layout passes and its table tells what is needed.
 use mathlib.Core.Path.{_≡_, sym, _∙_}
+use mathlib.Core.List.{[]}
 use Rattle.text.specs.Written.{then}
 use Rattle.refusal.specs.Refusal.{numberOf, placeOf}
 use Rattle.spread.specs.Ratio.{usualLists}
@@ -16,7 +17,7 @@ use Rattle.account_sheet.proofs.write_declined.Tie as tie
 
 -- the function's entry, and where the refusal is written
 abbrev start : tie.After-write-refusal → tie.Start
-start c = c .before .before .before .before .before .before .before .before .before .before .before .before .before .before
+start c = c .before .before .before .before .before .before .before .before .before .before .before .before .before .before .before .before
 
 abbrev written : tie.After-number → tie.After-write-refusal
 written c = c .before .before .before
@@ -25,7 +26,7 @@ abbrev job : tie.Start → Job
 job a =
     let x = a .args in
     jobOf (x .em) (x .measure) usualLists 0 (x .class .now) (x .width .now) (x .before .now) (x .after .now) (x .flag .now) (x .rclass .now)
-    (x .rwidth .now) (x .kind .now) (x .ebase .now) (x .eruby .now) (x .runs .now)
+    (x .rwidth .now) [] [] (x .kind .now) (x .ebase .now) (x .eruby .now) (x .lkind .now) (x .eleft .now) (x .runs .now) []
 
 -- a line is declined
 eleven : (c : tie.Else1) → numberOf (start (written (c .before)) .args .why) ≡ 11
@@ -53,7 +54,7 @@ told c =
 
 write-refusal-requires : tie.Need-write-refusal-requires
 write-refusal-requires c κs =
-    let a = c .before .before .before .before .before .before .before .before .before .before .before .before .before in
+    let a = c .before .before .before .before .before .before .before .before .before .before .before .before .before .before .before in
     omega (arith, refusal-short (a .args .why), a .pre .room)
 
 number-requires : tie.Need-number-requires
@@ -70,6 +71,33 @@ returns c =
 
 slice-aggregate-layout : tie.Need-slice-aggregate-layout
 slice-aggregate-layout c = search needs
+
+sub-layout : tie.Need-sub-layout
+sub-layout c = search needs
+
+part-layout-start : tie.Need-part-layout-start
+part-layout-start c = search needs
+
+part-layout-end : tie.Need-part-layout-end
+part-layout-end c = search needs
+
+sub-layout-2 : tie.Need-sub-layout-2
+sub-layout-2 c = search needs
+
+part-layout-start-2 : tie.Need-part-layout-start-2
+part-layout-start-2 c = search needs
+
+part-layout-end-2 : tie.Need-part-layout-end-2
+part-layout-end-2 c = search needs
+
+sub-layout-3 : tie.Need-sub-layout-3
+sub-layout-3 c = search needs
+
+part-layout-start-3 : tie.Need-part-layout-start-3
+part-layout-start-3 c = search needs
+
+part-layout-end-3 : tie.Need-part-layout-end-3
+part-layout-end-3 c = search needs
 
 layout-requires : tie.Need-layout-requires
 layout-requires c κs = asked.layout-ready (lacks (c .before)) _ (omega arith)
@@ -134,6 +162,15 @@ write-declined-spec =
     same-length
     returns
     slice-aggregate-layout
+    sub-layout
+    part-layout-start
+    part-layout-end
+    sub-layout-2
+    part-layout-start-2
+    part-layout-end-2
+    sub-layout-3
+    part-layout-start-3
+    part-layout-end-3
     layout-requires
     enum-told
     same-length-2

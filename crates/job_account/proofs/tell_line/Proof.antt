@@ -1,8 +1,8 @@
--- Before each piece, what is written and what the pieces from there on add make up the whole line; a piece writes its row, and the element behind it is the next unless the line's
--- end cuts it. Behind the line's end nothing is left to write.
+-- Before each piece, what is written and what the pieces from there on add make up the whole line; a piece writes its row, and the element behind it is the next unless it goes
+-- on there or the line's end cuts it. Behind the line's end nothing is left to write.
 use mathlib.Core.Path.{_≡_, ap, _∙_}
 use mathlib.Core.Bool.{cond}
-use Prim.Native.Nat.{ℕ, _+_, _-_}
+use Prim.Native.Nat.{_+_, _-_}
 use lib.Dec.{leb}
 use Rattle.cells.specs.declared.Cell.{Cell}
 use Rattle.cells.specs.Cells.{cellAt, stop}
@@ -99,7 +99,7 @@ loop-again c =
     let b = e .before in
     let a = entry (b .before) .args in
     one.along-next (entry (b .before) .pre) (b .before .loop .inv) (b .loop-test .taken) (cell-is e) (told-is d)
-    (n .next-index .ensures ∙ ap (λ (z : ℕ). b .before .loop .k + cond (leb z (a .e)) 1 0) (cell-is e)) (r .put-row .ensures)
+    (n .next-index .ensures ∙ ap (λ (z : Cell). b .before .loop .k + cond (z .more) 0 (cond (leb (b .before .loop .i + z .bases) (a .e)) 1 0)) (e .cell-at .ensures)) (r .put-row .ensures)
 
 cast-t25 : tie.Need-cast-t25 Inv-loop μ-loop
 cast-t25 c = omega (arith, one.few-told (entry (c .before) .pre) (c .before .loop .inv) .0)
