@@ -39,18 +39,18 @@ lacks c = start (written (c .before)) .pre .line (eleven c)
 abbrev laid : tie.After-base-count → tie.After-layout
 laid c = c .before .before .before .before
 
-bases : (c : tie.After-base-count) → c .base-count .result ≡ baseCount (job (start (written (laid c .before .before .before))))
+bases : (c : tie.After-base-count) → c .base-count .result ≡ baseCount (job (start (written (laid c .before .before .before .before .before .before))))
 unfolding baseCount
 bases c = c .base-count .ensures
 
 -- what the line needs
 told : (c : tie.After-needed-extent) →
-    let a = start (written (laid (c .before .before .before) .before .before .before)) in
+    let a = start (written (laid (c .before .before .before) .before .before .before .before .before .before)) in
     c .needed-extent .result ≡ needed (job a) (placeOf (a .args .why))
 told c =
     let b = c .before .before .before in
     let l = laid b in
-    asked.tells (lacks (l .before .before)) (l .layout .result) (l .layout .last .0) (l .layout .ensures) (bases b) (rw (c .before .place .ensures) at (c .needed-extent .ensures))
+    asked.tells (lacks (l .before .before .before .before .before)) (l .layout .result) (l .layout .last .0) (l .layout .ensures) (bases b) (rw (c .before .place .ensures) at (c .needed-extent .ensures))
 
 write-refusal-requires : tie.Need-write-refusal-requires
 write-refusal-requires c κs =
@@ -100,7 +100,7 @@ part-layout-end-3 : tie.Need-part-layout-end-3
 part-layout-end-3 c = search needs
 
 layout-requires : tie.Need-layout-requires
-layout-requires c κs = asked.layout-ready (lacks (c .before)) _ (omega arith)
+layout-requires c κs = asked.layout-ready (lacks (c .before .before .before .before)) _ (omega arith)
 
 enum-told : tie.Need-enum-told
 enum-told c = search needs
@@ -111,7 +111,7 @@ same-length-2 c = search needs
 returns-2 : tie.Need-returns-2
 returns-2 c =
     let l = c .before .before .before in
-    absurd (asked.not-refused (lacks (l .before .before)) (l .layout .result) (l .layout .last .0) (l .layout .ensures) (c .enum-told .given .1))
+    absurd (asked.not-refused (lacks (l .before .before .before .before .before)) (l .layout .result) (l .layout .last .0) (l .layout .ensures) (c .enum-told .given .1))
 
 enum-told-2 : tie.Need-enum-told-2
 enum-told-2 c = search needs
@@ -132,11 +132,11 @@ needed-extent-requires : tie.Need-needed-extent-requires
 needed-extent-requires c κs =
     let b = c .before .before in
     let l = laid b in
-    rw (c .place .ensures) (asked.asks (lacks (l .before .before)) (l .layout .result) (l .layout .last .0) (l .layout .ensures) (bases b))
+    rw (c .place .ensures) (asked.asks (lacks (l .before .before .before .before .before)) (l .layout .result) (l .layout .last .0) (l .layout .ensures) (bases b))
 
 put-needs-requires : tie.Need-put-needs-requires
 put-needs-requires c κs =
-    let e = laid (c .before .before .before .before) .before .before in
+    let e = laid (c .before .before .before .before) .before .before .before .before .before in
     let w = written (e .before) in
     let a = start w in
     (tell.needs-fit (job a) (a .args .why) (a .pre .room) (w .write-refusal .ensures) _ _, omega (arith, lacks e .passed .measure))
@@ -148,7 +148,7 @@ returns-3 : tie.Need-returns-3
 returns-3 c =
     let p = c .before .before in
     let n = p .before .before in
-    let e = laid (n .before .before .before) .before .before in
+    let e = laid (n .before .before .before) .before .before .before .before .before in
     let w = written (e .before) in
     let a = start w in
     rw (tell.line-text (job a) (a .args .why) (eleven e)) (then (w .write-refusal .ensures) (rw (told n) at (p .put-needs .ensures)))
