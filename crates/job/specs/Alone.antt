@@ -7,7 +7,7 @@ use native.Mathlib.Nat.{add-zero}
 use native.Mathlib.Omega.{arith}
 use lib.ListN.{length, getD}
 use Rattle.word.specs.Both.{places}
-use Rattle.sides.specs.Alike.{AlikeBoth, both-alike}
+use Rattle.readings.specs.Alike.{AlikeBoth, both-alike}
 use Rattle.line.specs.declared.Side.{Side}
 use Rattle.line.specs.declared.Side.the-variants.{Right, Left}
 use Rattle.line.specs.Rules.{org}

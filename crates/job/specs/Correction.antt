@@ -14,7 +14,7 @@ use lib.ListN.{length, getD, take, drop, length-drop, take-append-drop}
 use lib.Seq.{ext-getD, getD-take, getD-drop, drop-drop, length-take-le}
 use Rattle.word.specs.Both.{places}
 use Rattle.word.specs.Sides as word
-use Rattle.sides.specs.Alike.{AlikeBoth, both-alike, record-alike}
+use Rattle.readings.specs.Alike.{AlikeBoth, both-alike, record-alike}
 use Rattle.line.specs.declared.Element.{Element}
 use Rattle.line.specs.declared.Side.{Side}
 use Rattle.line.specs.declared.Side.the-variants.{Right, Left}

@@ -19,8 +19,8 @@ use Rattle.word.specs.Alone.{split as by-runs, anyLonger}
 use Rattle.word.specs.Both.{Gloss, hasLeft, apart, isGroup, isJukugo, uncut}
 use Rattle.word.specs.Theorems.{Alike}
 use Rattle.word.specs.Part as parts
-use Rattle.sides.specs.Alike.{AlikeBoth}
-use Rattle.sides.specs.Parts.{leftBy, leftOfPart, glossPart, within-none}
+use Rattle.readings.specs.Alike.{AlikeBoth}
+use Rattle.readings.specs.Parts.{leftBy, leftOfPart, glossPart, within-none}
 use Rattle.door.specs.declared.Piece.{Piece}
 use Rattle.door.specs.Job.{Job, baseCount, entries, elements, given, glossOf}
 use Rattle.door.specs.Passed.{GoodElement, BaseTiled, Passed}

@@ -17,7 +17,7 @@ use Rattle.word.specs.Alone.{split, anyLonger}
 use Rattle.word.specs.Both.{Both, hasLeft, apart, uncut, places}
 use Rattle.word.specs.Sides as word
 use Rattle.word.specs.Part.{formOfPart}
-use Rattle.sides.specs.Parts.{leftOfPart}
+use Rattle.readings.specs.Parts.{leftOfPart}
 use Rattle.line.specs.declared.Element.{Element}
 use Rattle.line.specs.declared.Reading.{Reading}
 use Rattle.line.specs.declared.Side.{Side}

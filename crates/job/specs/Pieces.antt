@@ -19,7 +19,7 @@ use Rattle.word.specs.declared.Left.the-variants as left
 use Rattle.word.specs.Given.{hasRuby, isJ}
 use Rattle.word.specs.Both.{apart, isGroup, uncut}
 use Rattle.word.specs.Kept.{LeftSized}
-use Rattle.sides.specs.Standing.{runs-only}
+use Rattle.readings.specs.Standing.{runs-only}
 use Rattle.door.specs.declared.Piece.{Piece}
 use Rattle.door.specs.declared.Taken.{Taken}
 use Rattle.door.specs.Job.{Job, baseCount, elementCount, formOf, takesBase, nothing, past, element, elementsFrom, elements, given, glossOf}

@@ -14,7 +14,7 @@ use Rattle.basics.specs.Lists.{count, each, All}
 use Rattle.basics.specs.Laws.{length-count}
 use Rattle.word.specs.Given.{hasRuby}
 use Rattle.word.specs.Both.{hasLeft}
-use Rattle.sides.specs.Standing.{Standing, stand}
+use Rattle.readings.specs.Standing.{Standing, stand}
 use Rattle.line.specs.declared.Side.{Side}
 use Rattle.line.specs.declared.Side.the-variants.{Right, Left}
 use Rattle.door.specs.declared.Piece.{Piece}

@@ -5,7 +5,7 @@ use mathlib.Core.List.{List}
 use Prim.Native.Nat.{ℕ, suc, _+_, _≤_, _<_}
 use native.Mathlib.Omega.{arith}
 use lib.ListN.{length, getD}
-use Rattle.sides.specs.Standing.{between}
+use Rattle.readings.specs.Standing.{between}
 use Rattle.line.specs.declared.Element.{Element}
 use Rattle.line.specs.declared.Side.{Side}
 use Rattle.line.specs.declared.Side.the-variants.{Right, Left}

@@ -28,7 +28,7 @@ use Rattle.word.specs.declared.Reading.{Reading}
 use Rattle.word.specs.Both.{Gloss, hasLeft, apart, isGroup, isJukugo}
 use Rattle.word.specs.Sides as sides
 use Rattle.word.specs.Part.{formOfPart}
-use Rattle.sides.specs.Parts.{leftBy, leftOfPart}
+use Rattle.readings.specs.Parts.{leftBy, leftOfPart}
 use Rattle.line.specs.declared.Side.the-variants.{Right, Left}
 use Rattle.line.specs.declared.State.{State}
 use Rattle.line.specs.Setting.{start, furthest, total}

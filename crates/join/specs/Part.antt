@@ -34,7 +34,7 @@ use Rattle.word.specs.Both.{hasLeft, isGroup, isJukugo}
 use Rattle.word.specs.Sides as sides
 use Rattle.word.specs.Answered.{answerBoth}
 use Rattle.word.specs.Answered as answered
-use Rattle.sides.specs.Parts.{part-has}
+use Rattle.readings.specs.Parts.{part-has}
 use Rattle.line.specs.declared.Side.{Side}
 use Rattle.line.specs.declared.Side.the-variants.{Right, Left}
 use Rattle.word.specs.First.{Speaks, judged}

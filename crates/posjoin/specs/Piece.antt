@@ -23,8 +23,8 @@ use Rattle.word.specs.Both.{Gloss, hasLeft, isGroup}
 use Rattle.word.specs.Both as both-places
 use Rattle.word.specs.Word as word
 use Rattle.word.specs.Sides.{readingStarts}
-use Rattle.sides.specs.Standing.{base-moved, right-moved, left-moved}
-use Rattle.sides.specs.Parts.{part-has}
+use Rattle.readings.specs.Standing.{base-moved, right-moved, left-moved}
+use Rattle.readings.specs.Parts.{part-has}
 use Rattle.line.specs.declared.Side.{Side}
 use Rattle.line.specs.declared.Side.the-variants.{Right, Left}
 use Rattle.cells.specs.Cells.{cellAt, shareOf, wordAt}

@@ -28,7 +28,7 @@ use Rattle.word.specs.Both.{Gloss, hasLeft, takes, apart, isGroup, isJukugo}
 use Rattle.word.specs.Sides.{wordOf}
 use Rattle.word.specs.Kept.{LeftSized}
 use Rattle.word.specs.Answered.{mixedBoth, westernBoth, answerBoth, passed, set}
-use Rattle.sides.specs.Standing.{Ready}
+use Rattle.readings.specs.Standing.{Ready}
 
 -- the left reading of the n base characters of a J from the i-th on, with their left runs: on one character it is mono
 abbrev pub leftBy : Left → Bool → Left
