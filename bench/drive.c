@@ -2,7 +2,7 @@
  * Makes one of the measured jobs and sets it a number of times through bv_set_job, whichever engine is linked.
  *
  *     drive MIX ELEMENTS REPEATS   sets the job; prints its counts, its lines and a sum over the results
- *     drive MIX ELEMENTS sheet     prints the job as a job sheet, if its ratios and its profile are a sheet's, 1:2:1 and 0
+ *     drive MIX ELEMENTS call      writes the job as a call in lists (second/README.md, "Jobs in lists")
  *
  * With ACCOUNT defined it asks for the job's account each time instead, by bv_account_job; the sum is then over its lists.
  *
@@ -18,10 +18,12 @@
 typedef uint32_t u32;
 
 #define EM 10u
+#define ANY 0u /* a mix whose words are M, G and J */
 
 /*
  * A mix: of 8 elements `words` are of `kind` and the rest are P. Words have 1 base character, or, where `wide` is 3, 1 to 3; where it is 32, all have 32
  * with 2 ruby characters each. The ratios are those of spread ruby and of spread base. With profile 1 a P is a kana where it would else be an ideograph.
+ * Where the kind is ANY, half of the words have a left reading.
  */
 struct mix {
     const char *name;
@@ -42,23 +44,36 @@ static const struct mix mixes[] = {
     {"jukugo", BV_J, 6, 3, 440, usual, usual, 0},
     {"group-of-one", BV_G, 6, 1, 270, usual, usual, 0},
     {"jukugo-of-one", BV_J, 6, 1, 270, usual, usual, 0},
+    {"glosses", ANY, 6, 3, 400, usual, usual, 0},
     {"long-30", BV_J, 8, 32, 30, usual, usual, 0},
     {"long-200", BV_J, 8, 32, 200, usual, usual, 0},
     {"long-4000", BV_J, 8, 32, 4000, usual, usual, 0}
 };
 
-static u32 measure;
-static const u32 *ruby_ratio, *base_ratio;
-static u32 profile;
-static u32 bases, rubies, elements, runs;
 static u32 class_[BV_MOST_BASE], width[BV_MOST_BASE], before[BV_MOST_BASE], after[BV_MOST_BASE], flag[BV_MOST_BASE];
 static u32 rclass[BV_MOST_RUBY], rwidth[BV_MOST_RUBY];
+static u32 lclass[BV_MOST_LEFT], lwidth[BV_MOST_LEFT];
 static u32 kind[BV_MOST_ELEMENTS], ebase[BV_MOST_ELEMENTS], eruby[BV_MOST_ELEMENTS];
-static u32 run[BV_MOST_BASE];
+static u32 lkind[BV_MOST_ELEMENTS], eleft[BV_MOST_ELEMENTS];
+static u32 run[BV_MOST_BASE], lrun[BV_MOST_BASE];
+
+/* The job, its counts as far as it is made. */
+static bv_job job = {
+    EM, 0, usual, usual, 0,
+    0, class_, width, before, after, flag,
+    0, rclass, rwidth,
+    0, lclass, lwidth,
+    0, kind, ebase, eruby, lkind, eleft,
+    0, run,
+    0, lrun
+};
+
 #ifdef ACCOUNT
 static u32 rows[BV_ROW * BV_MOST_BASE], told[BV_MOST_BASE], extents[BV_MOST_BASE];
+static const bv_reasons reasons = {BV_ROW * BV_MOST_BASE, BV_MOST_BASE, BV_MOST_BASE, rows, told, extents};
 #else
-static u32 base[BV_MOST_BASE], ruby[BV_MOST_RUBY], lines[BV_MOST_BASE];
+static u32 base[BV_MOST_BASE], ruby[BV_MOST_RUBY], left[BV_MOST_LEFT], lines[BV_MOST_BASE];
+static const bv_places places = {BV_MOST_BASE, BV_MOST_RUBY, BV_MOST_LEFT, BV_MOST_BASE, base, ruby, left, lines};
 #endif
 
 /* The next of the sequence, below n. */
@@ -71,32 +86,50 @@ static u32 chosen(u32 n)
 
 static void add_base(u32 c, u32 w, u32 front, u32 back)
 {
-    class_[bases] = c;
-    width[bases] = w;
-    before[bases] = front;
-    after[bases] = back;
-    flag[bases] = chosen(8) != 0;
-    bases++;
+    class_[job.bases] = c;
+    width[job.bases] = w;
+    before[job.bases] = front;
+    after[job.bases] = back;
+    flag[job.bases] = chosen(8) != 0;
+    job.bases++;
 }
 
 static void add_rubies(u32 c, u32 n)
 {
     u32 i;
     for (i = 0; i < n; i++) {
-        rclass[rubies] = c;
-        rwidth[rubies] = 4 + chosen(2);
-        rubies++;
+        rclass[job.rubies] = c;
+        rwidth[job.rubies] = 4 + chosen(2);
+        job.rubies++;
     }
+}
+
+static void add_lefts(u32 c, u32 n)
+{
+    u32 i;
+    for (i = 0; i < n; i++) {
+        lclass[job.lefts] = c;
+        lwidth[job.lefts] = 3 + chosen(2);
+        job.lefts++;
+    }
+}
+
+static void add_element(u32 letter, u32 n, u32 m)
+{
+    kind[job.elements] = letter;
+    ebase[job.elements] = n;
+    eruby[job.elements] = m;
+    lkind[job.elements] = BV_LEFT_NONE;
+    eleft[job.elements] = 0;
+    job.elements++;
 }
 
 /* A P: of 4 one is punctuation, as JLReq sets it, or a space. */
 static void add_plain(void)
 {
-    kind[elements] = BV_P;
-    ebase[elements] = eruby[elements] = 0;
-    elements++;
+    add_element(BV_P, 0, 0);
     if (chosen(4) != 0) {
-        add_base(chosen(2) ? 15 : profile == 1 ? 16 : 19, EM, 0, 0);
+        add_base(chosen(2) ? 15 : job.profile == 1 ? 16 : 19, EM, 0, 0);
         return;
     }
     switch (chosen(6)) {
@@ -121,35 +154,54 @@ static void add_plain(void)
     }
 }
 
+/* A left reading for the last element, 1 to 4 characters for each of its n base characters: letters, or kana over Western base. */
+static void add_gloss(u32 letter, u32 n, int western)
+{
+    const u32 of_jukugo[3] = {BV_LEFT_M, BV_LEFT_J, BV_LEFT_G};
+    const u32 own = letter == BV_J ? of_jukugo[chosen(3)] : letter, from = (u32)job.lefts;
+    u32 i;
+    for (i = 0; i < n; i++) {
+        u32 count = 1 + chosen(4);
+        add_lefts(western ? 15 : 27, count);
+        if (letter == BV_J && own != BV_LEFT_G)
+            lrun[job.lruns_length++] = count;
+    }
+    lkind[job.elements - 1] = own;
+    eleft[job.elements - 1] = (u32)job.lefts - from;
+}
+
 /* A word with ruby. Of 8 groups one has Western base and one Western ruby. */
 static void add_word(const struct mix *mix)
 {
-    u32 script = mix->kind == BV_G ? chosen(8) : 7;
-    u32 n = mix->wide == 3 ? 1 + chosen(3) : mix->wide, m = 0, i;
+    const u32 any[3] = {BV_M, BV_G, BV_J};
+    u32 letter = mix->kind == ANY ? any[chosen(3)] : mix->kind;
+    u32 script = letter == BV_G ? chosen(8) : 7;
+    u32 n = letter == BV_M ? 1 : mix->wide == 3 ? 1 + chosen(3) : mix->wide, m = 0, i;
     for (i = 0; i < n; i++) {
         u32 own = mix->wide == 32 ? 2 : mix->wide == 3 ? 1 + chosen(3) : 1 + chosen(4);
         add_base(script == 0 ? 27 : 19, EM, 0, 0);
         add_rubies(script == 1 ? 27 : 15, own);
-        if (mix->kind == BV_J)
-            run[runs++] = own;
+        if (letter == BV_J)
+            run[job.runs_length++] = own;
         m += own;
     }
-    kind[elements] = mix->kind;
-    ebase[elements] = n;
-    eruby[elements] = m;
-    elements++;
+    add_element(letter, n, m);
+    if (mix->kind == ANY && chosen(2) == 0)
+        add_gloss(letter, n, script == 0);
 }
 
 /* 1 where the job would pass a limit. */
 static int make_job(const struct mix *mix, u32 count)
 {
-    const u32 most = mix->wide == 32 ? 64 : 9; /* ruby characters of one element */
-    measure = mix->measure;
-    ruby_ratio = mix->ruby_ratio;
-    base_ratio = mix->base_ratio;
-    profile = mix->profile;
-    while (elements < count) {
-        if (elements == BV_MOST_ELEMENTS || bases + mix->wide > BV_MOST_BASE || rubies + most > BV_MOST_RUBY)
+    const u32 most = mix->wide == 32 ? 64 : 9, of_gloss = 12; /* characters of one reading */
+    job.measure = mix->measure;
+    job.ruby_ratio = mix->ruby_ratio;
+    job.base_ratio = mix->base_ratio;
+    job.profile = mix->profile;
+    while (job.elements < count) {
+        if (job.elements == BV_MOST_ELEMENTS || job.bases + mix->wide > BV_MOST_BASE)
+            return 1;
+        if (job.rubies + most > BV_MOST_RUBY || job.lefts + of_gloss > BV_MOST_LEFT)
             return 1;
         if (chosen(8) < mix->words)
             add_word(mix);
@@ -159,49 +211,70 @@ static int make_job(const struct mix *mix, u32 count)
     return 0;
 }
 
-static void print_sheet(void)
+static void put_words(const u32 *list, size_t n)
 {
-    u32 i, j, u = 0;
-    printf("set 2\n%u\n%u\nbase %u\n", EM, measure, bases);
-    for (i = 0; i < bases; i++)
-        printf("%u %u %u %u %u\n", class_[i], width[i], before[i], after[i], flag[i]);
-    printf("ruby %u\n", rubies);
-    for (i = 0; i < rubies; i++)
-        printf("%u %u\n", rclass[i], rwidth[i]);
-    printf("elem %u\n", elements);
-    for (i = 0; i < elements; i++) {
-        if (kind[i] == BV_P) {
-            printf("P\n");
-        } else if (kind[i] == BV_M) {
-            printf("M %u\n", eruby[i]);
-        } else if (kind[i] == BV_G) {
-            printf("G %u %u\n", ebase[i], eruby[i]);
-        } else {
-            printf("J %u", ebase[i]);
-            for (j = 0; j < ebase[i]; j++)
-                printf(" %u", run[u++]);
-            printf("\n");
-        }
-    }
+    fwrite(list, sizeof list[0], n, stdout);
 }
 
-static u32 sum_over(u32 sum, const u32 *list, u32 n)
+/* A call of bv_set_job: what is asked, the lengths, and the memory; each list has a word before it, and one is behind the last. */
+static void print_call(void)
 {
-    u32 i;
+    static const u32 room[BV_MOST_RUBY];
+    const u32 *lists[22];
+    size_t lengths[22], i, l = 0;
+    u32 head[4], length;
+#define ADD(list, n) (lists[l] = (list), lengths[l++] = (n))
+    ADD(job.ruby_ratio, 3);
+    ADD(job.base_ratio, 3);
+    ADD(class_, job.bases);
+    ADD(width, job.bases);
+    ADD(before, job.bases);
+    ADD(after, job.bases);
+    ADD(flag, job.bases);
+    ADD(rclass, job.rubies);
+    ADD(rwidth, job.rubies);
+    ADD(lclass, job.lefts);
+    ADD(lwidth, job.lefts);
+    ADD(kind, job.elements);
+    ADD(ebase, job.elements);
+    ADD(eruby, job.elements);
+    ADD(lkind, job.elements);
+    ADD(eleft, job.elements);
+    ADD(run, job.runs_length);
+    ADD(lrun, job.lruns_length);
+    ADD(room, job.bases);
+    ADD(room, job.rubies);
+    ADD(room, job.lefts);
+    ADD(room, job.bases);
+#undef ADD
+    head[0] = 0;
+    head[1] = job.em;
+    head[2] = job.measure;
+    head[3] = job.profile;
+    put_words(head, 4);
+    for (i = 2; i < l; i++) {
+        length = (u32)lengths[i];
+        put_words(&length, 1);
+    }
+    for (i = 0; i < l; i++) {
+        put_words(room, 1);
+        put_words(lists[i], lengths[i]);
+    }
+    put_words(room, 1);
+}
+
+static u32 sum_over(u32 sum, const u32 *list, size_t n)
+{
+    size_t i;
     for (i = 0; i < n; i++)
         sum = 31 * sum + list[i];
     return sum;
 }
 
-/* A job: its ratios, its profile and its eleven lists, each of these with its length. */
-#define JOB \
-    EM, measure, ruby_ratio, base_ratio, profile, class_, bases, width, bases, before, bases, after, bases, flag, bases, \
-        rclass, rubies, rwidth, rubies, kind, elements, ebase, elements, eruby, elements, run, runs
-
 #ifdef ACCOUNT
 static bv_answer asked(void)
 {
-    return bv_account_job(JOB, rows, BV_ROW * BV_MOST_BASE, told, BV_MOST_BASE, extents, BV_MOST_BASE);
+    return bv_account(&job, &reasons);
 }
 
 static u32 sum_of(bv_answer a)
@@ -212,12 +285,12 @@ static u32 sum_of(bv_answer a)
 #else
 static bv_answer asked(void)
 {
-    return bv_set_job(JOB, base, BV_MOST_BASE, ruby, BV_MOST_RUBY, lines, BV_MOST_BASE);
+    return bv_set(&job, &places);
 }
 
 static u32 sum_of(bv_answer a)
 {
-    return sum_over(sum_over(sum_over(a.number, base, bases), ruby, rubies), lines, a.place);
+    return sum_over(sum_over(sum_over(sum_over(a.number, base, job.bases), ruby, job.rubies), left, job.lefts), lines, a.place);
 }
 #endif
 
@@ -230,19 +303,16 @@ int main(int count, char **words)
     while (count == 4 && m < known && strcmp(words[1], mixes[m].name) != 0)
         m++;
     if (count != 4 || m == known || make_job(&mixes[m], (u32)strtoul(words[2], 0, 10))) {
-        printf("usage: drive MIX ELEMENTS REPEATS|sheet, within the limits of a job\n");
+        printf("usage: drive MIX ELEMENTS REPEATS|call, within the limits of a job\n");
         return 2;
     }
-    if (strcmp(words[3], "sheet") == 0) {
-        if (ruby_ratio != usual || base_ratio != usual || profile != 0) {
-            printf("drive: a sheet has no ratios and no profile, and %s has its own\n", words[1]);
-            return 2;
-        }
-        print_sheet();
+    if (strcmp(words[3], "call") == 0) {
+        print_call();
         return 0;
     }
     for (repeats = strtoul(words[3], 0, 10); repeats > 0; repeats--)
         a = asked();
-    printf("elements %u base %u ruby %u answer %u lines %u sum %u\n", elements, bases, rubies, a.number, a.place, sum_of(a));
+    printf("elements %u base %u ruby %u answer %u lines %u sum %u left %u\n", (u32)job.elements, (u32)job.bases,
+           (u32)job.rubies, a.number, a.place, sum_of(a), (u32)job.lefts);
     return a.number != 0;
 }

@@ -22,7 +22,7 @@ struct lists {
     u32 bases, rubies, elements, runs;
     u32 class_[BV_MOST_BASE], width[BV_MOST_BASE], before[BV_MOST_BASE], after[BV_MOST_BASE], flag[BV_MOST_BASE];
     u32 rclass[BV_MOST_RUBY], rwidth[BV_MOST_RUBY];
-    u32 kind[BV_MOST_ELEMENTS], ebase[BV_MOST_ELEMENTS], eruby[BV_MOST_ELEMENTS];
+    u32 kind[BV_MOST_ELEMENTS], ebase[BV_MOST_ELEMENTS], eruby[BV_MOST_ELEMENTS], lkind[BV_MOST_ELEMENTS];
     u32 run[MOST_RUNS];
 };
 
@@ -108,6 +108,7 @@ static int reads_element(struct reader *r, struct lists *s, u32 i)
 {
     u32 n;
     s->ebase[i] = s->eruby[i] = 0;
+    s->lkind[i] = BV_LEFT_NONE;
     if (r->at == r->length)
         return 0;
     s->kind[i] = r->bytes[r->at++];
@@ -282,11 +283,45 @@ static void put_result(struct text *t, const struct lists *s, u32 count, const u
     }
 }
 
+/* A sheet has no ratios, no profile, which is 0, and no left readings. */
+static bv_answer set_lists(const struct lists *s, const bv_places *to)
+{
+    static const u32 usual[3] = {1, 2, 1};
+    bv_job j;
+    j.em = s->em;
+    j.measure = s->measure;
+    j.ruby_ratio = j.base_ratio = usual;
+    j.profile = 0;
+    j.bases = s->bases;
+    j.class_ = s->class_;
+    j.width = s->width;
+    j.before = s->before;
+    j.after = s->after;
+    j.flag = s->flag;
+    j.rubies = s->rubies;
+    j.rclass = s->rclass;
+    j.rwidth = s->rwidth;
+    j.lefts = 0;
+    j.lclass = s->rclass;
+    j.lwidth = s->rwidth;
+    j.elements = s->elements;
+    j.kind = s->kind;
+    j.ebase = s->ebase;
+    j.eruby = s->eruby;
+    j.lkind = s->lkind;
+    j.eleft = s->eruby;
+    j.runs_length = s->runs;
+    j.runs = s->run;
+    j.lruns_length = 0;
+    j.lruns = s->run;
+    return bv_set(&j, to);
+}
+
 size_t bv_set_sheet(const uint8_t *sheet, size_t length, uint8_t *out)
 {
-    static const u32 usual[3] = {1, 2, 1}; /* a sheet has no ratios and no profile, which is 0 */
     static struct lists s;
-    static u32 base[BV_MOST_BASE], ruby[BV_MOST_RUBY], lines[BV_MOST_BASE];
+    static u32 base[BV_MOST_BASE], ruby[BV_MOST_RUBY], left[1], lines[BV_MOST_BASE];
+    static const bv_places places = {BV_MOST_BASE, BV_MOST_RUBY, 0, BV_MOST_BASE, base, ruby, left, lines};
     struct reader r;
     struct text t;
     bv_answer a;
@@ -298,10 +333,7 @@ size_t bv_set_sheet(const uint8_t *sheet, size_t length, uint8_t *out)
     t.length = 0;
     a = length > LARGEST_SHEET ? refused(13, 0) : read_sheet(&r, &s);
     if (a.number == 0)
-        a = bv_set_job(s.em, s.measure, usual, usual, 0, s.class_, s.bases, s.width, s.bases, s.before, s.bases,
-                       s.after, s.bases, s.flag, s.bases, s.rclass, s.rubies, s.rwidth, s.rubies, s.kind, s.elements, s.ebase,
-                       s.elements, s.eruby, s.elements, s.run, s.runs, base, BV_MOST_BASE, ruby, BV_MOST_RUBY, lines,
-                       BV_MOST_BASE);
+        a = set_lists(&s, &places);
     if (a.number)
         put_row(&t, "refused ", a.number, a.place);
     else

@@ -52,6 +52,9 @@ class Trouble(Exception):
 # A sheet and its result
 # ---------------------------------------------------------------------------
 
+# The sides of a reading: the letter of its lines in a result, and its name.
+SIDES = (('r', 'ruby'), ('l', 'left ruby'))
+
 # An element of a sheet: its own line, and the lines of its characters.
 Element = collections.namedtuple('Element', 'line base ruby')
 
@@ -72,7 +75,7 @@ class Piece:
         self.element = element      # its number
         self.first = first          # its first base character in the element
         self.base = []              # the positions in the line
-        self.ruby = []
+        self.rubies = {letter: [] for letter, _ in SIDES}
 
     def end(self):
         return self.first + len(self.base)
@@ -105,10 +108,10 @@ def counts(row):
 
 
 def read_lines(rows, elements):
-    """The lines of a result: `line EXTENT`, `b INDEX POSITION`, `r ..`.
+    """The lines of a result: `line EXTENT`, `b INDEX POSITION`, `r`, `l ..`.
 
-    The result goes element by element, base before ruby, so a ruby character
-    belongs to the piece whose base characters came last.
+    The result goes element by element, base before readings, so a character
+    of a reading belongs to the piece whose base characters came last.
     """
     owner = [(number, place) for number, element in enumerate(elements)
              for place in range(len(element.base))]
@@ -120,8 +123,8 @@ def read_lines(rows, elements):
             lines.append(Line(numbers[0], []))
             continue
         pieces, (index, position) = lines[-1].pieces, numbers
-        if word == 'r':
-            pieces[-1].ruby.append(position)
+        if word != 'b':
+            pieces[-1].rubies[word].append(position)
             continue
         number, place = owner[index]
         if not pieces or pieces[-1].element != number:
@@ -165,7 +168,7 @@ def set_sheet(file, setting):
                       % (printable(file), setting[0], done.returncode))
     try:
         return read_page(sheet, done.stdout)
-    except (ValueError, IndexError, TypeError):
+    except (ValueError, LookupError, TypeError):
         raise Trouble('%s: %s gave no whole answer'
                       % (printable(file), setting[0]))
 
@@ -352,17 +355,27 @@ def moved_words(pairs):
 def own_words(old, new):
     """What moved otherwise than the element's first base character."""
     by, number = amount(old, new), new.element
-    if new.ruby and not old.ruby:
-        yield 'element %d has ruby now' % number
-    elif old.ruby and not new.ruby:
-        yield 'element %d has no ruby now' % number
-    elif old.ruby and new.ruby[0] - old.ruby[0] != by:
-        ruby_by = new.ruby[0] - old.ruby[0]
-        yield 'ruby of element %d %s' % (
-            number, 'moved by %d' % ruby_by if ruby_by != 0 else 'stayed')
-    elif ([position + by for position in old.base] != new.base
-          or [position + by for position in old.ruby] != new.ruby):
+    words = [side_words(number, name, old.rubies[letter], new.rubies[letter],
+                        by) for letter, name in SIDES]
+    if any(words):
+        yield from filter(None, words)
+    elif any([position + by for position in was] != now for was, now in zip(
+            (old.base, *old.rubies.values()),
+            (new.base, *new.rubies.values()))):
         yield 'element %d is set otherwise within itself' % number
+
+
+def side_words(number, name, old, new, by):
+    """What a reading does otherwise than its base, which moved by `by`."""
+    if new and not old:
+        return 'element %d has %s now' % (number, name)
+    if old and not new:
+        return 'element %d has no %s now' % (number, name)
+    if old and new[0] - old[0] != by:
+        ruby_by = new[0] - old[0]
+        return '%s of element %d %s' % (
+            name, number, 'moved by %d' % ruby_by if ruby_by != 0 else 'stayed')
+    return None
 
 
 def line_words(old_line, new_line, match):

@@ -326,6 +326,52 @@ class CountsThatDiffer(Case):
                   sheet([p(), p()]), sheet([]))
 
 
+class LeftReadings(unittest.TestCase):
+    """Lines `l` of a result: no sheet has left readings yet (R-6).
+
+    Two mono words, as a result would have them with left readings: all three
+    strings of a word are centred on the longest.
+    """
+
+    ELEMENTS = [compare.Element('M 1', ['19 10 0 0 1'], ['15 5'])] * 2
+
+    def told(self, old, new):
+        lines = [compare.read_lines(rows.split('; '), self.ELEMENTS)[0]
+                 for rows in (old, new)]
+        return compare.line_words(*lines, [0, 1])
+
+    # Left readings of 30 hu over 20: they touch at 30, and the second base
+    # stands at 35.
+    BOTH = ('line 60; b 0 5; r 0 10; l 0 0; l 1 10; l 2 20; '
+            'b 1 35; r 1 40; l 3 30; l 4 40; l 5 50')
+
+    def test_as_it_was(self):
+        self.assertEqual(self.told(self.BOTH, self.BOTH), '')
+
+    def test_a_shorter_left_reading(self):
+        # Two left characters on the first: it starts at its base, 0; the
+        # second word follows at 20, with its left reading.
+        self.assertEqual(self.told(self.BOTH, (
+            'line 50; b 0 0; r 0 5; l 0 0; l 1 10; '
+            'b 1 25; r 1 30; l 3 20; l 4 30; l 5 40')),
+            'element 0 moved by -5, 1 by -10; left ruby of element 0 stayed; '
+            'extent 60, now 50')
+
+    def test_put_on_and_taken_off(self):
+        none = 'line 40; b 0 0; r 0 5; b 1 20; r 1 25'
+        self.assertEqual(self.told(none, self.BOTH), (
+            'element 0 moved by 5, 1 by 15; element 0 has left ruby now; '
+            'element 1 has left ruby now; extent 40, now 60'))
+        self.assertEqual(self.told(self.BOTH, none), (
+            'element 0 moved by -5, 1 by -15; element 0 has no left ruby now; '
+            'element 1 has no left ruby now; extent 60, now 40'))
+
+    def test_within_itself(self):
+        # The second left character of the first word alone stands elsewhere.
+        self.assertEqual(self.told(self.BOTH, self.BOTH.replace(
+            'l 1 10', 'l 1 11')), 'element 0 is set otherwise within itself')
+
+
 class RefusedSheets(Case):
 
     def test_each_and_both(self):
@@ -588,6 +634,7 @@ class Command(Case):
         for script in ('cat', 'echo lines 1', 'printf "lines 0"', 'echo',
                        'printf "lines 1\\nline 20\\nb 7 0\\n"', ':',
                        'printf "lines 1\\nb 0 0\\n"', 'echo refused 11',
+                       'printf "lines 1\\nline 20\\nb 0 0\\nq 0 0\\n"',
                        'printf "refused 1 0\\nrefused 1 0\\n"'):
             self.setting(script)
             self.trouble('%s: %s gave no whole answer' % (self.old, program),

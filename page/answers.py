@@ -26,7 +26,7 @@ Line = collections.namedtuple('Line', 'extent pieces')
 Row = collections.namedtuple(
     'Row', 'element at gap rule what touched other depth')
 
-# A page that is set; readings counts the elements that have one.
+# A page that is set; an element with a left reading has two readings.
 Page = collections.namedtuple('Page', 'sheet lines readings')
 
 # A sheet that is refused.  needs is (extent, measure) for number 11.

@@ -94,11 +94,12 @@ def figure(view, line, at, moves=None, **attributes):
 
 def verdict(page):
     """The account's verdict in words."""
-    return tag('p', '%s %s, %s with a reading, in %s: every element stands '
-               'clear of all others.' % (
+    return tag('p', '%s %s, %s, in %s: every element stands clear of all '
+               'others.' % (
                    tag('b', 'Clear'),
                    counted(len(page.sheet.elements), 'element'),
-                   page.readings, counted(len(page.lines), 'line')),
+                   counted(page.readings, 'reading'),
+                   counted(len(page.lines), 'line')),
                class_='verdict')
 
 

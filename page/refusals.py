@@ -20,13 +20,14 @@ MEANINGS = {
         'sheet (place 0) or line 3 (place 1).'),
     2: Meaning(
         'a count is over its maximum',
-        '0 base, 1 ruby, 2 elements',
+        '0 base, 1 ruby, 2 elements, 3 left',
         'This job is too large for one sheet: please split it, so that each '
         'has at most 1,024 base characters, 2,048 ruby characters and 1,024 '
         'elements.'),
     3: Meaning(
         'a class, width or flag is not accepted',
-        'the base character; 1,024 + index for a ruby character',
+        'the base character; 1,024 + index for a ruby character, 3,072 + '
+        'index for a left one',
         "One character has a class, width or flag that we don't know: classes "
         'are 1 to 19 and 24 to 27, widths 1 to 4,096, flags 0 or 1; it is the '
         'one that the place counts to, from 0.'),
@@ -38,7 +39,7 @@ MEANINGS = {
         "dots both, and never more than the character's width."),
     5: Meaning(
         "an element's counts are out of range (through the library also: its "
-        'kind is unknown)',
+        'kind or its left kind is unknown)',
         'the element',
         'This word has too few or too many characters: every reading has 1 to '
         '64 ruby characters, every group or jukugo 1 to 32 base characters, '
@@ -60,14 +61,14 @@ MEANINGS = {
         'Every character of a jukugo word has to be a Japanese character of '
         "exactly the em's width; please set the word as a group instead."),
     9: Meaning(
-        'class 26, or Western and kana-like mixed, in the base or in the ruby '
-        'of G or J',
+        'class 26, or Western and kana-like mixed, in the base, in the ruby '
+        'or in the left characters of G or J',
         'the element',
         'The word, or its reading, mixes Western letters and Japanese '
         'characters, or has a Western space in it; please split it into words '
         'of one kind.'),
     10: Meaning(
-        'Western ruby over Western base in a G',
+        'Western ruby, or Western left characters, over Western base in a G',
         'the element',
         "A reading in Western letters can't stand over a word in Western "
         'letters as a group.'),
@@ -90,11 +91,19 @@ MEANINGS = {
         '0 the ruby ratio, 1 the base ratio',
         "Each of a ratio's three numbers has to be from 0 to 7, and they "
         "can't all be 0."),
+    16: Meaning(
+        'the element does not take a left reading of this kind',
+        'the element',
+        'A gloss is mono on a mono word, group on a group, and mono, jukugo '
+        'or group on a jukugo; a plain character has none.'),
     20: Meaning(
         'the profile is over 1', '0',
         'The profile has to be 0, or 1 for readings that may lie on kana.')}
 
-RUBY_PLACE = 1024       # where the places of ruby characters begin (number 3)
+# Where the places of the characters of each side's readings begin (number 3):
+# their section, what they are called, their letter.
+RUBY_PLACES = ((3072, 'left', 'left character', 'l'),
+               (1024, 'ruby', 'ruby character', 'r'))
 
 
 # ---------------------------------------------------------------------------
@@ -132,8 +141,10 @@ def line_on_sheet(refused, rows, sheet):
         return None
     if number in (1, 15, 20):
         return 2 + place if number == 1 else None
-    if number == 3 and place >= RUBY_PLACE:
-        return in_section(sheet, 'ruby', place - RUBY_PLACE)
+    if number == 3:
+        for first, name, _, _ in RUBY_PLACES:
+            if place >= first:
+                return in_section(sheet, name, place - first)
     if number in (3, 4, 11):
         return in_section(sheet, 'base', place)
     return in_section(sheet, 'elem', place)
@@ -148,17 +159,24 @@ def place_words(refused, line, sheet, text):
     if number in (1, 2):
         of = (('the em', 'the measure') if number == 1 else
               ('the count of base characters', 'the count of ruby characters',
-               'the count of elements'))
+               'the count of elements', 'the count of left characters'))
         told = of[place] if place < len(of) else 'place %d' % place
-    elif number == 3 and place >= RUBY_PLACE:
-        told = named('ruby character', text, 'r', place - RUBY_PLACE)
     elif number in (3, 4, 11):
-        told = named('base character', text, 'b', place)
+        told = character_words(number, place, text)
     elif sheet is not None and place == len(sheet.elements):
         told = 'the end of the elements: some characters are left over'
     else:
         told = 'element %d' % place
     return told + (', line %d of the sheet' % line if line else '')
+
+
+def character_words(number, place, text):
+    """The character that a place means, by number 3, 4 or 11."""
+    if number == 3:
+        for first, _, what, letter in RUBY_PLACES:
+            if place >= first:
+                return named(what, text, letter, place - first)
+    return named('base character', text, 'b', place)
 
 
 def named(what, text, letter, index):

@@ -63,7 +63,7 @@ class Examples(Case):
 
     def test_no_elements(self):
         told = self.check(b'set 2\n10\n35\nbase 0\nruby 0\nelem 0\n')
-        self.assertIn('0 elements, 0 with a reading, in 0 lines', told)
+        self.assertIn('0 elements, 0 readings, in 0 lines', told)
 
     def test_a_measure_that_is_far_away(self):
         sheet = b'set 2\n2\n4000000\nbase 1\n19 2 0 0 1\nruby 0\nelem 1\nP\n'
@@ -122,7 +122,8 @@ class BothSides(Case):
     # left: the longest is 40 hu, so left from 0, right from 5, base from 10.
     # 1 has no left one; its base waits for the left reading of 0, at 40.  2
     # has 3 left, 5 ahead of its base; they wait for the base of 1, at 60.
-    # The left reading of 3 waits for that of 2, at 90.
+    # The left reading of 3 waits for that of 2, at 90.  Four right readings
+    # and three left ones are seven.
     #
     # space: 目 and 手 with left readings of 30 hu over 20, and a space of 6
     # between, as in K12: both lie on it, and rule 3 holds the second.
@@ -171,6 +172,12 @@ class BothSides(Case):
              'one half unit nearer, rule 3 would be broken. The gap, 10 = 5 + '
              '5: the left reading of 2 runs 5 past its base and its own left '
              'reading begins 5 ahead of its base.'])
+
+    def test_readings_of_both_sides_are_counted(self):
+        for name, told in (('bilingual', '4 elements, 7 readings, in 1 line'),
+                           ('space', '3 elements, 4 readings, in 1 line')):
+            sheet, ask, text = sample(name)
+            self.assertIn(told, self.check(sheet, text, ask=ask))
 
     def test_depths_of_both_sides(self):
         sheet, ask, text = sample('space')

@@ -39,7 +39,7 @@ class Refused(Case):
 
     def test_the_table_is_the_manuals(self):
         manual = manual_rows()
-        self.assertEqual(len(manual), 15)
+        self.assertEqual(len(manual), 16)
         self.assertEqual({number: tuple(told) for number, told
                           in refusals.MEANINGS.items()}, manual)
 

@@ -6,8 +6,5 @@ the engine knows.  The landing of a request sets its name to True and alters
 nothing else (README.md, "Ahead of the engine").
 """
 
-# R-5: jobs in lists have left lists, in calls and in the generated jobs.
-LEFT_READINGS = False
-
 # R-6: sheets of form two are read, and generated among the others.
 FORM_TWO = False

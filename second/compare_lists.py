@@ -1,12 +1,12 @@
 """Compares calls on jobs in lists with the second program, list by list.
 
     python3 compare_lists.py --engine CMD --seed S --count N [--setting-only]
-                             [--left]
+                             [--no-left]
 
 CMD reads calls on standard input and answers them (README.md, "Jobs in
 lists"), as lists.c does, linked with an engine, and lists.py.  Each of the N
 jobs goes through bv_set_job and bv_account_job, with --setting-only through
-the first alone.  With --left the jobs have the left lists of R-5.  Compared
+the first alone.  With --no-left no job has left readings.  Compared
 are the answer and every word of the memory after the call: the result lists,
 which hold fresh numbers before it, in full; that a refusal alters none of
 them; that the lists which are read, and what stands around all of them, are as
@@ -27,8 +27,7 @@ import sys
 HERE = os.path.dirname(os.path.abspath(__file__))
 sys.path.insert(0, HERE)
 
-import ahead            # noqa: E402  (found through the path set above)
-import compare          # noqa: E402
+import compare          # noqa: E402  (found through the path set above)
 import generate_lists   # noqa: E402
 import lists            # noqa: E402
 import second           # noqa: E402
@@ -37,10 +36,10 @@ SHOWN = 5       # jobs with a difference that are printed
 WRONG = 8       # things that are printed of one such job
 ENOUGH = 4000   # jobs that have to show every refusal and every ratio
 
-# Every number of the refusal list that a job in lists can get, and the one
-# that left lists add.
-REFUSALS = (1, 2, 3, 4, 5, 6, 7, 8, 9, 10, 11, 12, 15, 20)
-REFUSALS_WITH_LEFT = REFUSALS + (16,)
+# Every number of the refusal list that a job in lists can get, and those that
+# it can get without left readings.
+REFUSALS = (1, 2, 3, 4, 5, 6, 7, 8, 9, 10, 11, 12, 15, 16, 20)
+REFUSALS_WITHOUT_LEFT = tuple(number for number in REFUSALS if number != 16)
 PROFILES = (0, 1)
 NAMES = ('bv_set_job', 'bv_account_job')
 
@@ -94,16 +93,10 @@ def verdict_words(answer):
     return ' '.join(map(str, answer))
 
 
-def names_of(call):
-    """(names of the lists that are read, of the result lists)"""
-    given, results = lists.names(lists.has_left(call.given))
-    return given, results[call.which]
-
-
 def labels(call):
     """What each word of the memory is."""
-    given, results = names_of(call)
-    names = ('ruby ratio', 'base ratio') + given + results
+    names = ('ruby ratio', 'base ratio', *lists.GIVEN,
+             *lists.RESULTS[call.which])
     for name, length in zip(names, [3, 3] + call.lengths()):
         yield 'the word before %s' % name
         for place in range(length):
@@ -134,11 +127,10 @@ def show_difference(number, call, wrong):
     print('    em %d, measure %d, ratios %s and %s, profile %d' % (
         call.em, call.measure, *(':'.join(map(str, ratio))
                                  for ratio in call.ratios), call.profile))
-    given, results = names_of(call)
-    for name, values in zip(given, call.given):
+    for name, values in zip(lists.GIVEN, call.given):
         print('    %s %r' % (name, values))
     print('    lengths of %s: %s' % (
-        ', '.join(results),
+        ', '.join(lists.RESULTS[call.which]),
         ', '.join(str(len(values)) for values in call.results)))
 
 
@@ -154,28 +146,27 @@ LEFT_KINDS = tuple((kind, left) for kind, taken in second.TAKEN.items()
 def left_kinds_of(call):
     """(kind, left kind) of each element of an accepted job with a left one."""
     *_, kinds, _, _, _, left = lists.job_lists(call.given)
-    if left is None:
-        return []
     return [(kind, other) for kind, other in zip(kinds, left.left_kind)
             if kind != second.P and other != second.N]
 
 
 class Seen:
-    """Counts over the jobs and the second program's answers."""
+    """Counts over the jobs and the second program's answers.
 
-    def __init__(self):
+    left: the jobs have left readings.
+    """
+
+    def __init__(self, left=True):
         self.answers = collections.Counter()    # by number, 0 if accepted
         self.ratios = (set(), set())            # of ruby and of base
         self.profiles = collections.Counter()   # of accepted jobs
         self.lefts = collections.Counter()      # left kinds in accepted jobs
-        self.refusals = REFUSALS                # those that have to be seen
-        self.left_kinds = ()                    # the same, (kind, left kind)
+        # Those that have to be seen; left kinds as (kind, left kind).
+        self.refusals = REFUSALS if left else REFUSALS_WITHOUT_LEFT
+        self.left_kinds = LEFT_KINDS if left else ()
 
     def add(self, call, answer):
         self.answers[0 if answer[0] == 'set' else answer[1]] += 1
-        if lists.has_left(call.given):
-            self.refusals = REFUSALS_WITH_LEFT
-            self.left_kinds = LEFT_KINDS
         if answer[0] == 'set':
             self.profiles[call.profile] += 1
             self.lefts.update(left_kinds_of(call))
@@ -231,10 +222,9 @@ def answered_jobs(command, seed, count, functions, left):
             yield [(call, call.answered(), next(found)) for call in calls]
 
 
-def compare_all(command, seed, count, functions=len(NAMES),
-                left=ahead.LEFT_READINGS):
+def compare_all(command, seed, count, functions=len(NAMES), left=True):
     """(what was seen, jobs with a difference)"""
-    seen, differences = Seen(), 0
+    seen, differences = Seen(left), 0
     for job in answered_jobs(command, seed, count, functions, left):
         call, (answer, _), _ = job[0]
         seen.add(call, answer)
@@ -255,13 +245,12 @@ def main():
     parser.add_argument('--count', type=int, required=True)
     parser.add_argument('--setting-only', action='store_true',
                         help='an engine that has no bv_account_job')
-    parser.add_argument('--left', action='store_true',
-                        default=ahead.LEFT_READINGS,
-                        help='jobs with left readings')
+    parser.add_argument('--no-left', action='store_true',
+                        help='jobs without left readings')
     chosen = parser.parse_args()
     seen, differences = compare_all(
         shlex.split(chosen.engine), chosen.seed, chosen.count,
-        1 if chosen.setting_only else len(NAMES), chosen.left)
+        1 if chosen.setting_only else len(NAMES), not chosen.no_left)
     missing = list(seen.missing()) if chosen.count >= ENOUGH else []
     for words in missing:
         print('missing: %s' % words)

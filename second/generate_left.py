@@ -435,6 +435,31 @@ def groups(rng):
 
 
 # ---------------------------------------------------------------------------
+# Reasons that hold at once
+# ---------------------------------------------------------------------------
+
+def ties(rng):
+    """(em, measure, lists, Left): words, each reading of one character.
+
+    Their readings pass the base by few different amounts and by sums of
+    them, so that several rules often hold one element, on one side or on
+    both.  Some plain elements are spaces, the job's first too.
+    """
+    words = [rng.choice(((M, 1, [1], M, [1]), (M, 1, [1], M, [1]),
+                         (M, 1, [1], N, []), (J, 2, [1, 1], M, [1, 1]),
+                         (P, 1, [], N, [])))
+             for _ in range(2 + rng.randrange(5))]
+    given, left = built(words, 10, lambda: rng.choice((8, 10, 12, 14, 16)),
+                        lambda: rng.choice((8, 10, 12, 14, 16, 18, 20)))
+    place = 0
+    for kind, count, *_ in words:
+        if kind == P:
+            given[0][place] = rng.choice((14, 14, 15, 19))
+        place += count
+    return 10, rng.choice((40, 60, 100)), given, left
+
+
+# ---------------------------------------------------------------------------
 # Faults that meet in one element
 # ---------------------------------------------------------------------------
 
@@ -477,11 +502,14 @@ def paint(rng, classes, ways):
 
 def meeting(rng):
     """(em, measure, lists, Left): small words, faults of one or two kinds."""
-    way = rng.choice(('sorts', 'sorts', 'sorts', 'kinds', 'kinds', 'unknown',
-                      'lengths', 'runs', 'runs', 'characters', 'lists'))
+    way = rng.choice(('sorts', 'sorts', 'sorts', 'sorts by run', 'kinds',
+                      'kinds', 'unknown', 'lengths', 'runs', 'runs',
+                      'characters', 'lists'))
     words = [small_word(rng) for _ in range(1 + rng.randrange(2))]
     if way == 'sorts' and rng.randrange(2) == 0:
         words = [(G, 1 + rng.randrange(2), [2], G, [2])]
+    if way == 'sorts by run':
+        words = [(J, 2, [1, 1], rng.choice((M, J)), [1, 2])]
     if way == 'kinds':
         words.append(sound_kind_not_taken(rng))
     given, left = built(words, 10, lambda: rng.choice((5, 5, 1)),
@@ -495,6 +523,10 @@ def meeting(rng):
         if rng.randrange(3) == 0:
             paint(rng, given[0], ('kana',))
             paint(rng, given[5], ('kana', 'western'))
+    if way == 'sorts by run':
+        # 9 of the left characters together, no run of two sorts; or none.
+        left.left_class[:] = rng.choice(([27, 15, 15], [15, 24, 25],
+                                         [26, 15, 15], [27, 24, 25]))
     if way == 'kinds':
         # 5, 16 and 6 in one element.
         other = rng.choice(('none', 'left', 'right', 'base', 'count',
@@ -565,6 +597,8 @@ def with_left_readings(rng, em, measure, given):
         return meeting(rng)
     if way <= 26:
         return groups(rng)
+    if way <= 30:
+        return ties(rng)
     return (em, *put_left(rng, em, measure, given))
 
 

@@ -3,9 +3,9 @@
 The jobs are those of generated sheets, by ratios of every sort and by both
 profiles.  Some of them are altered: lists of unequal lengths, spare runs,
 counts that are not read, unknown kinds, counts over their maximum, result
-lists that are too short.  As in generate.py only randrange and choice are used.
-With left readings (R-5) every job goes through generate_left.py, which has
-what those bring.
+lists that are too short.  Every job goes through generate_left.py, which has
+what left readings (R-5) bring.  As in generate.py only randrange and choice
+are used.
 """
 
 import os
@@ -14,8 +14,7 @@ import sys
 
 sys.path.insert(0, os.path.dirname(os.path.abspath(__file__)))
 
-import ahead        # noqa: E402  (found through the path set above)
-import generate     # noqa: E402
+import generate     # noqa: E402  (found through the path set above)
 import generate_left    # noqa: E402
 import second       # noqa: E402
 from account import ROW  # noqa: E402
@@ -315,19 +314,22 @@ def some_job(rng, sides):
 def rooms_needed(given, left):
     """What each function's result lists need at least, and what is most."""
     base, ruby = count_of(given, 0), count_of(given, 1)
-    if left is None:
-        return ((SET, (base, ruby, base), (1024, 2048, 1024)),
-                (ACCOUNT, (ROW * base, base, base), (ROW * 1024, 1024, 1024)))
     lefts = min(len(left.left_class), len(left.left_width))
     return ((SET, (base, ruby, lefts, base), (1024, 2048, 2048, 1024)),
             (ACCOUNT, (ROW * base, base, base, 0),
              (ROW * 1024, 1024, 1024, 0)))
 
 
-def calls(seed, count, left=ahead.LEFT_READINGS):
+def no_left_readings(given):
+    """A Left of a job without left readings, as short as its shortest list."""
+    count = count_of(given, 2)
+    return second.Left([], [], [second.N] * count, [0] * count, [])
+
+
+def calls(seed, count, left=True):
     """The first count jobs of a seed: (call of set_job, of account_job).
 
-    left: with the left lists of R-5.
+    left: with left readings; else the left lists have none.
     """
     rng = random.Random(seed)
     sides = Ratios(rng), Ratios(rng)
@@ -339,16 +341,17 @@ def calls(seed, count, left=ahead.LEFT_READINGS):
 
     for _ in range(count):
         em, measure, ratios, profile, given, short = some_job(rng, sides)
-        lefts = None
         if left:
             em, measure, given, lefts = generate_left.with_left_readings(
                 rng, em, measure, given)
             ratios = generate_left.some_ratios(rng, ratios)
+        else:
+            lefts = no_left_readings(given)
         both = []
         for which, needs, most in rooms_needed(given, lefts):
             results = [numbers(length)
                        for length in rooms(rng, needs, most, short)]
-            read = with_left(given, lefts) if left else given
+            read = with_left(given, lefts)
             around = numbers(2 + len(read) + len(results) + 1)
             both.append(Call(which, em, measure, ratios, profile, read,
                              results, around))

@@ -1,17 +1,12 @@
 /*
  * Answers calls on jobs in lists by bv_set_job and bv_account_job, whichever engine is linked: many in one run, from standard
  * input to standard output (README.md, "Jobs in lists"). With SETTING_ONLY it asks for no account, for an engine that has none.
- * With LEFT_READINGS a call has the left lists of R-5, for an engine that takes them (README.md, "Ahead of the engine").
  */
 #include <stdio.h>
 
 #include "bolyverit.h"
 
-#ifdef LEFT_READINGS
 #define LISTS 20 /* sixteen that are read, four that are written; the account writes three */
-#else
-#define LISTS 14 /* eleven that are read, three that are written */
-#endif
 #define FIRST 4  /* the function, em, measure and profile */
 #define HEAD (FIRST + LISTS)
 #define MOST 262144 /* words of one call */
@@ -22,19 +17,11 @@ static uint32_t memory[MOST];
 #define LIST(i) list[i], head[FIRST + (i)]
 
 /* Em and measure, the ratios, the profile and the lists of the job; the lists that each function writes. */
-#ifdef LEFT_READINGS
-#define JOB                                                                                                              \
+#define JOB                                                                                                                \
     head[1], head[2], ratio[0], ratio[1], head[3], LIST(0), LIST(1), LIST(2), LIST(3), LIST(4), LIST(5), LIST(6), LIST(7), \
         LIST(8), LIST(9), LIST(10), LIST(11), LIST(12), LIST(13), LIST(14), LIST(15)
 #define POSITIONS LIST(16), LIST(17), LIST(18), LIST(19)
 #define TELLING LIST(16), LIST(17), LIST(18)
-#else
-#define JOB                                                                                                              \
-    head[1], head[2], ratio[0], ratio[1], head[3], LIST(0), LIST(1), LIST(2), LIST(3), LIST(4), LIST(5), LIST(6), LIST(7), \
-        LIST(8), LIST(9), LIST(10)
-#define POSITIONS LIST(11), LIST(12), LIST(13)
-#define TELLING LIST(11), LIST(12), LIST(13)
-#endif
 
 static bv_answer called(const uint32_t *head, uint32_t *const *ratio, uint32_t *const *list)
 {

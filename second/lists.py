@@ -2,11 +2,10 @@
 
     python3 lists.py < calls    answers them by the second program
 
-What sheets cannot show goes to an engine this way: ratios, profiles, lists of
-unequal lengths, spare runs, short result lists (README.md, "Jobs in lists").
-lists.c answers the same calls by bv_set_job and bv_account_job.  With --left
-the calls have the left lists of R-5, with --no-left they don't (README.md,
-"Ahead of the engine").
+What sheets cannot show goes to an engine this way: ratios, profiles, left
+readings, lists of unequal lengths, spare runs, short result lists (README.md,
+"Jobs in lists").  lists.c answers the same calls by bv_set_job and
+bv_account_job.
 """
 
 import os
@@ -16,54 +15,40 @@ import sys
 sys.path.insert(0, os.path.dirname(os.path.abspath(__file__)))
 
 import account      # noqa: E402  (found through the path set above)
-import ahead        # noqa: E402
 import second       # noqa: E402
 
 SET, ACCOUNT = 0, 1     # which of the two functions is called
 FIRST = 4               # the function, em, measure and profile
 
-# The lists that a call reads and those that it writes, in order: today's, and
-# those with the left lists of R-5.  The account has no left positions: with
-# left lists its fourth result list is empty, and no function is lent it.
+# The lists that a call reads and those that each function writes, in the order
+# of include/bolyverit.h.  The account has no left positions: its fourth result
+# list is empty, and no function is lent it.
 GIVEN = ('class', 'width', 'before', 'after', 'flag', 'rclass', 'rwidth',
-         'kind', 'ebase', 'eruby', 'runs')
-RESULTS = (('base', 'ruby', 'lines'), ('rows', 'told', 'extents'))
-GIVEN_WITH_LEFT = ('class', 'width', 'before', 'after', 'flag', 'rclass',
-                   'rwidth', 'lclass', 'lwidth', 'kind', 'ebase', 'eruby',
-                   'lkind', 'eleft', 'runs', 'lruns')
-RESULTS_WITH_LEFT = (('base', 'ruby', 'left', 'lines'),
-                     ('rows', 'told', 'extents', 'nothing'))
+         'lclass', 'lwidth', 'kind', 'ebase', 'eruby', 'lkind', 'eleft',
+         'runs', 'lruns')
+RESULTS = (('base', 'ruby', 'left', 'lines'),
+           ('rows', 'told', 'extents', 'nothing'))
 
-
-def names(left):
-    """(lists that are read, lists that each function writes)"""
-    if left:
-        return GIVEN_WITH_LEFT, RESULTS_WITH_LEFT
-    return GIVEN, RESULTS
-
-
-def has_left(given):
-    """Whether the lists that a call reads have the left ones among them."""
-    return len(given) == len(GIVEN_WITH_LEFT)
+# Those among them that a job has without left readings, as set_job takes them.
+RIGHT = tuple(name for name in GIVEN
+              if name not in ('lclass', 'lwidth', 'lkind', 'eleft', 'lruns'))
 
 
 def with_left(given, left):
-    """The lists of a call from today's eleven and a Left."""
-    lists = dict(zip(GIVEN, given))
+    """The lists of a call from the eleven others and a Left."""
+    lists = dict(zip(RIGHT, given))
     lists.update(lclass=left.left_class, lwidth=left.left_width,
                  lkind=left.left_kind, eleft=left.elem_left,
                  lruns=left.left_runs)
-    return [lists[name] for name in GIVEN_WITH_LEFT]
+    return [lists[name] for name in GIVEN]
 
 
 def job_lists(given):
-    """Today's eleven lists of a call, and a Left or None."""
-    if not has_left(given):
-        return [*given, None]
-    lists = dict(zip(GIVEN_WITH_LEFT, given))
+    """The lists of a call as set_job takes them: eleven, and a Left."""
+    lists = dict(zip(GIVEN, given))
     left = second.Left(lists['lclass'], lists['lwidth'], lists['lkind'],
                        lists['eleft'], lists['lruns'])
-    return [lists[name] for name in GIVEN] + [left]
+    return [lists[name] for name in RIGHT] + [left]
 
 
 class Call:
@@ -103,11 +88,8 @@ class Call:
                *job_lists(self.given))
         if self.which == ACCOUNT:
             answer = account.account_job(*job, *results[:3])
-        elif len(results) == 4:
-            answer = second.set_job(*job, *results)
         else:
-            base, ruby, lines = results
-            answer = second.set_job(*job, base, ruby, [], lines)
+            answer = second.set_job(*job, *results)
         return answer, self.memory(results)
 
     def to_bytes(self):
@@ -148,10 +130,9 @@ def answer_of(words):
     return ('refused', number, place), memory
 
 
-def read_call(stream, left=ahead.LEFT_READINGS):
-    """The next call, or None at the end; left: it has left lists."""
-    given, results = names(left)
-    head_size = 4 * (FIRST + len(given) + len(results[SET]))
+def read_call(stream):
+    """The next call, or None at the end."""
+    head_size = 4 * (FIRST + len(GIVEN) + len(RESULTS[SET]))
     head = stream.read(head_size)
     if head == b'':
         return None
@@ -169,19 +150,17 @@ def read_call(stream, left=ahead.LEFT_READINGS):
         lists.append(words[place + 1:place + 1 + length])
         place += 1 + length
     return Call(which, em, measure, lists[:2], profile,
-                lists[2:2 + len(given)], lists[2 + len(given):],
+                lists[2:2 + len(GIVEN)], lists[2 + len(GIVEN):],
                 around + words[place:])
 
 
 def main(arguments):
-    if arguments not in ([], ['--left'], ['--no-left']):
-        sys.exit('usage: lists.py [--left | --no-left] < calls')
-    left = ahead.LEFT_READINGS if arguments == [] else (
-        arguments == ['--left'])
-    call = read_call(sys.stdin.buffer, left)
+    if arguments:
+        sys.exit('usage: lists.py < calls')
+    call = read_call(sys.stdin.buffer)
     while call is not None:
         sys.stdout.buffer.write(answer_bytes(*call.answered()))
-        call = read_call(sys.stdin.buffer, left)
+        call = read_call(sys.stdin.buffer)
 
 
 if __name__ == '__main__':

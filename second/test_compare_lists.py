@@ -16,7 +16,6 @@ HERE = os.path.dirname(os.path.abspath(__file__))
 sys.path.insert(0, HERE)
 
 import account          # noqa: E402  (found through the path set above)
-import ahead            # noqa: E402
 import compare_lists    # noqa: E402
 import generate_lists   # noqa: E402
 import lists            # noqa: E402
@@ -28,11 +27,13 @@ from test_second import g, as_lists, quiet  # noqa: E402
 OWN = [sys.executable, '-B', os.path.join(HERE, 'lists.py')]
 
 # g(2, 7) of test_second.py: B 20, R 35, 2D 30.  By 1:0:2 the base is at
-# floor(30/3) = 10 and 30; the ruby is solid from 0.  The words around the
-# lists are 91, 92, ...
-GROUP = list(as_lists([g(2, 7)]).values())
+# floor(30/3) = 10 and 30; the ruby is solid from 0.  It has a left G of two
+# characters, 5 wide: 10 over 35, 2D 50.  By the ruby ratio 1:2:1 the ends are
+# 12, held at 10: 10 and 50.  The words around the lists are 91, 92, ...
+LEFT = second.Left([16, 16], [5, 5], [second.G], [2], [])
+GROUP = lists.with_left(list(as_lists([g(2, 7)]).values()), LEFT)
 RATIOS = [[1, 2, 1], [1, 0, 2]]
-AROUND = list(range(91, 91 + 17))
+AROUND = list(range(91, 91 + 23))
 
 
 def call_of(which, results):
@@ -43,22 +44,23 @@ def words_of(call, results):
     """The memory, written down once more."""
     words = [91, 1, 2, 1, 92, 1, 0, 2]
     words += [93, 19, 19, 94, 10, 10, 95, 0, 0, 96, 0, 0, 97, 1, 1]
-    words += [98] + [15] * 7 + [99] + [5] * 7
-    words += [100, 71, 101, 2, 102, 7, 103]
-    for before, values in zip((104, 105, 106), results):
+    words += [98] + [15] * 7 + [99] + [5] * 7 + [100, 16, 16, 101, 5, 5]
+    words += [102, 71, 103, 2, 104, 7, 105, 71, 106, 2, 107, 108]
+    for before, values in zip((109, 110, 111, 112), results):
         words += [before] + values
-    return words + [107]
+    return words + [113]
 
 
 class Bytes(unittest.TestCase):
 
     def test_a_call(self):
         # Function 0, em, measure, profile; two base characters in five lists,
-        # seven ruby characters in two, one element in three, no runs; room
-        # for 2, 8 and 3 entries.
-        results = [[1, 2], [3] * 8, [4, 5, 6]]
+        # seven ruby characters in two, two left ones in two, one element in
+        # five, no runs and no left runs; room for 2, 8, 3 and 3 entries.
+        results = [[1, 2], [3] * 8, [6] * 3, [4, 5, 6]]
         call = call_of(SET, results)
-        head = [0, 10, 4000, 1, 2, 2, 2, 2, 2, 7, 7, 1, 1, 1, 0, 2, 8, 3]
+        head = [0, 10, 4000, 1, 2, 2, 2, 2, 2, 7, 7, 2, 2, 1, 1, 1, 1, 1, 0, 0,
+                2, 8, 3, 3]
         words = head + words_of(call, results)
         self.assertEqual(call.to_bytes(),
                          struct.pack('<%dI' % len(words), *words))
@@ -67,171 +69,64 @@ class Bytes(unittest.TestCase):
 
     def test_its_answer(self):
         # One line; positions as above; the last entries as they were.
-        call = call_of(SET, [[1, 2], [3] * 8, [4, 5, 6]])
+        results = [[1, 2], [3] * 8, [6] * 3, [4, 5, 6]]
+        call = call_of(SET, results)
         self.assertEqual(call.answered(), (('set', 1), words_of(call, [
-            [10, 30], [0, 10, 20, 30, 40, 50, 60, 3], [2, 5, 6]])))
+            [10, 30], [0, 10, 20, 30, 40, 50, 60, 3], [10, 50, 6],
+            [2, 5, 6]])))
         # The call itself is not altered.
-        self.assertEqual(call.results, [[1, 2], [3] * 8, [4, 5, 6]])
+        self.assertEqual(call.results, [[1, 2], [3] * 8, [6] * 3, [4, 5, 6]])
+        call = call_of(SET, [[1, 2], [3] * 8, [6], [4, 5, 6]])
+        self.assertEqual(call.answered(), (('refused', 12, 0),
+                                           call.memory(call.results)))
 
     def test_its_account(self):
         # Element 0, its block at 10, 10 hu behind the start, held by its
-        # ruby at the start (6); one row, 70 hu.
-        call = call_of(ACCOUNT, [[8] * 13, [9, 9], [7, 7]])
+        # ruby at the start (6); one row, 70 hu.  The account has no left
+        # positions, and its fourth list is empty.
+        call = call_of(ACCOUNT, [[8] * 13, [9, 9], [7, 7], []])
         self.assertEqual(call.answered(), (('set', 1), words_of(call, [
-            [0, 10, 10, 6, 0, 0] + [8] * 7, [1, 9], [70, 7]])))
-        call = call_of(ACCOUNT, [[8] * 11, [9, 9], [7, 7]])
+            [0, 10, 10, 6, 0, 0] + [8] * 7, [1, 9], [70, 7], []])))
+        call = call_of(ACCOUNT, [[8] * 11, [9, 9], [7, 7], []])
         self.assertEqual(call.answered(), (('refused', 12, 0),
                                            call.memory(call.results)))
 
     def test_there_and_back(self):
-        calls = [call for both in generate_lists.calls(3, 60, False)
+        calls = [call for left in (False, True)
+                 for both in generate_lists.calls(3, 60, left)
                  for call in both]
         stream = io.BytesIO(b''.join(call.to_bytes() for call in calls))
         for call in calls:
-            found = lists.read_call(stream, False)
+            found = lists.read_call(stream)
             self.assertEqual(found.to_bytes(), call.to_bytes())
             answer, memory = call.answered()
             content = lists.answer_bytes(answer, memory)
             self.assertEqual(lists.answer_of(lists.unpacked(content)),
                              (answer, memory))
-        self.assertIsNone(lists.read_call(stream, False))
+        self.assertIsNone(lists.read_call(stream))
 
     def test_cut_short(self):
-        content = call_of(SET, [[1], [2], [3]]).to_bytes()
-        for end in (1, 71, 72, 73, len(content) - 1):
+        content = call_of(SET, [[1], [2], [3], [4]]).to_bytes()
+        for end in (1, 95, 96, 97, len(content) - 1):
             with self.assertRaises(ValueError):
-                lists.read_call(io.BytesIO(content[:end]), False)
+                lists.read_call(io.BytesIO(content[:end]))
 
     def test_the_program(self):
-        calls = [call_of(SET, [[1], [2], [3]]),
-                 call_of(SET, [[1, 2], [3] * 7, [4, 5]])]
+        calls = [call_of(SET, [[1], [2], [3], [4]]),
+                 call_of(SET, [[1, 2], [3] * 7, [6] * 2, [4, 5]])]
         done = subprocess.run(
-            OWN + ['--no-left'],
-            input=b''.join(call.to_bytes() for call in calls),
+            OWN, input=b''.join(call.to_bytes() for call in calls),
             stdout=subprocess.PIPE, check=True)
         words = [12, 0] + words_of(calls[0], calls[0].results)
         words += [0, 1] + words_of(calls[1], [
-            [10, 30], [0, 10, 20, 30, 40, 50, 60], [2, 5]])
+            [10, 30], [0, 10, 20, 30, 40, 50, 60], [10, 50], [2, 5]])
         self.assertEqual(lists.unpacked(done.stdout), words)
-
-
-# The same word with a left G of two characters, 5 wide: 10 over 35, 2D 50.  By
-# the ruby ratio 1:2:1 the ends are 12, held at 10: 10 and 50.
-LEFT = second.Left([16, 16], [5, 5], [second.G], [2], [])
-
-
-def left_call_of(which, results):
-    return Call(which, 10, 4000, RATIOS, 1, lists.with_left(GROUP, LEFT),
-                results, list(range(91, 91 + 23)))
-
-
-def left_words_of(call, results):
-    """The memory, written down once more."""
-    words = [91, 1, 2, 1, 92, 1, 0, 2]
-    words += [93, 19, 19, 94, 10, 10, 95, 0, 0, 96, 0, 0, 97, 1, 1]
-    words += [98] + [15] * 7 + [99] + [5] * 7 + [100, 16, 16, 101, 5, 5]
-    words += [102, 71, 103, 2, 104, 7, 105, 71, 106, 2, 107, 108]
-    for before, values in zip((109, 110, 111, 112), results):
-        words += [before] + values
-    return words + [113]
-
-
-class BytesWithLeft(unittest.TestCase):
-    """Calls with the left lists of R-5."""
-
-    def test_a_call(self):
-        results = [[1, 2], [3] * 8, [6] * 3, [4, 5, 6]]
-        call = left_call_of(SET, results)
-        head = [0, 10, 4000, 1, 2, 2, 2, 2, 2, 7, 7, 2, 2, 1, 1, 1, 1, 1, 0, 0,
-                2, 8, 3, 3]
-        words = head + left_words_of(call, results)
-        self.assertEqual(call.to_bytes(),
-                         struct.pack('<%dI' % len(words), *words))
-        found = lists.read_call(io.BytesIO(call.to_bytes()), True)
-        self.assertEqual(found.to_bytes(), call.to_bytes())
-
-    def test_its_answer(self):
-        call = left_call_of(SET, [[1, 2], [3] * 8, [6] * 3, [4, 5, 6]])
-        self.assertEqual(call.answered(), (('set', 1), left_words_of(call, [
-            [10, 30], [0, 10, 20, 30, 40, 50, 60, 3], [10, 50, 6],
-            [2, 5, 6]])))
-        call = left_call_of(SET, [[1, 2], [3] * 8, [6], [4, 5, 6]])
-        self.assertEqual(call.answered(), (('refused', 12, 0),
-                                           call.memory(call.results)))
-
-    def test_its_account(self):
-        # The account has no left positions; its fourth list is empty.
-        call = left_call_of(ACCOUNT, [[8] * 13, [9, 9], [7, 7], []])
-        self.assertEqual(call.answered(), (('set', 1), left_words_of(call, [
-            [0, 10, 10, 6, 0, 0] + [8] * 7, [1, 9], [70, 7], []])))
-
-    def test_there_and_back(self):
-        calls = [call for both in generate_lists.calls(3, 60, True)
-                 for call in both]
-        stream = io.BytesIO(b''.join(call.to_bytes() for call in calls))
-        for call in calls:
-            self.assertEqual(lists.read_call(stream, True).to_bytes(),
-                             call.to_bytes())
-        self.assertIsNone(lists.read_call(stream, True))
-
-    def test_the_default_has_none(self):
-        # Until the landing of R-5 (ahead.py).
-        for call, _ in generate_lists.calls(3, 5):
-            self.assertEqual(lists.has_left(call.given), ahead.LEFT_READINGS)
-        for left in (False, True):
-            for call, _ in generate_lists.calls(3, 5, left):
-                self.assertEqual(lists.has_left(call.given), left)
-
-    def test_every_number_fits_its_bytes(self):
-        for both in generate_lists.calls(7, 300, True):
-            for call in both:
-                self.assertLessEqual(max(call.em, call.measure, call.profile,
-                                         *call.memory(call.results)),
-                                     second.LARGEST_NUMBER)
-
-    def test_comparison(self):
-        own = OWN + ['--left']
-        seen, differences = compare_all(own, 5, 60, left=True)
-        self.assertEqual((seen.jobs(), differences), (60, 0))
-        self.assertIn('; left ', seen.words())
-        # An engine with one left position off by one.
-        change = ENGINE.replace('read_call(sys.stdin.buffer)',
-                                'read_call(sys.stdin.buffer, True)') % (HERE, (
-            '    if call.which == lists.SET and call.results[2]:\n'
-            '        at = -2 - len(call.results[3]) - len(call.results[2])\n'
-            '        memory[at] ^= 1\n'
-            '        content = lists.answer_bytes(answer, memory)\n'))
-        has_left = sum(len(call.results[2]) > 0
-                       for call, _ in generate_lists.calls(5, 20, True))
-        self.assertGreater(has_left, 5)
-        with quiet():
-            self.assertEqual(compare_all(
-                [sys.executable, '-B', '-c', change], 5, 20, left=True)[1],
-                has_left)
-
-    def test_what_is_missing(self):
-        seen = Seen()
-        call = left_call_of(SET, [[1, 2], [3] * 8, [6] * 3, [4, 5, 6]])
-        seen.add(call, ('set', 1))
-        self.assertIn('1 G on G', seen.words())
-        missing = list(seen.missing())
-        self.assertIn('no job refused by 16', missing)
-        self.assertIn('no accepted job with a left M on J', missing)
-        self.assertNotIn('no accepted job with a left G on G', missing)
-
-    def test_what_is_told(self):
-        call = left_call_of(SET, [[1, 2], [3] * 7, [6] * 2, [4, 5]])
-        answer, memory = call.answered()
-        other = list(memory)
-        other[-5] = 8
-        self.assertEqual(wrong_things(call, (answer, memory),
-                                      (answer, other)),
-                         ['left[1]: 8, not 50'])
 
 
 def kana_edges(call):
     """Edges of R-8 that an accepted job of profile 1 shows."""
-    arguments = call.em, call.measure, call.ratios, 1, *call.given, None
+    arguments = (call.em, call.measure, call.ratios, 1,
+                 *lists.job_lists(call.given))
     job = account.sound_job(arguments)
     for number, line in enumerate(account.drawn_lines_of(arguments)):
         classes = [job.base_class[job.elements[drawn.element].base_first]
@@ -276,6 +171,7 @@ WANTED = ['whole depth %s class %d' % (side, cls)
 
 
 class Generated(unittest.TestCase):
+    """Jobs without left readings; test_left.py has those with them."""
 
     @classmethod
     def setUpClass(cls):
@@ -291,11 +187,13 @@ class Generated(unittest.TestCase):
         self.assertNotEqual(content(11, 10), content(12, 10))
 
     def test_every_answer(self):
-        seen = Seen()
+        seen = Seen(False)
         for (call, _), (answer, _) in zip(self.calls, self.expected):
             seen.add(call, answer)
-        self.assertEqual(set(seen.answers), {0, *compare_lists.REFUSALS})
+        self.assertEqual(set(seen.answers),
+                         {0, *compare_lists.REFUSALS_WITHOUT_LEFT})
         self.assertGreater(seen.answers[0], 300)
+        self.assertEqual(seen.lefts, {})
 
     def test_every_place_of_the_door(self):
         places = {answer[1:] for answer, _ in self.expected
@@ -390,8 +288,10 @@ class Comparison(unittest.TestCase):
     def test_with_itself(self):
         seen, differences = compare_all(OWN, 5, 40)
         self.assertEqual((seen.jobs(), differences), (40, 0))
-        seen, differences = compare_all(OWN, 5, 40, functions=1)
+        self.assertIn('; left ', seen.words())
+        seen, differences = compare_all(OWN, 5, 40, functions=1, left=False)
         self.assertEqual((seen.jobs(), differences), (40, 0))
+        self.assertNotIn('; left ', seen.words())
 
     def test_each_word_counts(self):
         # The answer, the ratios, the lists that are read, the result lists,
@@ -421,6 +321,17 @@ class Comparison(unittest.TestCase):
         self.assertEqual(self.differences(engine(change)), 20)
         self.assertEqual(self.differences(engine(change), functions=1), 0)
 
+    def test_left_positions(self):
+        # The last left position is off by one, where there are any.
+        change = ('    if call.which == lists.SET and call.results[2]:\n'
+                  '        at = -3 - len(call.results[3])\n'
+                  '        memory[at] ^= 1\n'
+                  '        content = lists.answer_bytes(answer, memory)\n')
+        has_left = sum(len(call.results[2]) > 0
+                       for call, _ in generate_lists.calls(5, 20))
+        self.assertGreater(has_left, 5)
+        self.assertEqual(self.differences(engine(change)), has_left)
+
     def test_an_engine_that_dies(self):
         # It answers three calls in each run, then ends with status 3.
         change = '    if number == 4: sys.stdout.flush(); sys.exit(3)'
@@ -438,19 +349,19 @@ class Comparison(unittest.TestCase):
         self.assertEqual(self.differences([sys.executable, '-c', ''], 4), 4)
 
     def test_what_is_told(self):
-        call = call_of(SET, [[1, 2], [3] * 7, [4, 5]])
+        call = call_of(SET, [[1, 2], [3] * 7, [6] * 2, [4, 5]])
         answer, memory = call.answered()
         self.assertEqual(wrong_things(call, (answer, memory),
                                       (answer, memory)), [])
         self.assertEqual(wrong_things(call, (answer, memory), None),
                          ['no answer'])
         other = list(memory)
-        other[-1], other[-3], other[-6], other[9] = 5, 6, 7, 8
+        other[-1], other[-3], other[-5], other[-9], other[9] = 5, 6, 7, 8, 9
         self.assertEqual(
             wrong_things(call, (answer, memory), (('refused', 3, 4), other)),
-            ['refused 3 4, not set 1', 'class[0]: 8, not 19',
-             'ruby[5]: 7, not 50', 'lines[0]: 6, not 2',
-             'the word behind lines: 5, not 107'])
+            ['refused 3 4, not set 1', 'class[0]: 9, not 19',
+             'ruby[5]: 8, not 50', 'left[1]: 7, not 50', 'lines[0]: 6, not 2',
+             'the word behind lines: 5, not 113'])
 
     def test_what_is_missing(self):
         seen = Seen()
@@ -459,14 +370,17 @@ class Comparison(unittest.TestCase):
         seen.answers[0] = 1300
         seen.ratios = set(generate_lists.ALL), set(generate_lists.ALL)
         seen.profiles.update({0: 975, 1: 325})
+        seen.lefts.update(compare_lists.LEFT_KINDS)
         self.assertEqual(list(seen.missing()), [])
         del seen.answers[12], seen.answers[20]
+        del seen.lefts[second.J, second.M]
         seen.answers[0] = 300
         seen.profiles.update({0: -901, 1: -99})
         seen.ratios[1].remove((0, 8, 7))
         self.assertEqual(list(seen.missing()), [
             'no job refused by 12', 'no job refused by 20',
-            '300 accepted of 1500 jobs',
+            'no accepted job with a left M on J',
+            '300 accepted of 1600 jobs',
             '74 by profile 0 of 300 accepted jobs',
             'no job with 0:8:7 for base'])
 
@@ -483,7 +397,7 @@ class Comparison(unittest.TestCase):
         self.assertRegex(rows[0], r'^seen: [1-9][0-9]* accepted, [1-9][0-9]* '
                          r'of them by profile 1; refused '
                          r'[0-9]+ by [0-9]+, .*; [0-9]+ ratios of ruby, '
-                         r'[0-9]+ of base(; left .*)?$')
+                         r'[0-9]+ of base; left .*$')
         self.assertEqual(rows[1], 'compared 25 jobs, 0 differences')
         status, rows = self.run_it([sys.executable, '-c', ''], 25)
         self.assertEqual((status, rows[-1]),

@@ -503,6 +503,24 @@ class Text(Case):
             'lines 2', 'line 20', 'b 0 0', 'r 0 5', 'l 0 0', 'l 1 10',
             'line 20', 'b 1 0', 'r 1 0', 'r 2 10', 'l 2 5'])
 
+    def test_the_glosses_of_the_examples(self):
+        # examples/c/glosses.c, which has the working.
+        elements = [w(m(5), 'M', [4] * 4, 27), p(7, 10, 0, 5),
+                    w(g(2, 4), 'G', [4] * 6, 27), p(15),
+                    w(j([1, 2]), 'M', [[4] * 4, [4] * 8], 27), m(2)]
+        told = []
+        for name, measure in (('wide', 130), ('narrow', 84)):
+            told += [name, *text_of(elements, measure=measure),
+                     *account_of(elements, measure=measure)]
+        with open(os.path.join(os.path.dirname(HERE), 'examples', 'c',
+                               'glosses.result')) as result:
+            rows = result.read().splitlines()
+        self.assertEqual(rows[:len(told)], told)
+        self.assertEqual(rows[len(told):], [
+            'a group on the mono word', 'refused 16 0', 'not set',
+            'refused 5 0'])
+        self.refused(16, 0, [w(m(5), 'G', [4] * 4, 27)] + elements[1:])
+
 
 # ---------------------------------------------------------------------------
 # The account

@@ -1860,6 +1860,40 @@ def _():
     return {'may_be_cut': may_be_cut}
 
 
+@wrong_by_left('two jukugo judged part by part')
+def _():
+    # As document 01 has it of a J without a left reading: a part without a
+    # long run has its runs over their characters.
+    def set_two_readings(job, element, first, end, ruby, left):
+        if (element.kind, element.left_kind) == (J, J):
+            element = copy.copy(element)
+            element.base_first, element.base_end = first, end
+            element.ruby_first = ruby.first
+            element.ruby_end = ruby.first + len(ruby.widths)
+            element.runs = ruby.runs
+            element.left_first = left.first
+            element.left_end = left.first + len(left.widths)
+            element.left_runs = left.runs
+        return right['set_two_readings'](job, element, first, end, ruby, left)
+
+    def may_be_cut(job, element):
+        return (element.kind, element.left_kind) == (J, J) or (
+            right['may_be_cut'](job, element))
+    return {'set_two_readings': set_two_readings, 'may_be_cut': may_be_cut}
+
+
+@wrong_by_left('a J with a mono left reading cut at flags alone')
+def _():
+    def permitted_breaks(job):
+        within = [index + 1 for element in job.elements
+                  if (element.kind, element.left_kind) == (J, M)
+                  for index in range(element.base_first, element.base_end - 1)
+                  if job.flag[index] == 0]
+        return [end for end in right['permitted_breaks'](job)
+                if end not in within]
+    return {'permitted_breaks': permitted_breaks}
+
+
 @wrong_by_left('a J with any left reading not cut')
 def _():
     def may_be_cut(job, element):
@@ -2015,6 +2049,24 @@ def _():
                 right['check_left_character'](job, number)
         right['check_ruby_character'](job, index)
     return {'check_ruby_character': check_ruby_character}
+
+
+@wrong_by_left('left characters ahead of base ones')
+def _():
+    def check_characters(job):
+        for index in range(job.left_count):
+            right['check_left_character'](job, index)
+        right['check_characters'](job)
+    return {'check_characters': check_characters}
+
+
+@wrong_by_left('2,048 ruby and left characters together')
+def _():
+    def check_counts(job):
+        right['check_counts'](job)
+        if job.ruby_count + job.left_count > 2048:
+            raise Refused(2, 3)
+    return {'check_counts': check_counts}
 
 
 @wrong_by_left('the left count not held to its maximum')
@@ -2298,6 +2350,77 @@ def _():
     return {'left_counts': left_counts}
 
 
+def counted_by_eleft(kind, left_kind):
+    """The left count judged for a left kind that has runs."""
+    def left_counts(job, place, base, taken):
+        if (job.kind[place], job.left_kind[place]) == (kind, left_kind):
+            if not 1 <= job.elem_left[place] <= 64:
+                raise Refused(5, place)
+            return job.elem_left[place], []
+        return right['left_counts'](job, place, base, taken)
+    return {'left_counts': left_counts}
+
+
+@wrong_by_left('a left J on M judged by its left count')
+def _():
+    return counted_by_eleft(M, J)
+
+
+@wrong_by_left('a left M on G judged by its left count')
+def _():
+    return counted_by_eleft(G, M)
+
+
+@wrong_by_left('a left J on G judged by its left count')
+def _():
+    return counted_by_eleft(G, J)
+
+
+@wrong_by_left('no counts judged of a left kind that is not taken')
+def _():
+    def left_counts(job, place, base, taken):
+        if job.left_kind[place] in (M, G, J) and (
+                job.left_kind[place] not in second.TAKEN[job.kind[place]]):
+            return 0, []
+        return right['left_counts'](job, place, base, taken)
+    return {'left_counts': left_counts}
+
+
+def run_past_the_end(count):
+    """A left run past the end of its list read as `count`."""
+    def left_counts(job, place, base, taken):
+        job.left_runs = (list(job.left_runs)
+                         + [count] * (taken + base - len(job.left_runs)))
+        return right['left_counts'](job, place, base, taken)
+    return {'left_counts': left_counts}
+
+
+@wrong_by_left('a left run past the end of its list as 1')
+def _():
+    return run_past_the_end(1)
+
+
+@wrong_by_left('spare left runs as characters left over')
+def _():
+    def take_elements(job):
+        right['take_elements'](job)
+        if sum(len(element.left_runs) for element in job.elements) < len(
+                job.left_runs):
+            raise Refused(6, job.element_count)
+    return {'take_elements': take_elements}
+
+
+@wrong_by_left('64 characters of both readings together')
+def _():
+    def left_counts(job, place, base, taken):
+        count, runs = right['left_counts'](job, place, base, taken)
+        if job.kind[place] in (M, G) and count and (
+                count + job.elem_ruby[place] > 64):
+            raise Refused(5, place)
+        return count, runs
+    return {'left_counts': left_counts}
+
+
 @wrong_by_left('left lists not among the lists of an element')
 def _():
     class Job(right['Job']):
@@ -2326,6 +2449,32 @@ def _():
             else:
                 raise
     return {'take_elements': take_elements}
+
+
+@wrong_by_left('left characters that run out after the element\'s 7 to 10')
+def _():
+    def take_elements(job):
+        job.lefts, job.left_count = job.left_count, 10 ** 9
+        try:
+            right['take_elements'](job)
+        except Refused as refusal:
+            if (refusal.number, refusal.place) != (6, job.element_count):
+                raise
+        finally:
+            job.left_count = job.lefts
+        # What is left over is asked once more, with nothing else amiss.
+        job.elements.clear()
+        right['take_elements'](job)
+
+    def check_western_over_western(job, element, place):
+        copied = copy.copy(element)
+        copied.left_kind = N
+        right['check_western_over_western'](job, copied, place)
+        if element.left_end > job.lefts:
+            raise Refused(6, place)
+        right['check_western_over_western'](job, element, place)
+    return {'take_elements': take_elements,
+            'check_western_over_western': check_western_over_western}
 
 
 def mixture(*asked):
@@ -2363,6 +2512,34 @@ def _():
 def _():
     return mixture(base_classes, right_classes, lambda job, element: [] if (
         element.left_kind == M) else left_classes(job, element))
+
+
+@wrong_by_left('9 asked of a mono left reading on M')
+def _():
+    def check_mixture(job, element, place):
+        right['check_mixture'](job, element, place)
+        classes = left_classes(job, element)
+        if element.kind == M and (26 in classes or (
+                any(map(second.is_western, classes))
+                and any(map(second.is_kana_like, classes)))):
+            raise Refused(9, place)
+    return {'check_mixture': check_mixture}
+
+
+@wrong_by_left('a left 9 run by run on J')
+def _():
+    def check_mixture(job, element, place):
+        if element.kind != J or not element.left_runs:
+            right['check_mixture'](job, element, place)
+            return
+        mixture(base_classes, right_classes)['check_mixture'](
+            job, element, place)
+        for classes in second.cut_into_runs(element.left_runs,
+                                            left_classes(job, element)):
+            if 26 in classes or (any(map(second.is_western, classes))
+                                 and any(map(second.is_kana_like, classes))):
+                raise Refused(9, place)
+    return {'check_mixture': check_mixture}
 
 
 @wrong_by_left('left and right characters as one string')
@@ -2428,14 +2605,6 @@ def _():
                      for key, code in account.TOLD.items()}}
 
 
-def reasons_of(keep):
-    def reasons(earlier, drawn):
-        for reason in right_account['reasons'](earlier, drawn):
-            if keep(reason):
-                yield reason
-    return {'reasons': reasons}
-
-
 @wrong_account('rule 2 of the left named last')
 def _():
     def reasons(earlier, drawn):
@@ -2451,6 +2620,26 @@ def _():
         found = list(right_account['reasons'](earlier, drawn))
         yield from sorted(found, key=lambda reason: 'left ruby' in (
             reason.mine, reason.its))
+    return {'reasons': reasons}
+
+
+@wrong_account('the depth of a left reason not told')
+def _():
+    def reasons(earlier, drawn):
+        for reason in right_account['reasons'](earlier, drawn):
+            if reason.rule == 2 and 'left ruby' in (reason.mine, reason.its):
+                reason = reason._replace(depth=0)
+            yield reason
+    return {'reasons': reasons}
+
+
+@wrong_account('the element just before named for rule 3')
+def _():
+    def reasons(earlier, drawn):
+        for reason in right_account['reasons'](earlier, drawn):
+            if reason.rule == 3:
+                reason = reason._replace(other=earlier[-1].element)
+            yield reason
     return {'reasons': reasons}
 
 

@@ -10,6 +10,7 @@
 #define BASES 4
 #define RUBIES 6
 #define ELEMENTS 3
+#define RUNS 2
 #define PROFILE 0 /* that of every sheet: no ruby on the kana */
 
 /* How spread ruby and spread base share out their space: the usual ratio, that of every sheet. Nothing is spread here. */
@@ -24,9 +25,19 @@ static const uint32_t rwidth[RUBIES] = {5, 5, 5, 5, 5, 5};
 static const uint32_t kind[ELEMENTS] = {BV_M, BV_P, BV_J};
 static const uint32_t ebase[ELEMENTS] = {0, 0, 2}; /* not read but for the J */
 static const uint32_t eruby[ELEMENTS] = {3, 0, 0}; /* not read but for the M */
-static const uint32_t runs[2] = {1, 2};
+static const uint32_t runs[RUNS] = {1, 2};
+static const uint32_t none[ELEMENTS] = {BV_LEFT_NONE, BV_LEFT_NONE, BV_LEFT_NONE};
 
-/* What a call reads: em and measure, the two ratios, the profile, and the lists, each with its length. */
-#define JOB                                                                                                                    \
-    EM, MEASURE, usual, usual, PROFILE, class_, BASES, width, BASES, before, BASES, after, BASES, flag, BASES, rclass, RUBIES, \
-        rwidth, RUBIES, kind, ELEMENTS, ebase, ELEMENTS, eruby, ELEMENTS, runs, 2
+/*
+ * What a call reads. There are no left readings: no left characters and left runs, and a left count is not read; but no pointer is
+ * null, and lists that are only read may be the same.
+ */
+static const bv_job job = {
+    EM, MEASURE, usual, usual, PROFILE,
+    BASES, class_, width, before, after, flag,
+    RUBIES, rclass, rwidth,
+    0, rclass, rwidth,
+    ELEMENTS, kind, ebase, eruby, none, eruby,
+    RUNS, runs,
+    0, runs
+};

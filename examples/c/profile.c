@@ -44,6 +44,7 @@ static const uint32_t rwidth[RUBIES] = {5, 5, 5, 5, 5, 5, 5, 5, 5, 5, 5, 5};
 static const uint32_t kind[BASES] = {BV_M, BV_P, BV_M, BV_P, BV_M};
 static const uint32_t ebase[BASES] = {0, 0, 0, 0, 0}; /* not read of M and P */
 static const uint32_t eruby[BASES] = {5, 0, 5, 0, 2};
+static const uint32_t none[BASES] = {BV_LEFT_NONE, BV_LEFT_NONE, BV_LEFT_NONE, BV_LEFT_NONE, BV_LEFT_NONE};
 static const uint32_t runs[1] = {0}; /* there is no J, but a pointer is not null */
 
 static const uint32_t profiles[CALLS] = {0, 1, 2};
@@ -51,7 +52,19 @@ static const uint32_t profiles[CALLS] = {0, 1, 2};
 /* The ruby characters of base character b: rubies[b] up to rubies[b + 1]. */
 static const uint32_t rubies[BASES + 1] = {0, 5, 5, 10, 10, 12};
 
-static uint32_t base[BASES], ruby[RUBIES], lines[BASES];
+static uint32_t base[BASES], ruby[RUBIES], left[1], lines[BASES];
+static const bv_places places = {BASES, RUBIES, 0, BASES, base, ruby, left, lines};
+
+/* The job but for its profile. There are no left readings: no left characters and runs, and the left count is not read. */
+static bv_job job = {
+    EM, MEASURE, usual, usual, 0,
+    BASES, class_, width, before, after, flag,
+    RUBIES, rclass, rwidth,
+    0, rclass, rwidth,
+    BASES, kind, ebase, eruby, none, eruby,
+    0, runs,
+    0, runs
+};
 
 /* "The line's extent is the furthest end of any block or ruby in it." */
 static uint32_t extent(uint32_t from, uint32_t upto)
@@ -84,9 +97,9 @@ int main(void)
 {
     int t;
     for (t = 0; t < CALLS; t++) {
-        bv_answer a = bv_set_job(EM, MEASURE, usual, usual, profiles[t], class_, BASES, width, BASES, before, BASES, after,
-                                 BASES, flag, BASES, rclass, RUBIES, rwidth, RUBIES, kind, BASES, ebase, BASES, eruby, BASES,
-                                 runs, 0, base, BASES, ruby, RUBIES, lines, BASES);
+        bv_answer a;
+        job.profile = profiles[t];
+        a = bv_set(&job, &places);
         printf("profile %lu\n", (unsigned long)profiles[t]);
         if (a.number == BV_SET)
             print_lines(a.place);

@@ -43,6 +43,7 @@ static const uint32_t rwidth[RUBIES] = {5, 5, 5, 5, 5, 5, 5, 5, 5, 5};
 static const uint32_t kind[ELEMENTS] = {BV_G, BV_P, BV_G, BV_P};
 static const uint32_t ebase[ELEMENTS] = {3, 0, 3, 0};
 static const uint32_t eruby[ELEMENTS] = {2, 0, 8, 0};
+static const uint32_t none[ELEMENTS] = {BV_LEFT_NONE, BV_LEFT_NONE, BV_LEFT_NONE, BV_LEFT_NONE};
 static const uint32_t runs[1] = {0}; /* there is no J, but a pointer is not null */
 
 /* Of each call the ruby ratio and the base ratio. The ruby ratio is judged first, so the fourth call has place 0, the fifth 1. */
@@ -54,7 +55,19 @@ static const uint32_t ratios[CALLS][2][3] = {
 static const uint32_t first[ELEMENTS + 1] = {0, 3, 4, 7, 8};
 static const uint32_t rfirst[ELEMENTS + 1] = {0, 2, 2, 10, 10};
 
-static uint32_t base[BASES], ruby[RUBIES], lines[BASES];
+static uint32_t base[BASES], ruby[RUBIES], left[1], lines[BASES];
+static const bv_places places = {BASES, RUBIES, 0, BASES, base, ruby, left, lines};
+
+/* The job but for its ratios. There are no left readings: no left characters and runs, and the left count is not read. */
+static bv_job job = {
+    EM, MEASURE, 0, 0, PROFILE,
+    BASES, class_, width, before, after, flag,
+    RUBIES, rclass, rwidth,
+    0, rclass, rwidth,
+    ELEMENTS, kind, ebase, eruby, none, eruby,
+    0, runs,
+    0, runs
+};
 
 /* "The line's extent is the furthest end of any block or ruby in it." */
 static uint32_t extent(uint32_t e, uint32_t upto)
@@ -91,9 +104,10 @@ int main(void)
     int t;
     for (t = 0; t < CALLS; t++) {
         const uint32_t *over = ratios[t][0], *under = ratios[t][1];
-        bv_answer a = bv_set_job(EM, MEASURE, over, under, PROFILE, class_, BASES, width, BASES, before, BASES, after, BASES,
-                                 flag, BASES, rclass, RUBIES, rwidth, RUBIES, kind, ELEMENTS, ebase, ELEMENTS, eruby,
-                                 ELEMENTS, runs, 0, base, BASES, ruby, RUBIES, lines, BASES);
+        bv_answer a;
+        job.ruby_ratio = over;
+        job.base_ratio = under;
+        a = bv_set(&job, &places);
         printf("ruby %lu:%lu:%lu base %lu:%lu:%lu\n", (unsigned long)over[0], (unsigned long)over[1], (unsigned long)over[2],
                (unsigned long)under[0], (unsigned long)under[1], (unsigned long)under[2]);
         if (a.number == BV_SET)

@@ -10,7 +10,8 @@
 /* Which ruby characters belong to each base character: rubies[b] up to rubies[b + 1]. In this job none is shared. */
 static const uint32_t rubies[BASES + 1] = {0, 3, 3, 4, 6};
 
-static uint32_t base[BASES], ruby[RUBIES], lines[BASES];
+static uint32_t base[BASES], ruby[RUBIES], left[1], lines[BASES];
+static const bv_places places = {BASES, RUBIES, 0, BASES, base, ruby, left, lines};
 
 /* "The line's extent is the furthest end of any block or ruby in it." */
 static uint32_t extent(uint32_t from, uint32_t upto)
@@ -28,7 +29,7 @@ static uint32_t extent(uint32_t from, uint32_t upto)
 int main(void)
 {
     uint32_t l, b, r, from = 0;
-    bv_answer a = bv_set_job(JOB, base, BASES, ruby, RUBIES, lines, BASES);
+    bv_answer a = bv_set(&job, &places);
     if (a.number != BV_SET) {
         printf("refused %lu %lu\n", (unsigned long)a.number, (unsigned long)a.place);
         return 1;

@@ -1,11 +1,11 @@
 pub mod Reasons
 pub mod Step
-pub mod Sides
 pub mod Law
 pub mod Claims
 pub mod Order
 pub mod Held
 pub mod Tight
 pub mod Theorems
+pub mod Behind
 pub mod Cases
 pub mod More

@@ -7,11 +7,12 @@ use native.Mathlib.Omega.{arith}
 use lib.ListN.{length, getD, length-append, List·getD-append}
 use lib.Dec.{eqb}
 use Rattle.line.specs.declared.Element.{Element}
-use Rattle.line.specs.declared.Side.the-variants as side
-use Rattle.line.specs.Rules.{blockOf, rubyOf, el, org, Apart, Sounds}
+use Rattle.line.specs.declared.Side.{Side}
+use Rattle.line.specs.declared.Side.the-variants.{Right, Left}
+use Rattle.line.specs.Rules.{ruby, blockOf, rubyOf, el, org, Apart, Sounds}
 use Rattle.account.specs.declared.Reason.{Reason}
-use Rattle.account.specs.declared.Reason.the-variants.{Start, Ruby, Free}
-use Rattle.account.specs.Reasons.{meets, edge, beside, neighbour, rubies, byRuby, reason, back, accountOf}
+use Rattle.account.specs.declared.Reason.the-variants.{Start, Ruby, Edge, Free}
+use Rattle.account.specs.Reasons.{meets, starts, bySide, beside, neighbour, rubies, rubiesOf, byRuby, reason, back, accountOf}
 use Rattle.account.specs.Step.{accountAfter, passed, standing}
 use Rattle.account.specs.Law.{step}
 
@@ -57,18 +58,24 @@ module _ (es : List Element) (xs : List ℕ) (e : Element) (x : ℕ) (each : len
       ∙ ap₂ (λ p y. accountAfter (length es) (standing es′ xs′ (length es)) p y) (sym el-new) (sym org-new)
       ∙ step es′ xs′ s a (length es) (simp length-append (omega arith))
 
-  rubies-old : (z n : ℕ) (rest : Reason) → n ≤ length es → rubies es′ xs′ z n rest ≡ rubies es xs z n rest
+  rubies-old : (s : Side) (z n : ℕ) (rest : Reason) → n ≤ length es → rubies s es′ xs′ z n rest ≡ rubies s es xs z n rest
   unfolding rubies
-  rubies-old z zero rest h = refl
-  rubies-old z (suc k) rest h =
-      ap₂ (λ p y. cond (meets p y z) (Ruby k) (rubies es′ xs′ z k rest)) (el-old k h) (org-old k h)
-      ∙ ap (λ o. cond (meets (el es k) (org xs k) z) (Ruby k) o) (rubies-old z k rest (omega arith))
+  rubies-old s z zero rest h = refl
+  rubies-old s z (suc k) rest h =
+      ap₂ (λ p y. cond (meets (ruby s p) y z) (Ruby s k) (rubies s es′ xs′ z k rest)) (el-old k h) (org-old k h)
+      ∙ ap (λ o. cond (meets (ruby s (el es k)) (org xs k) z) (Ruby s k) o) (rubies-old s z k rest (omega arith))
 
   module _ (i : ℕ) (h : i < length es) where
+    of-old : (s : Side) (rest : Reason) → rubiesOf s es′ xs′ i rest ≡ rubiesOf s es xs i rest
+    of-old s rest =
+        ap₂ (λ p y. cond (ruby s p .there) (rubies s es′ xs′ (rubyOf s p y .start) i rest) rest) (el-old i h) (org-old i h)
+        ∙ ap (λ o. cond (ruby s (el es i) .there) o rest) (rubies-old s _ i rest (omega arith))
+
     ruby-old : byRuby es′ xs′ i ≡ byRuby es xs i
     ruby-old =
-        ap₂ (λ (p : Element) (y : ℕ). cond (p .right .there) (rubies es′ xs′ (rubyOf side.Right p y .start) i (edge (rubyOf side.Right p y .start))) Free) (el-old i h) (org-old i h)
-        ∙ ap (λ o. cond (el es i .right .there) o Free) (rubies-old _ i _ (omega arith))
+        of-old Right _
+        ∙ ap (λ o. rubiesOf Right es xs i o)
+        (of-old Left _ ∙ ap₂ (λ p y. rubiesOf Left es xs i (bySide (λ s. starts (ruby s p) y) Edge Free)) (el-old i h) (org-old i h))
 
     neighbour-old : (rest : Reason) → neighbour es′ xs′ i rest ≡ neighbour es xs i rest
     unfolding neighbour

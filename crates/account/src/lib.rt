@@ -1,16 +1,17 @@
 // Why each gap of a line is as wide as it is. An element stands no nearer the line's start because some rule of clearance (document
 // 01, level two) already holds with equality; the account of an element names the gap before its block, that rule, the other element
 // and the permitted depth (specs/Reasons.antt). specs/Theorems.antt has what is proved of it: the named rule would be broken one half
-// unit nearer, and in a line that is set every element has such a reason. It speaks of readings on the right, and its theorems of lines that have no others.
-// It relies on line for the elements, the rules and the setting.
+// unit nearer, and in a line that is set every element has such a reason. With readings on both sides (R-5 of document 02) a reason names
+// the side of the ruby that it speaks of. It relies on line for the elements, the rules and the setting.
 ghost use mathlib.Core.Path.{_≡_};
 ghost use Prim.Native.Nat.{_-_, _≤_};
-ghost use Rattle.line.specs.declared.Side.the-variants as side;
-ghost use Rattle.line.specs.Rules.{blockOf, rubyOf};
-ghost use Rattle.account.specs.Reasons.{touches, under, over, edge, beside};
-ghost use Rattle.account.specs.Claims.{number, depth};
+ghost use Rattle.line.specs.Rules.{blockOf};
+ghost use Rattle.account.specs.Reasons.{drawn, touches, under, over, edged, beside};
+ghost use Rattle.account.specs.Claims.{onSide, number, depth};
 ghost use Rattle.account.specs.Step.{touched, rubyAfter, reasonAfter, accountAfter, endBefore, further, passed};
 use line::Element;
+use line::Reading;
+use line::Side;
 
 // What holds an element where it stands. The other element is named by its number in the line.
 pub enum Reason {
@@ -18,14 +19,14 @@ pub enum Reason {
     Start,
     // Its block touches the block before (rule 1).
     Block(u32),
-    // The ruby of the element before keeps off its block but for the depth (rule 2).
-    Under(u32, u32),
+    // A ruby of the element before keeps off its block but for the depth (rule 2).
+    Under(Side, u32, u32),
     // Its own ruby keeps off the block before but for the depth (rule 2).
-    Over(u32, u32),
-    // Its ruby touches an earlier ruby (rule 3).
-    Ruby(u32),
+    Over(Side, u32, u32),
+    // Its ruby touches an earlier ruby of its side (rule 3).
+    Ruby(Side, u32),
     // Its own ruby stands at the line's start (rule 4).
-    Edge,
+    Edge(Side),
     // Nothing does: it could stand nearer. No element of a line that is set is free.
     Free,
 }
@@ -36,17 +37,18 @@ pub struct Account {
     pub reason: Reason,
 }
 
-// The ruby that reaches furthest so far: whose it is and where it ends.
+// The ruby of a side that reaches furthest so far: whose it is and where it ends.
 pub enum Far {
     Nothing,
     Ends(u32, u64),
 }
 
-// What stands before an element: the element just before it with its origin, and the ruby that reaches furthest.
+// What stands before an element: the element just before it with its origin, and on each side the ruby that reaches furthest.
 pub struct Before {
     pub last: Element,
     pub at: u32,
-    pub far: Far,
+    pub right: Far,
+    pub left: Far,
 }
 
 // At the line's start nothing stands yet.
@@ -60,10 +62,11 @@ pub const START: Before = Before {
         after: 0,
     },
     at: 0,
-    far: Far::Nothing,
+    right: Far::Nothing,
+    left: Far::Nothing,
 };
 
-// Start and end of the block and of the ruby of e at x.
+// Start and end of the block of e at x.
 pub fn block_start(e: Element, x: u32) -> u64
     ensures { λ r. ⌜ (r ≡ blockOf e x .start) × (r ≤ 8589934590) ⌝ }
 {
@@ -76,17 +79,16 @@ fn block_end(e: Element, x: u32) -> u64
     x as u64 + e.front as u64 + e.len as u64
 }
 
-fn ruby_start(e: Element, x: u32) -> u64
-    ensures { λ r. ⌜ (r ≡ rubyOf side.Right e x .start) × (r ≤ 8589934590) ⌝ }
+// Start and end of the reading r of an element at x.
+fn ruby_start(r: Reading, x: u32) -> u64
+    ensures { λ z. ⌜ (z ≡ drawn r x .start) × (z ≤ 8589934590) ⌝ }
 {
-    let r = e.right;
     x as u64 + r.from as u64
 }
 
-fn ruby_end(e: Element, x: u32) -> u64
-    ensures { λ r. ⌜ r ≡ rubyOf side.Right e x .end ⌝ }
+fn ruby_end(r: Reading, x: u32) -> u64
+    ensures { λ z. ⌜ z ≡ drawn r x .end ⌝ }
 {
-    let r = e.right;
     x as u64 + r.upto as u64
 }
 
@@ -97,77 +99,102 @@ fn block_touches(p: Element, y: u32, e: Element, x: u32) -> bool
     block_end(p, y) == block_start(e, x)
 }
 
-// Rule 2: p's ruby lies on e's block as deep as it may.
-fn lies_under(p: Element, y: u32, e: Element, x: u32) -> bool
-    ensures { λ r. ⌜ r ≡ under p y e x ⌝ }
+// Rule 2: the reading r of the element before, which is at y, lies on e's block as deep as it may.
+fn lies_under(r: Reading, y: u32, e: Element, x: u32) -> bool
+    ensures { λ b. ⌜ b ≡ under r y e x ⌝ }
 {
-    let r = p.right;
-    let ruby = r.there;
-    if ruby {
-        ruby_end(p, y) == block_start(e, x) + e.before as u64
+    let there = r.there;
+    if there {
+        ruby_end(r, y) == block_start(e, x) + e.before as u64
     } else {
         false
     }
 }
 
-// Rule 2: e's ruby lies on p's block as deep as it may.
-fn lies_over(p: Element, y: u32, e: Element, x: u32) -> bool
-    ensures { λ r. ⌜ r ≡ over p y e x ⌝ }
+// Rule 2: the reading r of an element at x lies on p's block just before it as deep as it may.
+fn lies_over(p: Element, y: u32, r: Reading, x: u32) -> bool
+    ensures { λ b. ⌜ b ≡ over p y r x ⌝ }
 {
-    let r = e.right;
-    let ruby = r.there;
-    if ruby {
-        block_end(p, y) == ruby_start(e, x) + p.after as u64
+    let there = r.there;
+    if there {
+        block_end(p, y) == ruby_start(r, x) + p.after as u64
     } else {
         false
     }
 }
 
-// Rules 1 and 2 with the element just before, number j; the rest where neither holds e.
-fn by_neighbour(j: u32, p: Element, y: u32, e: Element, x: u32, rest: Reason) -> Reason
-    ensures { λ r. ⌜ r ≡ beside j p y e x rest ⌝ }
+// Rule 4: the reading r of the side s, of an element at x, stands at the line's start; the rest where it doesn't.
+fn at_edge(s: Side, r: Reading, x: u32, rest: Reason) -> Reason
+    ensures { λ q. ⌜ q ≡ edged s r x rest ⌝ }
 {
+    let there = r.there;
+    if there {
+        if ruby_start(r, x) == 0 {
+            Reason::Edge(s)
+        } else {
+            rest
+        }
+    } else {
+        rest
+    }
+}
+
+// Rule 3 between the reading r of the side s, of an element at x, and the ruby of that side that reaches furthest; the rest where it
+// doesn't hold.
+fn touching(s: Side, far: Far, r: Reading, x: u32, rest: Reason) -> Reason
+    ensures { λ q. ⌜ q ≡ touched s far r x rest ⌝ }
+{
+    let there = r.there;
+    if there {
+        match far {
+            Far::Nothing => rest,
+            Far::Ends(k, end) => {
+                if end == ruby_start(r, x) {
+                    Reason::Ruby(s, k)
+                } else {
+                    rest
+                }
+            }
+        }
+    } else {
+        rest
+    }
+}
+
+// Rules 3 and 4.
+fn by_ruby(b: Before, e: Element, x: u32) -> Reason
+    ensures { λ r. ⌜ r ≡ rubyAfter b e x ⌝ }
+{
+    let right = b.right;
+    let left = b.left;
+    let edge = at_edge(Side::Left, e.left, x, Reason::Free);
+    let edges = at_edge(Side::Right, e.right, x, edge);
+    let rest = touching(Side::Left, left, e.left, x, edges);
+    touching(Side::Right, right, e.right, x, rest)
+}
+
+// Rules 1 and 2 with the element just before, number j, or else rules 3 and 4.
+fn by_neighbour(j: u32, b: Before, e: Element, x: u32) -> Reason
+    ensures { λ r. ⌜ r ≡ beside j (b .last) (b .at) e x (rubyAfter b e x) ⌝ }
+{
+    let p = b.last;
+    let y = b.at;
     if block_touches(p, y, e, x) {
         return Reason::Block(j);
     }
-    if lies_under(p, y, e, x) {
-        return Reason::Under(j, e.before);
+    if lies_under(p.right, y, e, x) {
+        return Reason::Under(Side::Right, j, e.before);
     }
-    if lies_over(p, y, e, x) {
-        return Reason::Over(j, p.after);
+    if lies_under(p.left, y, e, x) {
+        return Reason::Under(Side::Left, j, e.before);
     }
-    rest
-}
-
-// Rule 4: ruby that starts at z, at the line's start.
-fn at_edge(z: u64) -> Reason
-    ensures { λ r. ⌜ r ≡ edge z ⌝ }
-{
-    if z == 0 { Reason::Edge } else { Reason::Free }
-}
-
-// Rule 3 between ruby that starts at z and the ruby that reaches furthest; the rest where it doesn't hold.
-fn touching(far: Far, z: u64, rest: Reason) -> Reason
-    ensures { λ r. ⌜ r ≡ touched far z rest ⌝ }
-{
-    match far {
-        Far::Nothing => rest,
-        Far::Ends(k, end) => { if end == z { Reason::Ruby(k) } else { rest } }
+    if lies_over(p, y, e.right, x) {
+        return Reason::Over(Side::Right, j, p.after);
     }
-}
-
-// Rules 3 and 4, where e has ruby.
-fn by_ruby(far: Far, e: Element, x: u32) -> Reason
-    ensures { λ r. ⌜ r ≡ rubyAfter far e x ⌝ }
-{
-    let r = e.right;
-    let ruby = r.there;
-    if ruby {
-        let z = ruby_start(e, x);
-        touching(far, z, at_edge(z))
-    } else {
-        Reason::Free
+    if lies_over(p, y, e.left, x) {
+        return Reason::Over(Side::Left, j, p.after);
     }
+    by_ruby(b, e, x)
 }
 
 // What holds e, element i of its line, at x: the first of the reasons in the rules' order.
@@ -177,13 +204,10 @@ fn reason_of(i: u32, b: Before, e: Element, x: u32) -> Reason
     if block_start(e, x) == 0 {
         return Reason::Start;
     }
-    let far = b.far;
-    let rest = by_ruby(far, e, x);
     if i == 0 {
-        return rest;
+        return by_ruby(b, e, x);
     }
-    let p = b.last;
-    by_neighbour(i - 1, p, b.at, e, x, rest)
+    by_neighbour(i - 1, b, e, x)
 }
 
 // The end of the block before, or the line's start.
@@ -214,14 +238,13 @@ pub fn account_of(i: u32, b: Before, e: Element, x: u32) -> Account
     }
 }
 
-// The ruby that reaches furthest once e, element i, stands at x; of two that end at one place the nearer.
-fn furthest(i: u32, far: Far, e: Element, x: u32) -> Far
-    ensures { λ r. ⌜ r ≡ further i far e x ⌝ }
+// The ruby of a side that reaches furthest once element i, with the reading r there, stands at x; of two that end at one place the nearer.
+fn furthest(i: u32, far: Far, r: Reading, x: u32) -> Far
+    ensures { λ f. ⌜ f ≡ further i far r x ⌝ }
 {
-    let r = e.right;
-    let ruby = r.there;
-    if ruby {
-        let upto = ruby_end(e, x);
+    let there = r.there;
+    if there {
+        let upto = ruby_end(r, x);
         match far {
             Far::Nothing => Far::Ends(i, upto),
             Far::Ends(_, end) => { if end <= upto { Far::Ends(i, upto) } else { far } }
@@ -235,27 +258,41 @@ fn furthest(i: u32, far: Far, e: Element, x: u32) -> Far
 pub fn pass(i: u32, b: Before, e: Element, x: u32) -> Before
     ensures { λ r. ⌜ r ≡ passed i b e x ⌝ }
 {
-    let far = b.far;
-    let reached = furthest(i, far, e, x);
+    let right = b.right;
+    let left = b.left;
+    let rights = furthest(i, right, e.right, x);
+    let lefts = furthest(i, left, e.left, x);
     Before {
         last: e,
         at: x,
-        far: reached,
+        right: rights,
+        left: lefts,
     }
 }
 
-// The reason as numbers: its place in the rules' order from 1, and the depth, 0 where there is none.
+// A number that tells a reason of the right side, or 4 more for one of the left.
+fn on_side(s: Side, n: u32) -> u32
+    requires { ⌜ n ≤ 6 ⌝ }
+    ensures { λ m. ⌜ m ≡ onSide s n ⌝ }
+{
+    match s {
+        Side::Right => n,
+        Side::Left => n + 4,
+    }
+}
+
+// The reason as numbers: 1 to 10, 11 where there is none, and the depth, 0 where there is none.
 pub fn number_of(r: Reason) -> u32
     ensures { λ n. ⌜ n ≡ number r ⌝ }
 {
     match r {
         Reason::Start => 1,
         Reason::Block(_) => 2,
-        Reason::Under(_, _) => 3,
-        Reason::Over(_, _) => 4,
-        Reason::Ruby(_) => 5,
-        Reason::Edge => 6,
-        Reason::Free => 7,
+        Reason::Under(s, _, _) => on_side(s, 3),
+        Reason::Over(s, _, _) => on_side(s, 4),
+        Reason::Ruby(s, _) => on_side(s, 5),
+        Reason::Edge(s) => on_side(s, 6),
+        Reason::Free => 11,
     }
 }
 
@@ -265,10 +302,10 @@ pub fn depth_of(r: Reason) -> u32
     match r {
         Reason::Start => 0,
         Reason::Block(_) => 0,
-        Reason::Under(_, d) => d,
-        Reason::Over(_, d) => d,
-        Reason::Ruby(_) => 0,
-        Reason::Edge => 0,
+        Reason::Under(_, _, d) => d,
+        Reason::Over(_, _, d) => d,
+        Reason::Ruby(_, _) => 0,
+        Reason::Edge(_) => 0,
         Reason::Free => 0,
     }
 }

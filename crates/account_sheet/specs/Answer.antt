@@ -39,7 +39,7 @@ tellingText job (some r) = declinedText job r
 -- the account of a job whose lists have room for m base characters
 unfoldable pub jobAccount : Job → ℕ → List ℕ
 unfolding tellingText fault
-jobAccount job m = tellingText job (fault job 1024 2048 m)
+jobAccount job m = tellingText job (fault job 1024 2048 2048 m)
 
 -- "The other checks follow a sound reading." The program's lists have the maximum lengths.
 unfoldable pub accountBy : Sheet → Reading → List ℕ

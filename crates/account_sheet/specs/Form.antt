@@ -40,16 +40,16 @@ unfolding declinedText
 declined-number job r n p small e = refused-begins r (cond (eqb (numberOf r) 11) (needsText (needed job (placeOf r)) (job .measure)) []) n p small e
 
 module _ (s : List ℕ) where
-  job-gives : (n p : ℕ) → n ≤ most → (c : Counts) → reading s .end ≡ Sound c → (f : Option Refusal) → fault (sheetJob (reading s)) 1024 2048 1024 ≡ f →
+  job-gives : (n p : ℕ) → n ≤ most → (c : Counts) → reading s .end ≡ Sound c → (f : Option Refusal) → fault (sheetJob (reading s)) 1024 2048 2048 1024 ≡ f →
       tellingText (sheetJob (reading s)) f ≡ lineTwo (bytes "refused") n p → Given s n p
   unfolding tellingText
   job-gives n p small c is none g e = absurd (account-other (sheetJob (reading s)) n p e)
-  job-gives n p small c is (some r) g e = by-job c r (declined-number (sheetJob (reading s)) r n p small e) is (given-first (sheetJob (reading s)) 1024 2048 1024 r g)
+  job-gives n p small c is (some r) g e = by-job c r (declined-number (sheetJob (reading s)) r n p small e) is (given-first (sheetJob (reading s)) 1024 2048 2048 1024 r g)
 
   sheet-gives : (n p : ℕ) → n ≤ most → (x : Reading) → reading s .end ≡ x → accountBy (reading s) x ≡ lineTwo (bytes "refused") n p → Given s n p
   unfolding accountBy jobAccount
   sheet-gives n p small (Refused r) is e = let x = refused-is r n p small e in by-sheet r (x .0) (x .1) is
-  sheet-gives n p small (Sound c) is e = job-gives n p small c is (fault (sheetJob (reading s)) 1024 2048 1024) refl e
+  sheet-gives n p small (Sound c) is e = job-gives n p small c is (fault (sheetJob (reading s)) 1024 2048 2048 1024) refl e
 
   gives : (n p : ℕ) → n ≤ most → accountOfSheet s ≡ lineTwo (bytes "refused") n p → Given s n p
   unfolding accountOfSheet

@@ -7,7 +7,7 @@ use lib.ListN.{length}
 use Rattle.refusal.specs.declared.Refusal.{Refusal}
 use Rattle.door.specs.declared.Checked.{Checked}
 use Rattle.door.specs.declared.Checked.the-variants.{Passed, Refused}
-use Rattle.door.specs.Job.{Job, baseCount, rubyCount, elementCount, elements}
+use Rattle.door.specs.Job.{Job, baseCount, rubyCount, leftCount, elementCount, elements}
 use Rattle.door.specs.Refusals.{elementsFaults, leftFaults}
 use Rattle.door.specs.Verdict.{verdict}
 use Rattle.cells.specs.Sound.{Sound}
@@ -22,19 +22,22 @@ use Rattle.account_sheet.specs.Answer.{Lacks}
 
 module _ {job : Job} {s : ℕ} (q : Lacks job s) where
   -- what the layout asks for
-  pub layout-ready : (t : List ℕ) → 19463 ≤ length t → Ready (unmeasured job) t
-  unfolding baseCount rubyCount elementCount
+  pub layout-ready : (t : List ℕ) → 27655 ≤ length t → Ready (unmeasured job) t
+  unfolding baseCount rubyCount leftCount elementCount
   layout-ready t h =
       let p = q .passed in
       record {
         house = p .house;
         few = p .fewBase;
         fewRuby = p .fewRuby;
+        fewLeft = p .fewLeft;
         fewElements = p .fewElements;
         some = λ i k. p .base i k .some;
         narrow = λ i k. p .base i k .narrow;
         narrowRuby = λ i k. p .ruby i k .narrow;
+        narrowLeft = λ i k. p .left i k .narrow;
         room = omega (arith, p .fewBase);
+        roomLeft = λ _. omega (arith, p .fewBase);
       }
 
   -- it passes,

@@ -72,10 +72,10 @@ module _ (job : Job) (rows told wide : List ℕ) where
   m = room rows told wide
 
   abbrev given : Option Refusal
-  given = fault job 1024 2048 m
+  given = fault job 1024 2048 2048 m
 
   abbrev own : List Refusal
-  own = ownFaults job 1024 2048 m
+  own = ownFaults job 1024 2048 2048 m
 
   refused-given : {r : Refusal} → telling job rows told wide .answer ≡ Refused r → given ≡ some r
   unfolding telling tellingBy
@@ -97,13 +97,13 @@ module _ (job : Job) (rows told wide : List ℕ) where
   pub line-declined : {r : Refusal} → telling job rows told wide .answer ≡ Refused r → numberOf r ≡ 11 → Lacks job (placeOf r)
   unfolding ownFaults
   line-declined {r} e h =
-      let t = lines-turn job 1024 2048 m (NoBreak (placeOf r)) refl (refused-given e ∙ ap {B = Option Refusal} some (eleven r h)) in
-      let door = passed job 1024 2048 m (t .0) in
+      let t = lines-turn job 1024 2048 2048 m (NoBreak (placeOf r)) refl (refused-given e ∙ ap {B = Option Refusal} some (eleven r h)) in
+      let door = passed job 1024 2048 2048 m (t .0) in
       let parts : List Refusal = elementsFaults job 0 (elements job) ++ leftFaults job in
       record {
         passed = door;
         ahead = declined.stuck job door (placeOf r) (t .1) .more;
-        none = append-none (charFaults job) parts (append-none (jobFaults job 1024 2048 m) (charFaults job ++ parts) (t .0) .1) .1;
+        none = append-none (charFaults job) parts (append-none (jobFaults job 1024 2048 2048 m) (charFaults job ++ parts) (t .0) .1) .1;
       }
 
   refused-text : {r : Refusal} → telling job rows told wide .answer ≡ Refused r → jobAccount job m ≡ declinedText job r
@@ -120,13 +120,13 @@ module _ (job : Job) (rows told wide : List ℕ) where
     passes = ap verdict (no-faults .0)
 
     pub door : Passed job
-    door = fault.goes-on job 1024 2048 m passes
+    door = fault.goes-on job 1024 2048 2048 m passes
 
     fill : Filled job (ends job)
     fill = declined.filled job door (no-faults .1)
 
     long : (6 * baseCount job ≤ length rows) × (baseCount job ≤ length told) × (baseCount job ≤ length wide)
-    long = many (length rows) (length told) (length wide) (fault.long job 1024 2048 m passes .1)
+    long = many (length rows) (length told) (length wide) (fault.long job 1024 2048 2048 m (no-faults .0) .1)
       where
         many : (a b c : ℕ) → baseCount job ≤ min (a / 6) (min b c) → (6 * baseCount job ≤ a) × (baseCount job ≤ b) × (baseCount job ≤ c)
         many a b c h = (omega arith, omega arith, omega arith)
@@ -136,7 +136,7 @@ module _ (job : Job) (rows told wide : List ℕ) where
     lists = (rw (set-given set .0), rw (set-given set .0), rw (set-given set .0))
 
     abbrev readings : ℕ
-    readings = readingsOf (job .kind) (elementCount job)
+    readings = readingsOf (job .kind) (job .leftKind) (elementCount job)
 
     set-text : listsText n (elementCount job) readings (telling job rows told wide .rows) (telling job rows told wide .told) (telling job rows told wide .extents) ≡ accountText job
     set-text = rw (lists .0, lists .1, lists .2, set-given set .1) (text-is job door fill rows told wide (long .0) (long .1) (long .2))
@@ -161,7 +161,7 @@ module _ (job : Job) (rows told wide : List ℕ) {o : Telling} (e : o ≡ tellin
   refusal-ready {why} is h = record { line = line-declined job rows told wide (as-told is); room = omega arith }
 
   pub account-ready : {n : ℕ} → o .answer ≡ Set n → {out : List ℕ} → longest ≤ length out →
-      ListsReady n (elementCount job) (readingsOf (job .kind) (elementCount job)) (o .rows) (o .told) (o .extents) out
+      ListsReady n (elementCount job) (readingsOf (job .kind) (job .leftKind) (elementCount job)) (o .rows) (o .told) (o .extents) out
   account-ready is h = rw e (set-ready job rows told wide (as-told is) h)
 
   -- there are at most as many lines as base characters
@@ -187,8 +187,8 @@ module _ (job : Job) (rows told wide : List ℕ) {o : Telling} (e : o ≡ tellin
     pub told-refused : {why : Refusal} → o .answer ≡ Refused why → Wrote out 0 (declinedText job why) r now → Told job rows told wide out r (o .rows) (o .told) (o .extents) now
     told-refused {why} is wrote = tells (refused-text job rows told wide (as-told is)) (declined-most job why) wrote
 
-    pub told-set : {n : ℕ} → o .answer ≡ Set n → Wrote out 0 (listsText n (elementCount job) (readingsOf (job .kind) (elementCount job)) (o .rows) (o .told) (o .extents)) r now →
+    pub told-set : {n : ℕ} → o .answer ≡ Set n → Wrote out 0 (listsText n (elementCount job) (readingsOf (job .kind) (job .leftKind) (elementCount job)) (o .rows) (o .told) (o .extents)) r now →
         Told job rows told wide out r (o .rows) (o .told) (o .extents) now
     told-set {n} is wrote =
-        let same : listsText n (elementCount job) (readingsOf (job .kind) (elementCount job)) (o .rows) (o .told) (o .extents) ≡ accountText job = rw e (set-text job rows told wide (as-told is)) in
+        let same : listsText n (elementCount job) (readingsOf (job .kind) (job .leftKind) (elementCount job)) (o .rows) (o .told) (o .extents) ≡ accountText job = rw e (set-text job rows told wide (as-told is)) in
         tells (set-is job rows told wide (as-told is)) (set-short job rows told wide (as-told is)) (subst (λ xs. Wrote out 0 xs r now) same wrote)

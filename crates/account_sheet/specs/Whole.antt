@@ -3,7 +3,7 @@ use mathlib.Core.List.{List}
 use mathlib.Core.Path.{_≡_, sym, ap, subst, _∙_}
 use Prim.Native.Nat.{ℕ, _/_, _≤_, min}
 use native.Mathlib.Omega.{arith}
-use lib.ListN.{length}
+use lib.ListN.{length, replicate}
 use lib.Seq.{length-sets, length-take-le}
 use Rattle.text.specs.Print.{Wrote}
 use Rattle.refusal.specs.declared.Refusal.{Refusal}
@@ -11,10 +11,11 @@ use Rattle.sheet.specs.declared.Counts.{Counts}
 use Rattle.sheet.specs.declared.Reading.{Reading}
 use Rattle.sheet.specs.declared.Reading.the-variants.{Sound, Refused}
 use Rattle.sheet.specs.Sheet.{reading, Into}
+use Rattle.door.specs.Job.{Job}
 use Rattle.result.specs.Text.{refusalText}
 use Rattle.result.specs.Short.{refusal-short}
-use Rattle.setter.specs.Answer.{sheetJob, tablesJob, Fits}
-use Rattle.setter.specs.Whole.{same-job}
+use Rattle.setter.specs.Answer.{sheetJob, part, tablesJob, Fits}
+use Rattle.setter.specs.Whole.{first-same, same-job}
 use Rattle.job_account.specs.Outcome.{room}
 use Rattle.account_text.specs.Short.{longest}
 use Rattle.account_sheet.specs.Answer.{jobAccount, accountBy, accountOfSheet, listsBy, Told, Answered}
@@ -35,6 +36,14 @@ module _ {s set base ruby elem runs : List ℕ} {a : Reading} {set' base' ruby' 
         elemHolds = into .elemHolds;
         runsHold = into .runsHold;
       }
+
+-- what is told of a job by its elements' left kinds and counts, where none has a left reading
+pub none-left : (job : List ℕ → List ℕ → Job) {rows told wide out : List ℕ} {r : ℕ} {rows' told' wide' out' : List ℕ} (e : ℕ) → e ≤ 1024 →
+    Told (job (part 0 e (replicate 1024 78)) (part 0 e (replicate 1024 0))) rows told wide out r rows' told' wide' out' →
+    Told (job (replicate e 78) (replicate e 0)) rows told wide out r rows' told' wide' out'
+none-left job {rows} {told} {wide} {out} {r} {rows'} {told'} {wide'} {out'} e h all =
+    subst (λ x. Told (job x (replicate e 0)) rows told wide out r rows' told' wide' out') (first-same 78 e h)
+    (subst (λ x. Told (job (part 0 e (replicate 1024 78)) x) rows told wide out r rows' told' wide' out') (first-same 0 e h) all)
 
 -- the bytes of an account stand within their list
 pub fits : {s set base ruby elem runs rows told wide out : List ℕ} {r : ℕ} {set' base' ruby' elem' runs' rows' told' wide' out' : List ℕ} →

@@ -2,7 +2,8 @@
 // refused as the setting refuses it, and where a line is too long the account says how far. It relies on `sheet` for the reading, on `job_account` for the account, on `layout` and `shortest` for
 // what a declined line needs, and on `account_text` for the text.
 ghost use Prim.Native.Nat.{_+_, _≤_};
-ghost use lib.ListN.{length};
+ghost use mathlib.Core.List.{[]};
+ghost use lib.ListN.{length, replicate};
 ghost use Rattle.text.specs.Print.{Wrote};
 ghost use Rattle.spread.specs.Ratio.{usualLists};
 ghost use Rattle.door.specs.Job.{jobOf};
@@ -26,17 +27,19 @@ fn write_declined(
     kind: &[u32],
     ebase: &[u32],
     eruby: &[u32],
+    lkind: &[u32],
+    eleft: &[u32],
     runs: &[u32],
     out: &mut [u8],
 ) -> usize
-    requires { let job = jobOf em measure usualLists 0 (now class) (now width) (now before) (now after) (now flag) (now rclass) (now rwidth) (now kind) (now ebase) (now eruby) (now runs) in ⌜ Declined job why (now out) ⌝ }
-    ensures { λ r. let job = jobOf em measure usualLists 0 (now (class .entry)) (now (width .entry)) (now (before .entry)) (now (after .entry)) (now (flag .entry)) (now (rclass .entry)) (now (rwidth .entry)) (now (kind .entry)) (now (ebase .entry)) (now (eruby .entry)) (now (runs .entry)) in ⌜ Wrote (now (out .entry)) 0 (declinedText job why) r (now (out .exit)) ⌝ }
+    requires { let job = jobOf em measure usualLists 0 (now class) (now width) (now before) (now after) (now flag) (now rclass) (now rwidth) [] [] (now kind) (now ebase) (now eruby) (now lkind) (now eleft) (now runs) [] in ⌜ Declined job why (now out) ⌝ }
+    ensures { λ r. let job = jobOf em measure usualLists 0 (now (class .entry)) (now (width .entry)) (now (before .entry)) (now (after .entry)) (now (flag .entry)) (now (rclass .entry)) (now (rwidth .entry)) [] [] (now (kind .entry)) (now (ebase .entry)) (now (eruby .entry)) (now (lkind .entry)) (now (eleft .entry)) (now (runs .entry)) [] in ⌜ Wrote (now (out .entry)) 0 (declinedText job why) r (now (out .exit)) ⌝ }
 {
     let at = result::write_refusal(why, out);
     if refusal::number(why) != 11 {
         return at;
     }
-    let mut t = [0; 19463];
+    let mut t = [0; 27655];
     match layout::layout(
         &mut t,
         em,
@@ -49,10 +52,15 @@ fn write_declined(
         flag,
         rclass,
         rwidth,
+        &eleft[0..0],
+        &eleft[0..0],
         kind,
         ebase,
         eruby,
+        lkind,
+        eleft,
         runs,
+        &eleft[0..0],
     ) {
         door::Checked::Refused(_) => return at, // unreachable: a job whose line is declined has no fault of its own
         door::Checked::Passed => {}
@@ -62,7 +70,7 @@ fn write_declined(
     account_text::put_needs(out, at, needed, measure)
 }
 
-// The account of a job in lists, in text. A sheet has no ratios and no profile: it means 1:2:1 and 0.
+// The account of a job in lists, in text. A sheet has no ratios and no profile: it means 1:2:1 and 0. It has no left reading.
 fn tell_lists(
     em: u32,
     measure: u32,
@@ -76,6 +84,8 @@ fn tell_lists(
     kind: &[u32],
     ebase: &[u32],
     eruby: &[u32],
+    lkind: &[u32],
+    eleft: &[u32],
     runs: &[u32],
     rows: &mut [u32],
     told: &mut [u32],
@@ -83,7 +93,7 @@ fn tell_lists(
     out: &mut [u8],
 ) -> usize
     requires { ⌜ longest ≤ length (now out) ⌝ }
-    ensures { λ r. ⌜ Told (jobOf em measure usualLists 0 (now (class .entry)) (now (width .entry)) (now (before .entry)) (now (after .entry)) (now (flag .entry)) (now (rclass .entry)) (now (rwidth .entry)) (now (kind .entry)) (now (ebase .entry)) (now (eruby .entry)) (now (runs .entry))) (now (rows .entry)) (now (told .entry)) (now (extents .entry)) (now (out .entry)) r (now (rows .exit)) (now (told .exit)) (now (extents .exit)) (now (out .exit)) ⌝ }
+    ensures { λ r. ⌜ Told (jobOf em measure usualLists 0 (now (class .entry)) (now (width .entry)) (now (before .entry)) (now (after .entry)) (now (flag .entry)) (now (rclass .entry)) (now (rwidth .entry)) [] [] (now (kind .entry)) (now (ebase .entry)) (now (eruby .entry)) (now (lkind .entry)) (now (eleft .entry)) (now (runs .entry)) []) (now (rows .entry)) (now (told .entry)) (now (extents .entry)) (now (out .entry)) r (now (rows .exit)) (now (told .exit)) (now (extents .exit)) (now (out .exit)) ⌝ }
 {
     match job_account::account_job(
         em,
@@ -97,10 +107,15 @@ fn tell_lists(
         flag,
         rclass,
         rwidth,
+        &eleft[0..0],
+        &eleft[0..0],
         kind,
         ebase,
         eruby,
+        lkind,
+        eleft,
         runs,
+        &eleft[0..0],
         rows,
         told,
         extents,
@@ -119,12 +134,14 @@ fn tell_lists(
             kind,
             ebase,
             eruby,
+            lkind,
+            eleft,
             runs,
             out,
         ),
         job::Answer::Set(n) => {
-            let elements = door::element_count(kind, ebase, eruby);
-            let readings = account_text::count_readings(elements, kind);
+            let elements = door::element_count(kind, ebase, eruby, lkind, eleft);
+            let readings = account_text::count_readings(elements, kind, lkind);
             account_text::write_account(n, elements, readings, rows, told, extents, out)
         }
     }
@@ -151,10 +168,12 @@ fn tell_elements(
     out: &mut [u8],
 ) -> usize
     requires { ⌜ ElementsReady e u (now elem) (now runs) (now out) × (longest ≤ length (now out)) ⌝ }
-    ensures { λ r. ⌜ Told (jobOf em measure usualLists 0 (now (class .entry)) (now (width .entry)) (now (before .entry)) (now (after .entry)) (now (flag .entry)) (now (rclass .entry)) (now (rwidth .entry)) (part 0 e (now (elem .entry))) (part 1024 (1024 + e) (now (elem .entry))) (part 2048 (2048 + e) (now (elem .entry))) (part 0 u (now (runs .entry)))) (now (rows .entry)) (now (told .entry)) (now (extents .entry)) (now (out .entry)) r (now (rows .exit)) (now (told .exit)) (now (extents .exit)) (now (out .exit)) ⌝ }
+    ensures { λ r. ⌜ Told (jobOf em measure usualLists 0 (now (class .entry)) (now (width .entry)) (now (before .entry)) (now (after .entry)) (now (flag .entry)) (now (rclass .entry)) (now (rwidth .entry)) [] [] (part 0 e (now (elem .entry))) (part 1024 (1024 + e) (now (elem .entry))) (part 2048 (2048 + e) (now (elem .entry))) (replicate e 78) (replicate e 0) (part 0 u (now (runs .entry))) []) (now (rows .entry)) (now (told .entry)) (now (extents .entry)) (now (out .entry)) r (now (rows .exit)) (now (told .exit)) (now (extents .exit)) (now (out .exit)) ⌝ }
 {
     let e1 = 1024 + e;
     let e2 = 2048 + e;
+    let lkind = [door::LEFT_NONE; 1024];
+    let eleft = [0; 1024];
     tell_lists(
         em,
         measure,
@@ -168,6 +187,8 @@ fn tell_elements(
         &elem[0..e],
         &elem[1024..e1],
         &elem[2048..e2],
+        &lkind[0..e],
+        &eleft[0..e],
         &runs[0..u],
         rows,
         told,

@@ -10,14 +10,14 @@ use Rattle.door.specs.declared.Piece.{Piece}
 use Rattle.door.specs.Job.{Job, baseCount, elementCount}
 use Rattle.door.specs.Whole.{element-within}
 use Rattle.door.specs.Passed.{Passed}
-use Rattle.job.specs.Line.{pieces, seen, lineOf, origins, extentOf, ends, along, baseAt, baseIn, byLine}
+use Rattle.job.specs.Line.{pieces, seen, lineOf, origins, extentOf, ends, along, alone, baseAt, baseIn, byLine}
 use Rattle.job.specs.Walk.{length-origins}
-use Rattle.job.specs.Words.{GoodPiece, good-pieces}
+use Rattle.job.specs.Words.{GoodPiece}
+use Rattle.job.specs.Pieces.{good-pieces}
 use Rattle.job.specs.Promise.{Filled}
 use Rattle.job.specs.Filled.{chain-few}
-use Rattle.job.specs.Placed.{base-long}
+use Rattle.job.specs.Placed.{base-counted, base-long}
 use Rattle.positions.specs.Lists.{sets-over}
-use Rattle.result.specs.Short.{base-many}
 use Rattle.job_account.specs.Rows.{rowsIn, length-rows}
 use Rattle.job_account.specs.Lines.{accounts, countsFrom, counts, extentsFrom, extents, LinesTold}
 use Rattle.account_text.specs.Text.{headText, rowsText, segment, verdictText, readingsOf, lineText, linesText, accountText, listsText}
@@ -31,10 +31,14 @@ piecesFrom job s (e ∷ es) = length (lineOf job s e) + piecesFrom job e es
 
 module _ (job : Job) where
   -- every piece has a base character of its own
+  base-many : (p : Piece) (o : ℕ) → GoodPiece job p → length (baseAt job p o) ≡ p .bases
+  unfolding baseAt
+  base-many p o g = length-map (alone job p .base) (λ y. o + y) ∙ base-counted job p g
+
   along-few : (ps : List Piece) (xs : List ℕ) → length xs ≡ length ps → All (GoodPiece job) ps → length ps ≤ length (along (baseAt job) ps xs)
   along-few [] xs h a = zero-le
   along-few (p ∷ ps) [] h a = absurd (omega arith)
-  along-few (p ∷ ps) (x ∷ xs) h a = omega (arith, length-append (baseAt job p x) (along (baseAt job) ps xs), base-many job p x (a .0), a .0 .some, along-few ps xs (omega arith) (a .1))
+  along-few (p ∷ ps) (x ∷ xs) h a = omega (arith, length-append (baseAt job p x) (along (baseAt job) ps xs), base-many p x (a .0), a .0 .some, along-few ps xs (omega arith) (a .1))
 
   pieces-few : Passed job → (s : ℕ) (es : List ℕ) → piecesFrom job s es ≤ length (byLine (baseIn job) s es)
   unfolding lineOf baseIn
@@ -126,10 +130,10 @@ module _ (job : Job) (passed : Passed job) (fill : Filled job (ends job)) (rows 
       ap (take n) (sets-over wide (extents job) (omega (arith, same, few))) ∙ take-at (extents job) (drop (length (extents job)) wide) n (omega (arith, same))
 
   -- The text from the lists is the account of the job.
-  pub text-is : listsText n (elementCount job) (readingsOf (job .kind) (elementCount job)) (sets rows 0 (accounts job)) (sets told 0 (counts job)) (sets wide 0 (extents job)) ≡ accountText job
+  pub text-is : listsText n (elementCount job) (readingsOf (job .kind) (job .leftKind) (elementCount job)) (sets rows 0 (accounts job)) (sets told 0 (counts job)) (sets wide 0 (extents job)) ≡ accountText job
   unfolding listsText accountText accounts counts extents
   text-is =
-      ap (λ xs. verdictText n (elementCount job) (readingsOf (job .kind) (elementCount job)) ++ xs)
+      ap (λ xs. verdictText n (elementCount job) (readingsOf (job .kind) (job .leftKind) (elementCount job)) ++ xs)
       (ap₂ (linesText (sets rows 0 (accounts job)) 0) told-are wide-are
       ∙ lines-same job (sets rows 0 (accounts job)) (drop (length (accounts job)) rows) 0 0 (ends job) rows-are)
 
@@ -141,13 +145,13 @@ module _ (job : Job) (passed : Passed job) (fill : Filled job (ends job)) (rows 
 
   -- and all that the printing asks for holds, given the room.
   pub lists-ready : {out : List ℕ} → length (accountText job) ≤ length out →
-      ListsReady n (elementCount job) (readingsOf (job .kind) (elementCount job)) (sets rows 0 (accounts job)) (sets told 0 (counts job)) (sets wide 0 (extents job)) out
+      ListsReady n (elementCount job) (readingsOf (job .kind) (job .leftKind) (elementCount job)) (sets rows 0 (accounts job)) (sets told 0 (counts job)) (sets wide 0 (extents job)) out
   lists-ready fits =
       record {
         counts = omega (arith, few, length-sets told 0 (counts job));
         extents = omega (arith, few, length-sets wide 0 (extents job));
         rising = rises;
         few = omega (arith, few, passed .fewBase);
-        small = (omega (arith, passed .fewElements), omega (arith, passed .fewElements, readings-few (job .kind) (elementCount job)));
+        small = (omega (arith, passed .fewElements), omega (arith, passed .fewElements, readings-few (job .kind) (job .leftKind) (elementCount job)));
         room = rw text-is fits;
       }

@@ -7,23 +7,17 @@ use native.Mathlib.Omega.{arith}
 use lib.ListN.{length, getD, length-append}
 use Rattle.basics.specs.Lists.{count, keep}
 use Rattle.word.specs.Given.{hasRuby}
-use Rattle.door.specs.Job.{formOf}
+use Rattle.word.specs.Both.{hasLeft}
+use Rattle.door.specs.Job.{formOf, leftOf}
 use Rattle.job.specs.Laws.{count-join, keep-append}
 use Rattle.result.specs.Text.{bytes}
 use Rattle.result.specs.Left.{Left, left-first}
-use Rattle.account_text.specs.Text.{said, verdictText, needsText, readingsOf}
+use Rattle.account_text.specs.Text.{said, verdictText, needsText, many, readingsOf}
 
-module _ (kinds : List ℕ) where
-  abbrev test : ℕ → Bool
-  test k = hasRuby (formOf (getD kinds k 0))
-
-  pub readings-none : readingsOf kinds 0 ≡ 0
-  unfolding readingsOf
-  readings-none = refl
-
-  pub readings-more : (k : ℕ) → readingsOf kinds (k + 1) ≡ readingsOf kinds k + cond (test k) 1 0
-  unfolding readingsOf
-  readings-more k =
+-- how many pass a test, one element more, and no more than there are
+module _ (test : ℕ → Bool) where
+  many-more : (k : ℕ) → many test (k + 1) ≡ many test k + cond (test k) 1 0
+  many-more k =
       ap length (ap (keep test) (sym (count-join 0 k k 1 (k + 1) (omega arith) refl)) ∙ keep-append test (count 0 k) (k ∷ []))
       ∙ length-append (keep test (count 0 k)) (keep test (k ∷ []))
       ∙ ap (λ n. length (keep test (count 0 k)) + n) (go (test k))
@@ -32,9 +26,8 @@ module _ (kinds : List ℕ) where
       go true = refl
       go false = refl
 
-  pub readings-few : (n : ℕ) → readingsOf kinds n ≤ n
-  unfolding readingsOf
-  readings-few n = go 0 n
+  many-few : (n : ℕ) → many test n ≤ n
+  many-few n = go 0 n
     where
       go : (a n : ℕ) → length (keep test (count a n)) ≤ n
       go a zero = zero-le
@@ -43,6 +36,26 @@ module _ (kinds : List ℕ) where
           pick : (b : Bool) → length (keep test (count (suc a) n)) ≤ n → length (cond b (a ∷ keep test (count (suc a) n)) (keep test (count (suc a) n))) ≤ suc n
           pick true h = omega arith
           pick false h = omega arith
+
+-- the readings of either side
+module _ (kinds glosses : List ℕ) where
+  abbrev right : ℕ → Bool
+  right k = hasRuby (formOf (getD kinds k 0))
+
+  abbrev left : ℕ → Bool
+  left k = hasLeft (leftOf (getD glosses k 0))
+
+  pub readings-none : readingsOf kinds glosses 0 ≡ 0
+  unfolding readingsOf
+  readings-none = refl
+
+  pub readings-more : (k : ℕ) → readingsOf kinds glosses (k + 1) ≡ readingsOf kinds glosses k + (cond (right k) 1 0 + cond (left k) 1 0)
+  unfolding readingsOf
+  readings-more k = omega (arith, many-more right k, many-more left k)
+
+  pub readings-few : (n : ℕ) → readingsOf kinds glosses n ≤ 2 * n
+  unfolding readingsOf
+  readings-few n = omega (arith, many-few right n, many-few left n)
 
 abbrev pub lines : ℕ → List ℕ
 lines n = said (bytes "clear lines ") n

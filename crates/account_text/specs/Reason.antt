@@ -1,13 +1,13 @@
 -- The text of each reason, and a part that is the last.
 use mathlib.Core.Path.{_≡_}
 use mathlib.Core.List.{List, [], _∷_}
-use Prim.Native.Nat.{ℕ, _+_, _≤_, _<_}
+use Prim.Native.Nat.{ℕ, _+_, _-_, _≤_, _<_}
 use native.Mathlib.Omega.{arith}
-use borrow.Author.Tests.{ne-eqb}
+use borrow.Author.Tests.{ne-eqb, le-leb, lt-leb}
 use lib.ListN.{length}
 use Rattle.result.specs.Text.{bytes}
 use Rattle.result.specs.Left.{Left}
-use Rattle.account_text.specs.Text.{said, deep, reasonText}
+use Rattle.account_text.specs.Text.{said, underText, overText, touchText, edgeText, rubyText, reasonText}
 
 module _ (r other depth : ℕ) where
   pub at-start : r ≡ 1 → reasonText r other depth ≡ bytes " rule 4 block touches start"
@@ -18,21 +18,31 @@ module _ (r other depth : ℕ) where
   unfolding reasonText
   by-block e = rw e
 
-  pub by-under : r ≡ 3 → reasonText r other depth ≡ deep (bytes " rule 2 block touches ruby of ") other depth
-  unfolding reasonText
-  by-under e = rw e
+  module _ (a : r ≡ 1 → ⊥) (b : r ≡ 2 → ⊥) where
+    pub by-right : r ≤ 6 → reasonText r other depth ≡ rubyText (bytes "ruby") r other depth
+    unfolding reasonText
+    by-right l = rw (ne-eqb r 1 a, ne-eqb r 2 b, le-leb r 6 l)
 
-  pub by-over : r ≡ 4 → reasonText r other depth ≡ deep (bytes " rule 2 ruby touches block of ") other depth
-  unfolding reasonText
-  by-over e = rw e
+    pub by-left : 6 < r → reasonText r other depth ≡ rubyText (bytes "left ruby") (r - 4) other depth
+    unfolding reasonText
+    by-left l = rw (ne-eqb r 1 a, ne-eqb r 2 b, lt-leb r 6 l)
 
-  pub by-ruby : r ≡ 5 → reasonText r other depth ≡ said (bytes " rule 3 ruby touches ruby of ") other
-  unfolding reasonText
-  by-ruby e = rw e
+  module _ (name : List ℕ) where
+    pub by-under : r ≡ 3 → rubyText name r other depth ≡ underText name other depth
+    unfolding rubyText
+    by-under e = rw e
 
-  pub by-edge : (r ≡ 1 → ⊥) → (r ≡ 2 → ⊥) → (r ≡ 3 → ⊥) → (r ≡ 4 → ⊥) → (r ≡ 5 → ⊥) → reasonText r other depth ≡ bytes " rule 4 ruby touches start"
-  unfolding reasonText
-  by-edge a b c d e = rw (ne-eqb r 1 a, ne-eqb r 2 b, ne-eqb r 3 c, ne-eqb r 4 d, ne-eqb r 5 e)
+    pub by-over : r ≡ 4 → rubyText name r other depth ≡ overText name other depth
+    unfolding rubyText
+    by-over e = rw e
+
+    pub by-touch : r ≡ 5 → rubyText name r other depth ≡ touchText name other
+    unfolding rubyText
+    by-touch e = rw e
+
+    pub by-edge : (r ≡ 3 → ⊥) → (r ≡ 4 → ⊥) → (r ≡ 5 → ⊥) → rubyText name r other depth ≡ edgeText name
+    unfolding rubyText
+    by-edge a b c = rw (ne-eqb r 3 a, ne-eqb r 4 b, ne-eqb r 5 c)
 
 -- the last part of a text fits, and so does its last byte
 pub last-fits : {t : List ℕ} {from : ℕ} {all u : List ℕ} {at : ℕ} {a : List ℕ} → Left t from all u at a → at + length a ≤ length u

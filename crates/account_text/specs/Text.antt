@@ -2,17 +2,16 @@
 -- rule and the other element, one a line. All lengths are in half units, as positions are.
 use mathlib.Core.Bool.{Bool, cond}
 use mathlib.Core.List.{List, [], _∷_, _++_}
-use Prim.Native.Nat.{ℕ, suc, _+_, _-_, _*_}
-use lib.Dec.{eqb}
+use Prim.Native.Nat.{ℕ, _+_, _-_, _*_}
+use lib.Dec.{eqb, leb}
 use lib.ListN.{length, getD, take, drop}
 use Rattle.basics.specs.Lists.{count, keep}
 use Rattle.text.specs.Print.{decimal}
-use Rattle.refusal.specs.declared.Refusal.{Refusal}
-use Rattle.refusal.specs.declared.Refusal.the-variants.{NoBreak}
 use Rattle.word.specs.Given.{hasRuby}
-use Rattle.door.specs.Job.{Job, formOf, elementCount}
+use Rattle.word.specs.Both.{hasLeft}
+use Rattle.door.specs.Job.{Job, formOf, leftOf, elementCount}
 use Rattle.job.specs.Line.{extentOf, ends, byLine}
-use Rattle.result.specs.Text.{bytes, refusalText}
+use Rattle.result.specs.Text.{bytes}
 use Rattle.job_account.specs.Rows.{rowsIn}
 
 -- a phrase and its number
@@ -25,17 +24,41 @@ unfoldable pub deep : List ℕ → ℕ → ℕ → List ℕ
 unfolding said
 deep phrase other depth = said phrase other ++ said (bytes " at depth ") depth
 
--- what holds an element, by the reason's place in the rules' order (specs/Claims of account, `number`): which rule, and what of it touches what; rule 2 lets ruby lie on a
--- block to the depth that is said
+-- What holds an element: which rule, and what of it touches what. Rule 2 lets ruby lie on a block to the depth that is said. `name` is what the ruby is called.
+
+-- a phrase and the ruby
+unfoldable pub named : List ℕ → List ℕ → List ℕ
+named phrase name = phrase ++ name
+
+unfoldable pub underText : List ℕ → ℕ → ℕ → List ℕ
+unfolding named deep
+underText name other depth = named (bytes " rule 2 block touches ") name ++ deep (bytes " of ") other depth
+
+unfoldable pub overText : List ℕ → ℕ → ℕ → List ℕ
+unfolding named deep
+overText name other depth = named (bytes " rule 2 ") name ++ deep (bytes " touches block of ") other depth
+
+unfoldable pub touchText : List ℕ → ℕ → List ℕ
+unfolding named said
+touchText name other = named (bytes " rule 3 ") name ++ (named (bytes " touches ") name ++ said (bytes " of ") other)
+
+unfoldable pub edgeText : List ℕ → List ℕ
+unfolding named
+edgeText name = named (bytes " rule 4 ") name ++ bytes " touches start"
+
+-- by the number of a reason of the right side
+unfoldable pub rubyText : List ℕ → ℕ → ℕ → ℕ → List ℕ
+unfolding underText overText touchText edgeText
+rubyText name reason other depth =
+    cond (eqb reason 3) (underText name other depth) (cond (eqb reason 4) (overText name other depth) (cond (eqb reason 5) (touchText name other) (edgeText name)))
+
+-- by the reason's number (specs/Claims of account, `number`): a left ruby's is 4 more
 unfoldable pub reasonText : ℕ → ℕ → ℕ → List ℕ
-unfolding said deep
+unfolding said rubyText
 reasonText reason other depth =
     cond (eqb reason 1) (bytes " rule 4 block touches start")
     (cond (eqb reason 2) (said (bytes " rule 1 block touches block of ") other)
-    (cond (eqb reason 3) (deep (bytes " rule 2 block touches ruby of ") other depth)
-    (cond (eqb reason 4) (deep (bytes " rule 2 ruby touches block of ") other depth)
-    (cond (eqb reason 5) (said (bytes " rule 3 ruby touches ruby of ") other)
-    (bytes " rule 4 ruby touches start")))))
+    (cond (leb reason 6) (rubyText (bytes "ruby") reason other depth) (rubyText (bytes "left ruby") (reason - 4) other depth)))
 
 -- one element: its index, its block's start, the gap before the block, and the reason
 unfoldable pub rowText : ℕ → ℕ → ℕ → ℕ → ℕ → ℕ → List ℕ
@@ -63,9 +86,13 @@ unfoldable pub verdictText : ℕ → ℕ → ℕ → List ℕ
 unfolding said
 verdictText lines elements readings = said (bytes "clear lines ") lines ++ (said (bytes " elements ") elements ++ (said (bytes " readings ") readings ++ (10 ∷ [])))
 
--- a reading is the ruby of an M, a G or a J
-unfoldable pub readingsOf : List ℕ → ℕ → ℕ
-readingsOf kinds n = length (keep (λ k. hasRuby (formOf (getD kinds k 0))) (count 0 n))
+-- how many of the n elements pass a test
+abbrev pub many : (ℕ → Bool) → ℕ → ℕ
+many test n = length (keep test (count 0 n))
+
+-- a reading is the ruby of an M, a G or a J, and a left reading is another: those of n elements of these kinds, with left readings of these kinds
+unfoldable pub readingsOf : List ℕ → List ℕ → ℕ → ℕ
+readingsOf kinds glosses n = many (λ k. hasRuby (formOf (getD kinds k 0))) n + many (λ k. hasLeft (leftOf (getD glosses k 0))) n
 
 -- The account of an accepted job: the text of its lines, one after the other.
 unfoldable pub lineText : Job → ℕ → ℕ → List ℕ
@@ -74,7 +101,7 @@ lineText job s e = headText (extentOf job s e) ++ rowsText (rowsIn job s e)
 
 unfoldable pub accountText : Job → List ℕ
 unfolding verdictText readingsOf lineText ends
-accountText job = verdictText (length (ends job)) (elementCount job) (readingsOf (job .kind) (elementCount job)) ++ byLine (lineText job) 0 (ends job)
+accountText job = verdictText (length (ends job)) (elementCount job) (readingsOf (job .kind) (job .leftKind) (elementCount job)) ++ byLine (lineText job) 0 (ends job)
 
 -- the extent that the shortest permitted line would need, and the measure, both in half units
 unfoldable pub needsText : ℕ → ℕ → List ℕ

@@ -7,8 +7,9 @@ ghost use mathlib.Core.Bool.{cond};
 ghost use mathlib.Core.List.{_++_};
 ghost use Rattle.text.specs.Print.{Wrote};
 ghost use Rattle.word.specs.Given.{hasRuby};
-ghost use Rattle.door.specs.Job.{formOf};
-ghost use Rattle.account_text.specs.Text.{said, deep, reasonText, rowAt, segment, rowsText, headText, verdictText, listsText, readingsOf, needsText};
+ghost use Rattle.word.specs.Both.{hasLeft};
+ghost use Rattle.door.specs.Job.{formOf, leftOf};
+ghost use Rattle.account_text.specs.Text.{said, deep, named, underText, overText, touchText, edgeText, rubyText, reasonText, rowAt, segment, rowsText, headText, verdictText, listsText, readingsOf, needsText};
 ghost use Rattle.account_text.specs.Rows.{SegmentReady};
 ghost use Rattle.account_text.specs.Lists.{ListsReady};
 
@@ -30,7 +31,70 @@ fn put_deep(out: &mut [u8], from: usize, phrase: &[u8], other: u32, depth: u32) 
     put_said(out, a, b" at depth ", depth)
 }
 
-// What holds an element, by the reason's place in the rules' order.
+// A phrase, and what a ruby is called.
+fn put_named(out: &mut [u8], from: usize, phrase: &[u8], name: &[u8]) -> usize
+    requires { ⌜ from + length (named (now phrase) (now name)) ≤ length (now out) ⌝ }
+    ensures { λ r. ⌜ Wrote (now (out .entry)) from (named (now (phrase .entry)) (now (name .entry))) r (now (out .exit)) ⌝ }
+{
+    let a = text::print::put_word(out, from, phrase);
+    text::print::put_word(out, a, name)
+}
+
+// Rule 2: the block, and a ruby of the element before.
+fn put_under(out: &mut [u8], from: usize, name: &[u8], other: u32, depth: u32) -> usize
+    requires { ⌜ from + length (underText (now name) other depth) ≤ length (now out) ⌝ }
+    ensures { λ r. ⌜ Wrote (now (out .entry)) from (underText (now (name .entry)) other depth) r (now (out .exit)) ⌝ }
+{
+    let a = put_named(out, from, b" rule 2 block touches ", name);
+    put_deep(out, a, b" of ", other, depth)
+}
+
+// Rule 2: its ruby, and the block before.
+fn put_over(out: &mut [u8], from: usize, name: &[u8], other: u32, depth: u32) -> usize
+    requires { ⌜ from + length (overText (now name) other depth) ≤ length (now out) ⌝ }
+    ensures { λ r. ⌜ Wrote (now (out .entry)) from (overText (now (name .entry)) other depth) r (now (out .exit)) ⌝ }
+{
+    let a = put_named(out, from, b" rule 2 ", name);
+    put_deep(out, a, b" touches block of ", other, depth)
+}
+
+// Rule 3: its ruby, and an earlier one of its side.
+fn put_touch(out: &mut [u8], from: usize, name: &[u8], other: u32) -> usize
+    requires { ⌜ from + length (touchText (now name) other) ≤ length (now out) ⌝ }
+    ensures { λ r. ⌜ Wrote (now (out .entry)) from (touchText (now (name .entry)) other) r (now (out .exit)) ⌝ }
+{
+    let a = put_named(out, from, b" rule 3 ", name);
+    let b = put_named(out, a, b" touches ", name);
+    put_said(out, b, b" of ", other)
+}
+
+// Rule 4: its ruby, at the line's start.
+fn put_edge(out: &mut [u8], from: usize, name: &[u8]) -> usize
+    requires { ⌜ from + length (edgeText (now name)) ≤ length (now out) ⌝ }
+    ensures { λ r. ⌜ Wrote (now (out .entry)) from (edgeText (now (name .entry))) r (now (out .exit)) ⌝ }
+{
+    let a = put_named(out, from, b" rule 4 ", name);
+    text::print::put_word(out, a, b" touches start")
+}
+
+// A reason that speaks of a ruby with this name, by the number of the right side's.
+fn put_ruby(out: &mut [u8], from: usize, name: &[u8], reason: u32, other: u32, depth: u32) -> usize
+    requires { ⌜ from + length (rubyText (now name) reason other depth) ≤ length (now out) ⌝ }
+    ensures { λ r. ⌜ Wrote (now (out .entry)) from (rubyText (now (name .entry)) reason other depth) r (now (out .exit)) ⌝ }
+{
+    if reason == 3 {
+        return put_under(out, from, name, other, depth);
+    }
+    if reason == 4 {
+        return put_over(out, from, name, other, depth);
+    }
+    if reason == 5 {
+        return put_touch(out, from, name, other);
+    }
+    put_edge(out, from, name)
+}
+
+// What holds an element, by the reason's number.
 fn put_reason(out: &mut [u8], from: usize, reason: u32, other: u32, depth: u32) -> usize
     requires { ⌜ from + length (reasonText reason other depth) ≤ length (now out) ⌝ }
     ensures { λ r. ⌜ Wrote (now (out .entry)) from (reasonText reason other depth) r (now (out .exit)) ⌝ }
@@ -41,16 +105,10 @@ fn put_reason(out: &mut [u8], from: usize, reason: u32, other: u32, depth: u32) 
     if reason == 2 {
         return put_said(out, from, b" rule 1 block touches block of ", other);
     }
-    if reason == 3 {
-        return put_deep(out, from, b" rule 2 block touches ruby of ", other, depth);
+    if reason <= 6 {
+        return put_ruby(out, from, b"ruby", reason, other, depth);
     }
-    if reason == 4 {
-        return put_deep(out, from, b" rule 2 ruby touches block of ", other, depth);
-    }
-    if reason == 5 {
-        return put_said(out, from, b" rule 3 ruby touches ruby of ", other);
-    }
-    text::print::put_word(out, from, b" rule 4 ruby touches start")
+    put_ruby(out, from, b"left ruby", reason - 4, other, depth)
 }
 
 // Row q of an account on its line.
@@ -101,7 +159,7 @@ fn put_verdict(out: &mut [u8], lines: u32, elements: u32, readings: u32) -> usiz
     text::print::put_byte(out, c, 10)
 }
 
-// 1 for an element of this kind that has a reading: any but a P.
+// 1 for an element of this kind that has ruby: any but a P.
 fn reads(kind: u32) -> usize
     ensures { λ r. ⌜ r ≡ cond (hasRuby (formOf kind)) 1 0 ⌝ }
 {
@@ -114,15 +172,30 @@ fn reads(kind: u32) -> usize
     }
 }
 
-// How many of n elements have a reading.
-pub fn count_readings(n: usize, kind: &[u32]) -> usize
-    requires { ⌜ (n ≤ length (now kind)) × (n ≤ 1024) ⌝ }
-    ensures { λ r. ⌜ r ≡ readingsOf (now (kind .entry)) n ⌝ }
+// 1 for an element with a left reading of this kind, and 0 where it says that there is none.
+fn reads_left(kind: u32) -> usize
+    ensures { λ r. ⌜ r ≡ cond (hasLeft (leftOf kind)) 1 0 ⌝ }
+{
+    let left = door::left_of(kind);
+    match left {
+        word::Left::N => 0,
+        word::Left::M => 1,
+        word::Left::G => 1,
+        word::Left::J => 1,
+    }
+}
+
+// How many readings n elements have on either side.
+pub fn count_readings(n: usize, kind: &[u32], lkind: &[u32]) -> usize
+    requires { ⌜ (n ≤ length (now kind)) × (n ≤ length (now lkind)) × (n ≤ 1024) ⌝ }
+    ensures { λ r. ⌜ r ≡ readingsOf (now (kind .entry)) (now (lkind .entry)) n ⌝ }
 {
     let mut k: usize = 0;
     let mut readings: usize = 0;
     while k < n {
-        readings += reads(kind[k]);
+        let right = reads(kind[k]);
+        let left = reads_left(lkind[k]);
+        readings += right + left;
         k += 1;
     }
     readings

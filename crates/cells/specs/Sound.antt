@@ -318,3 +318,31 @@ pub part-one : (em : ℕ) (t : List ℕ) (i c : ℕ) → cellAt t i .lefts ≡ 0
     ≡ partBy (ratiosAt t) em (c - i) (z .wide + z .own - a .wide) (z .ruby + z .rubies - a .ruby) (eqb (a .over) (overWith em z)) (a .own) (z .own) (a .western)
 unfolding part
 part-one em t i c h = rw (le-ltb 0 (cellAt t i .lefts) (omega arith))
+
+-- a part of a J without left characters has no left reading
+
+way-bare : (ruby base : Way) (h : Ratios) (em b n r m : ℕ) → wordFrom ruby base h em b n r m .left .there ≡ false
+unfolding wordFrom shortRuby shortBase
+way-bare ruby base h em b n r m = go (leb r b)
+  where
+    go : (x : Bool) → cond x (shortRuby b r (gaps ruby (h .ruby) em (b - r) m)) (shortBase b r (gaps base (h .base) em (r - b) n)) .left .there ≡ false
+    go true = refl
+    go false = refl
+
+by-bare : (h : Ratios) (em n r m : ℕ) (same : Bool) (first last : ℕ) (western : Bool) → partBy h em n r m same first last western .left .there ≡ false
+unfolding partBy eachOver
+by-bare h em n r m same first last western = go (eqb n 1) same
+  where
+    go : (x y : Bool) →
+        cond x (wordFrom Solid Solid h em (em * n) n r m)
+        (cond y (eachOver (em * n) (between em (em * n) first last) none) (wordFrom (rubyWay western) Spread h em (em * n) n r m)) .left .there ≡ false
+    go true y = way-bare Solid Solid h em (em * n) n r m
+    go false true = refl
+    go false false = way-bare (rubyWay western) Spread h em (em * n) n r m
+
+pub part-bare : (em : ℕ) (t : List ℕ) (i c : ℕ) → cellAt t i .lefts ≡ 0 → part em t i c .left .there ≡ false
+part-bare em t i c h =
+    let a = cellAt t i in
+    let z = cellAt t (c - 1) in
+    ap (λ w. w .left .there) (part-one em t i c h)
+    ∙ by-bare (ratiosAt t) em (c - i) (z .wide + z .own - a .wide) (z .ruby + z .rubies - a .ruby) (eqb (a .over) (overWith em z)) (a .own) (z .own) (a .western)

@@ -14,11 +14,11 @@ ghost use Rattle.cells.specs.Put.{bitOf, numbersOf, leftNumbersOf, Copie
 ghost use Rattle.cells.specs.Cells.{size, leftSize, ratiosAt, leftsAt, leftRowAt, leftAt, rowAt, beside, cellAt, eachOver, rubyWay, overWith, both, part, wordAt, shareOf, seen, elementOf, stepOf, stepAt, Cuts, hasRuby, Plain, Advances};
 
 // How many numbers the head of a table has, how many a row, and how many a row of a left reading.
-const HEAD: usize = 7;
+pub const HEAD: usize = 7;
 
-const ROW: usize = 19;
+pub const ROW: usize = 19;
 
-const LEFT: usize = 8;
+pub const LEFT: usize = 8;
 
 // A base character. `bases`: how many of its element's there are from it on; `cut`: a line may end between them (its element is a J of two or more); `ends`: a line may
 // end behind them. `word` is that of its element, set to nothing where `cut`; `before` and `after` are the depths to which ruby may lie on it. `ruby` is the

@@ -2,9 +2,10 @@ pub mod Job
 pub mod Refusals
 pub mod Verdict
 pub mod Entries
-pub mod Values
-pub mod Elements
 pub mod Passed
+pub mod Values
+pub mod Whole
+pub mod Elements
 pub mod Walk
 pub mod Loop
-pub mod Whole
+pub mod Measure

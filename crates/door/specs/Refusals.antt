@@ -7,13 +7,16 @@ use lib.ListN.{getD}
 use Rattle.basics.specs.Lists.{sum, count, any, each}
 use Rattle.class.specs.Class.{accepted, western, kanaLike, blankBefore, blankAfter}
 use Rattle.refusal.specs.declared.Refusal.{Refusal}
-use Rattle.refusal.specs.declared.Refusal.the-variants.{Range, Ratio, Profile, Count, Short, Character, Blanks, Element, Supply, BlankInside, JukugoBase, Mixed, WesternOver}
+use Rattle.refusal.specs.declared.Refusal.the-variants.{Range, Ratio, Profile, Count, Short, Character, Blanks, Element, LeftKind, Supply, BlankInside, JukugoBase, Mixed, WesternOver}
 use Rattle.spread.specs.declared.Ratio.{Ratio as RatioNumbers}
 use Rattle.word.specs.declared.Form.{Form}
 use Rattle.word.specs.declared.Form.the-variants.{P, M, G, J}
-use Rattle.word.specs.Answer.{blankInside, jukugoBase, mixedIn, westernOver}
+use Rattle.word.specs.declared.Left.{Left}
+use Rattle.word.specs.Answer.{blankInside, jukugoBase}
+use Rattle.word.specs.Both.{takes}
+use Rattle.word.specs.Answered.{mixedBoth, westernBoth}
 use Rattle.door.specs.declared.Piece.{Piece}
-use Rattle.door.specs.Job.{Job, baseCount, rubyCount, elementCount, known, elements, given}
+use Rattle.door.specs.Job.{Job, baseCount, rubyCount, leftCount, elementCount, known, knownLeft, leftByRuns, leftByCount, elements, given, glossOf}
 
 abbrev pub outside : ℕ → ℕ → ℕ → Bool
 outside a b n = ltb n a || ltb b n
@@ -33,17 +36,17 @@ ratioWrong r = ltb 7 (r .a) || (ltb 7 (r .m) || (ltb 7 (r .c) || (eqb (r .a) 0 &
 abbrev pub profileWrong : Job → Bool
 profileWrong job = ltb 1 (job .profile)
 
--- 12: "base list or line list below the base count, ruby list below the ruby count"; base, ruby and lines are the lengths of the result lists
-abbrev pub listShort : Job → ℕ → ℕ → ℕ → Bool
-listShort job base ruby lines = ltb base (baseCount job) || (ltb lines (baseCount job) || ltb ruby (rubyCount job))
+-- 12: "base list or line list below the base count, ruby list below the ruby count", the left list "as for right ones"; base, ruby, left and lines are the lengths of the result lists
+abbrev pub listShort : Job → ℕ → ℕ → ℕ → ℕ → Bool
+listShort job base ruby left lines = ltb base (baseCount job) || (ltb lines (baseCount job) || (ltb ruby (rubyCount job) || ltb left (leftCount job)))
 
 -- 3: "class, width or flag not accepted"
 abbrev pub baseWrong : Job → ℕ → Bool
 baseWrong job i = not (accepted (getD (job .class) i 0)) || (outside 1 4096 (getD (job .width) i 0) || ltb 1 (getD (job .flag) i 0))
 
--- 3, of a ruby character, which has no flag: "class, width .. not accepted"
-abbrev pub rubyWrong : Job → ℕ → Bool
-rubyWrong job i = not (accepted (getD (job .rubyClass) i 0)) || outside 1 4096 (getD (job .rubyWidth) i 0)
+-- 3, of a ruby character or a left one, which have no flag: "class, width .. not accepted"
+abbrev pub readingWrong : List ℕ → List ℕ → ℕ → Bool
+readingWrong class width i = not (accepted (getD class i 0)) || outside 1 4096 (getD width i 0)
 
 -- 4: "blanks against the class or over the width"
 abbrev pub blanksWrong : Job → ℕ → Bool
@@ -61,17 +64,29 @@ countsOut M base ruby runs = outside 1 64 ruby
 countsOut G base ruby runs = outside 1 32 base || outside 1 64 ruby
 countsOut J base ruby runs = outside 1 32 base || (any (eqb 0) runs || ltb 64 ruby)
 
--- 5: "unknown kind, or element counts out of range"
+-- and of its left reading, "as for right ones"
+abbrev pub leftOut : Form → Left → ℕ → List ℕ → Bool
+leftOut form gloss lefts runs = (leftByRuns form gloss && (any (eqb 0) runs || ltb 64 lefts)) || (leftByCount form gloss && outside 1 64 lefts)
+
+-- 5: "unknown kind, or element counts out of range", right first
 abbrev pub countsWrong : Job → ℕ → Piece → Bool
-countsWrong job k e = not (known (getD (job .kind) k 0)) || countsOut (e .form) (e .bases) (e .rubies) (given job e .run)
+countsWrong job k e =
+    (not (known (getD (job .kind) k 0)) || countsOut (e .form) (e .bases) (e .rubies) (given job e .run))
+    || (not (knownLeft (getD (job .leftKind) k 0)) || leftOut (e .form) (e .gloss) (e .lefts) (glossOf job e .run))
+
+-- 16: "a left kind its element doesn't take"
+abbrev pub leftKindWrong : Piece → Bool
+leftKindWrong e = not (takes (e .form) (e .gloss))
 
 -- 6: "characters run out"
 abbrev pub runOut : Job → Piece → Bool
-runOut job e = ltb (baseCount job) (e .base + e .bases) || ltb (rubyCount job) (e .ruby + e .rubies)
+runOut job e = ltb (baseCount job) (e .base + e .bases) || (ltb (rubyCount job) (e .ruby + e .rubies) || ltb (leftCount job) (e .left + e .lefts))
 
 -- 6: "or some are left over"
 abbrev pub leftOver : Job → List Piece → Bool
-leftOver job es = ltb (sum (map (λ e. e .bases) es)) (baseCount job) || ltb (sum (map (λ e. e .rubies) es)) (rubyCount job)
+leftOver job es =
+    ltb (sum (map (λ e. e .bases) es)) (baseCount job)
+    || (ltb (sum (map (λ e. e .rubies) es)) (rubyCount job) || ltb (sum (map (λ e. e .lefts) es)) (leftCount job))
 
 -- a refusal, where its condition holds
 infix 66 _when_
@@ -90,9 +105,9 @@ held [] = []
 held (r ∷ rs) = heldAfter (r .0 when r .1) rs
 
 -- "1, 2 and 12, each by lowest place", with 15 "checked after 1, place 0 for the ruby ratio, 1 for the base" and 20 "checked after 15": "At most 1,024 base characters, 2,048 ruby
--- characters, 1,024 elements"
-abbrev pub jobTable : Job → ℕ → ℕ → ℕ → List (Refusal × Bool)
-jobTable job base ruby lines =
+-- characters, 1,024 elements", and of left characters as many as of right ones
+abbrev pub jobTable : Job → ℕ → ℕ → ℕ → ℕ → List (Refusal × Bool)
+jobTable job base ruby left lines =
     (Range 0, emWrong job)
     ∷ (Range 1, measureWrong job)
     ∷ (Ratio 0, ratioWrong (job .ratios .ruby))
@@ -101,55 +116,60 @@ jobTable job base ruby lines =
     ∷ (Count 0, ltb 1024 (baseCount job))
     ∷ (Count 1, ltb 2048 (rubyCount job))
     ∷ (Count 2, ltb 1024 (elementCount job))
-    ∷ (Short, listShort job base ruby lines)
+    ∷ (Count 3, ltb 2048 (leftCount job))
+    ∷ (Short, listShort job base ruby left lines)
     ∷ []
 
-unfoldable pub jobFaults : Job → ℕ → ℕ → ℕ → List Refusal
-unfolding baseCount rubyCount elementCount
-jobFaults job base ruby lines = held (jobTable job base ruby lines)
+unfoldable pub jobFaults : Job → ℕ → ℕ → ℕ → ℕ → List Refusal
+unfolding baseCount rubyCount leftCount elementCount
+jobFaults job base ruby left lines = held (jobTable job base ruby left lines)
 
--- "then base characters and then ruby characters in turn, 3 before 4"; "ruby ones 1,024 + index"
+-- "then base characters and then ruby characters in turn, 3 before 4"; "ruby ones 1,024 + index"; left ones after them, "3,072 + index"
 abbrev pub baseTable : Job → ℕ → List (Refusal × Bool)
 baseTable job i = (Character i, baseWrong job i) ∷ (Blanks i, blanksWrong job i) ∷ []
 
 abbrev pub baseFaults : Job → ℕ → List Refusal
 baseFaults job i = held (baseTable job i)
 
-abbrev pub rubyTable : Job → ℕ → List (Refusal × Bool)
-rubyTable job i = (Character (1024 + i), rubyWrong job i) ∷ []
+abbrev pub readingFaults : ℕ → List ℕ → List ℕ → ℕ → List Refusal
+readingFaults first class width i = held ((Character (first + i), readingWrong class width i) ∷ [])
 
 abbrev pub rubyFaults : Job → ℕ → List Refusal
-rubyFaults job i = held (rubyTable job i)
+rubyFaults job = readingFaults 1024 (job .rubyClass) (job .rubyWidth)
+
+abbrev pub glossFaults : Job → ℕ → List Refusal
+glossFaults job = readingFaults 3072 (job .leftClass) (job .leftWidth)
 
 unfoldable pub charFaults : Job → List Refusal
-unfolding baseCount rubyCount accepted blankBefore blankAfter
-charFaults job = each (baseFaults job) (count 0 (baseCount job)) ++ each (rubyFaults job) (count 0 (rubyCount job))
+unfolding baseCount rubyCount leftCount accepted blankBefore blankAfter
+charFaults job = each (baseFaults job) (count 0 (baseCount job)) ++ (each (rubyFaults job) (count 0 (rubyCount job)) ++ each (glossFaults job) (count 0 (leftCount job)))
 
 -- "then elements in turn, in the table's order from 5"; 7 to 10 are level one's own rows
 abbrev pub elementTable : Job → ℕ → Piece → List (Refusal × Bool)
 elementTable job k e =
     (Element k, countsWrong job k e)
+    ∷ (LeftKind k, leftKindWrong e)
     ∷ (Supply k, runOut job e)
     ∷ (BlankInside k, blankInside (e .form) (given job e))
     ∷ (JukugoBase k, jukugoBase (e .form) (given job e))
-    ∷ (Mixed k, mixedIn (e .form) (given job e))
-    ∷ (WesternOver k, westernOver (e .form) (given job e))
+    ∷ (Mixed k, mixedBoth (e .form) (given job e) (glossOf job e))
+    ∷ (WesternOver k, westernBoth (e .form) (given job e) (glossOf job e))
     ∷ []
 
 abbrev pub elementFaults : Job → ℕ → Piece → List Refusal
 elementFaults job k e = held (elementTable job k e)
 
 unfoldable pub elementsFaults : Job → ℕ → List Piece → List Refusal
-unfolding baseCount rubyCount western kanaLike
+unfolding baseCount rubyCount leftCount western kanaLike
 elementsFaults job k [] = []
 elementsFaults job k (e ∷ es) = elementFaults job k e ++ elementsFaults job (suc k) es
 
 -- "then leftover characters"; "left over: the element count"
 unfoldable pub leftFaults : Job → List Refusal
-unfolding elements elementCount baseCount rubyCount
+unfolding elements elementCount baseCount rubyCount leftCount
 leftFaults job = Supply (elementCount job) when leftOver job (elements job)
 
 -- all that the door looks at, in order; "then lines in turn" follow in `job`
-unfoldable pub ownFaults : Job → ℕ → ℕ → ℕ → List Refusal
+unfoldable pub ownFaults : Job → ℕ → ℕ → ℕ → ℕ → List Refusal
 unfolding jobFaults charFaults elementsFaults elements leftFaults
-ownFaults job base ruby lines = jobFaults job base ruby lines ++ (charFaults job ++ (elementsFaults job 0 (elements job) ++ leftFaults job))
+ownFaults job base ruby left lines = jobFaults job base ruby left lines ++ (charFaults job ++ (elementsFaults job 0 (elements job) ++ leftFaults job))

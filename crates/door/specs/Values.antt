@@ -26,14 +26,15 @@ houseRows em measure ratios profile =
     ++ Profile when ltb 1 profile
 
 -- numbers 2 and 12, by the counts and the lengths of the result lists
-abbrev pub sizeRows : ℕ → ℕ → ℕ → ℕ → ℕ → ℕ → List Refusal
-sizeRows bases rubies elements base ruby lines =
+abbrev pub sizeRows : ℕ → ℕ → ℕ → ℕ → ℕ → ℕ → ℕ → ℕ → List Refusal
+sizeRows bases rubies elements lefts base ruby left lines =
     Count 0 when ltb 1024 bases
     ++ Count 1 when ltb 2048 rubies
     ++ Count 2 when ltb 1024 elements
-    ++ Short when (ltb base bases || (ltb lines bases || ltb ruby rubies))
+    ++ Count 3 when ltb 2048 lefts
+    ++ Short when (ltb base bases || (ltb lines bases || (ltb ruby rubies || ltb left lefts)))
 
--- number 3 of a character; a ruby character has no flag, which is as good as 0
+-- number 3 of a character; a ruby character or a left one has no flag, which is as good as 0
 abbrev pub characterWrong : ℕ → ℕ → ℕ → Bool
 characterWrong c w flag = not (accepted c) || (outside 1 4096 w || ltb 1 flag)
 
@@ -43,11 +44,11 @@ baseRows place c w before after flag =
     Character place when characterWrong c w flag
     ++ Blanks place when ((ltb 0 before && not (blankBefore c)) || ((ltb 0 after && not (blankAfter c)) || ltb w (before + after)))
 
--- the runs of a J from u on, n of them: how many ruby characters they take, or that one of them or all are out of range (5)
+-- the runs of a J or of a left reading from u on, n of them: how many characters they take, or that one of them or all are out of range (5)
 unfoldable pub runsFrom : List ℕ → ℕ → ℕ → Runs
 runsFrom runs u n = cond (any (eqb 0) (entries runs u n) || ltb 64 (sum (entries runs u n))) Wrong (Sum (sum (entries runs u n)))
 
--- a job of which only the base characters, only the ruby characters are looked at
+-- a job of which only the base characters are looked at
 abbrev pub basesOnly : List ℕ → List ℕ → List ℕ → List ℕ → List ℕ → Job
 basesOnly class width before after flag =
     record {
@@ -62,30 +63,15 @@ basesOnly class width before after flag =
       flag = flag;
       rubyClass = [];
       rubyWidth = [];
+      leftClass = [];
+      leftWidth = [];
       kind = [];
       elementBase = [];
       elementRuby = [];
+      leftKind = [];
+      elementLeft = [];
       run = [];
-    }
-
-abbrev pub rubiesOnly : List ℕ → List ℕ → Job
-rubiesOnly class width =
-    record {
-      em = 0;
-      measure = 0;
-      ratios = usual;
-      profile = 0;
-      class = [];
-      width = [];
-      before = [];
-      after = [];
-      flag = [];
-      rubyClass = class;
-      rubyWidth = width;
-      kind = [];
-      elementBase = [];
-      elementRuby = [];
-      run = [];
+      leftRun = [];
     }
 
 -- a count within its maximum and within each of its lists
@@ -97,7 +83,7 @@ pub record BaseHolds (n : ℕ) (cs ws bs xs fs : List ℕ) : Type 0 where
   pub after : n ≤ length xs
   pub flag : n ≤ length fs
 
-pub record RubyHolds (n : ℕ) (cs ws : List ℕ) : Type 0 where
+pub record ReadingHolds (n : ℕ) (cs ws : List ℕ) : Type 0 where
   pub most : n ≤ 2048
   pub class : n ≤ length cs
   pub width : n ≤ length ws

@@ -1,6 +1,6 @@
-// The door (document 01, "The job" and "Refusal list"): numbers 1, 15, 20, 2 and 12, then the characters (3, 4), before any element is looked at; and of an element what `layout`
-// asks for as it goes over them: its counts (5), whether its characters are there (6), level one's answer (7 to 10), and what is left over. It relies on
-// `word` for level one, on `class` for the class table, on `refusal` and on `basics`.
+// The door (document 01, "The job" and "Refusal list"; document 02, R-5): numbers 1, 15, 20, 2 and 12, then the characters (3, 4), before any element is looked at; and of an element
+// what `layout` asks for as it goes over them: its counts, right and left (5), whether it takes its left reading (16), whether its characters are there (6), and what is left over.
+// It relies on `word` for the forms, on `class` for the class table, on `refusal` and on `basics`.
 
 ghost use mathlib.Core.Path.{_≡_};
 ghost use mathlib.Core.Bool.{not, _&&_, _||_};
@@ -11,17 +11,19 @@ ghost use lib.ListN.{length, getD};
 ghost use Rattle.basics.specs.Lists.{each, count};
 ghost use Rattle.spread.specs.Ratio.{ratioOf, ratiosOf, Housed};
 ghost use Rattle.class.specs.Class.{accepted, blankBefore, blankAfter};
-ghost use Rattle.door.specs.Job.{known, formOf, takesRuns, jobOf};
-ghost use Rattle.door.specs.Refusals.{outside, ratioWrong, _when_, baseFaults, rubyFaults};
+ghost use Rattle.word.specs.Both.{takes};
+ghost use Rattle.door.specs.Job as jobs;
+ghost use Rattle.door.specs.Job.{known, knownLeft, formOf, leftOf, leftByRuns, leftByCount, takesRuns, takesLeftRuns, jobOf};
+ghost use Rattle.door.specs.Refusals.{outside, ratioWrong, _when_, baseFaults, readingFaults};
 ghost use Rattle.refusal.specs.declared.Refusal.the-variants.{Character};
 ghost use Rattle.door.specs.Verdict.{verdict};
-ghost use Rattle.door.specs.Values.{houseRows, sizeRows, characterWrong, baseRows, runsFrom, basesOnly, rubiesOnly, BaseHolds, RubyHolds};
+ghost use Rattle.door.specs.Values.{houseRows, sizeRows, characterWrong, baseRows, runsFrom, basesOnly, BaseHolds, ReadingHolds};
 ghost use Rattle.word.specs.declared.Form.the-variants as form;
-ghost use Rattle.door.specs.Elements.{countedAs, countedBy};
+ghost use Rattle.door.specs.Elements.{alone, withLeft, rightAs, rightBy, glossedBy, countedBy};
 ghost use Rattle.door.specs.Whole.{ahead};
 use refusal::Refusal;
 
-// The kinds of element, as their letters on the sheet.
+// The kinds of element, as their letters on the sheet; a left reading has the letter of its kind, or that of none.
 pub const PLAIN: u32 = 80;
 
 pub const MONO: u32 = 77;
@@ -29,6 +31,8 @@ pub const MONO: u32 = 77;
 pub const GROUP: u32 = 71;
 
 pub const JUKUGO: u32 = 74;
+
+pub const LEFT_NONE: u32 = 78;
 
 // The most that a job may have (numbers 1, 15, 20 and 2), that a character may be wide (3) and that an element may take (5).
 pub const MOST_EM: u32 = 4096;
@@ -45,16 +49,31 @@ pub const MOST_RUBIES: usize = 2048;
 
 pub const MOST_ELEMENTS: usize = 1024;
 
+// "as for right ones"
+pub const MOST_LEFTS: usize = 2048;
+
 pub const MOST_WIDTH: u32 = 4096;
 
 pub const ELEMENT_BASES: u32 = 32;
 
 pub const ELEMENT_RUBIES: u32 = 64;
 
-// "ruby ones 1,024 + index": the place of the first ruby character in a refusal.
+// "ruby ones 1,024 + index", left ones "3,072 + index": the place of the first character of either side in a refusal.
 pub const FIRST_RUBY: u32 = 1024;
 
-// An element, or the part of a J that stands in one line: its first base and ruby character in the job, how many it has of each, and the first of its runs.
+pub const FIRST_LEFT: u32 = 3072;
+
+// What the elements before one have taken: base characters, ruby characters and runs, left characters and their runs.
+pub struct Taken {
+    pub base: usize,
+    pub ruby: usize,
+    pub run: usize,
+    pub left: usize,
+    pub leftrun: usize,
+}
+
+// An element, or the part of a J that stands in one line: its first base and ruby character in the job, how many it has of each, and the first of its runs; its left reading,
+// with its first character, how many it has, and the first of its runs. `more`: its element goes on behind it though it is a piece of its own, as no element of the door is.
 pub struct Piece {
     pub form: word::Form,
     pub base: usize,
@@ -62,6 +81,11 @@ pub struct Piece {
     pub ruby: usize,
     pub rubies: usize,
     pub run: usize,
+    pub gloss: word::Left,
+    pub left: usize,
+    pub lefts: usize,
+    pub leftrun: usize,
+    pub more: bool,
 }
 
 // Nothing to refuse so far, or the first refusal.
@@ -115,8 +139,16 @@ fn em_wrong(em: u32) -> bool
 }
 
 // Number 12: some result list is below its count.
-fn too_short(base: usize, ruby: usize, lines: usize, bases: usize, rubies: usize) -> bool
-    ensures { λ r. ⌜ r ≡ (ltb base bases || (ltb lines bases || ltb ruby rubies)) ⌝ }
+fn too_short(
+    base: usize,
+    ruby: usize,
+    left: usize,
+    lines: usize,
+    bases: usize,
+    rubies: usize,
+    lefts: usize,
+) -> bool
+    ensures { λ r. ⌜ r ≡ (ltb base bases || (ltb lines bases || (ltb ruby rubies || ltb left lefts))) ⌝ }
 {
     if base < bases {
         return true;
@@ -124,7 +156,10 @@ fn too_short(base: usize, ruby: usize, lines: usize, bases: usize, rubies: usize
     if lines < bases {
         return true;
     }
-    ruby < rubies
+    if ruby < rubies {
+        return true;
+    }
+    left < lefts
 }
 
 // Number 15 of one ratio.
@@ -175,11 +210,13 @@ fn check_sizes(
     bases: usize,
     rubies: usize,
     elements: usize,
+    lefts: usize,
     base: usize,
     ruby: usize,
+    left: usize,
     lines: usize,
 ) -> Checked
-    ensures { λ r. ⌜ r ≡ verdict (sizeRows bases rubies elements base ruby lines) ⌝ }
+    ensures { λ r. ⌜ r ≡ verdict (sizeRows bases rubies elements lefts base ruby left lines) ⌝ }
 {
     if MOST_BASES < bases {
         return Checked::Refused(Refusal::Count(0));
@@ -190,7 +227,10 @@ fn check_sizes(
     if MOST_ELEMENTS < elements {
         return Checked::Refused(Refusal::Count(2));
     }
-    if too_short(base, ruby, lines, bases, rubies) {
+    if MOST_LEFTS < lefts {
+        return Checked::Refused(Refusal::Count(3));
+    }
+    if too_short(base, ruby, left, lines, bases, rubies, lefts) {
         return Checked::Refused(Refusal::Short);
     }
     Checked::Passed
@@ -280,25 +320,24 @@ fn check_bases(
     Checked::Passed
 }
 
-// One ruby character; "ruby ones 1,024 + index".
-fn check_reading(i: u32, class: u32, width: u32) -> Checked
-    requires { ⌜ i < 2048 ⌝ }
-    ensures { λ r. ⌜ r ≡ verdict (Character (1024 + i) when (not (accepted class) || outside 1 4096 width)) ⌝ }
+// Number 3 of one character of a reading, of either side.
+fn check_reading(place: u32, class: u32, width: u32) -> Checked
+    ensures { λ r. ⌜ r ≡ verdict (Character place when (not (accepted class) || outside 1 4096 width)) ⌝ }
 {
     if character_wrong(class, width, 0) {
-        return Checked::Refused(Refusal::Character(FIRST_RUBY + i));
+        return Checked::Refused(Refusal::Character(place));
     }
     Checked::Passed
 }
 
-// Ruby characters in turn.
-fn check_rubies(n: usize, class: &[u32], width: &[u32]) -> Checked
-    requires { ⌜ RubyHolds n (now class) (now width) ⌝ }
-    ensures { λ r. ⌜ r ≡ verdict (each (rubyFaults (rubiesOnly (now (class .entry)) (now (width .entry)))) (count 0 n)) ⌝ }
+// The characters of one side's readings in turn; the first has the place `first`.
+fn check_readings(first: u32, n: usize, class: &[u32], width: &[u32]) -> Checked
+    requires { ⌜ (first ≤ 3072) × ReadingHolds n (now class) (now width) ⌝ }
+    ensures { λ r. ⌜ r ≡ verdict (each (readingFaults first (now (class .entry)) (now (width .entry))) (count 0 n)) ⌝ }
 {
     let mut i: usize = 0;
     while i < n {
-        let found = check_reading(i as u32, class[i], width[i]);
+        let found = check_reading(first + i as u32, class[i], width[i]);
         let Checked::Passed = found else {
             return found;
         };
@@ -311,6 +350,21 @@ fn is_known(kind: u32) -> bool
     ensures { λ r. ⌜ r ≡ known kind ⌝ }
 {
     if kind == PLAIN {
+        return true;
+    }
+    if kind == MONO {
+        return true;
+    }
+    if kind == GROUP {
+        return true;
+    }
+    kind == JUKUGO
+}
+
+fn is_known_left(kind: u32) -> bool
+    ensures { λ r. ⌜ r ≡ knownLeft kind ⌝ }
+{
+    if kind == LEFT_NONE {
         return true;
     }
     if kind == MONO {
@@ -337,6 +391,21 @@ pub fn form_of(kind: u32) -> word::Form
     word::Form::P
 }
 
+pub fn left_of(kind: u32) -> word::Left
+    ensures { λ r. ⌜ r ≡ leftOf kind ⌝ }
+{
+    if kind == MONO {
+        return word::Left::M;
+    }
+    if kind == GROUP {
+        return word::Left::G;
+    }
+    if kind == JUKUGO {
+        return word::Left::J;
+    }
+    word::Left::N
+}
+
 // "A J run past the end of its list reads as 0."
 fn run_at(i: usize, runs: &[u32]) -> u32
     ensures { λ r. ⌜ r ≡ getD (now (runs .entry)) i 0 ⌝ }
@@ -344,7 +413,7 @@ fn run_at(i: usize, runs: &[u32]) -> u32
     if i < runs.len() { runs[i] } else { 0 }
 }
 
-// The n runs of a J from the u-th on: each at least 1, at most 64 in all.
+// The n runs of a J, or of a left reading, from the u-th on: each at least 1, at most 64 in all.
 fn runs_from(u: usize, n: usize, runs: &[u32]) -> Runs
     requires { ⌜ (u ≤ 1024) × (n ≤ 32) ⌝ }
     ensures { λ r. ⌜ r ≡ runsFrom (now (runs .entry)) u n ⌝ }
@@ -365,25 +434,37 @@ fn runs_from(u: usize, n: usize, runs: &[u32]) -> Runs
     Runs::Sum(taken)
 }
 
+// An element without a left reading, behind what those before it have taken.
+fn piece_of(form: word::Form, bases: usize, rubies: usize, at: Taken) -> Piece
+    ensures { λ p. ⌜ p ≡ alone form bases rubies at ⌝ }
+{
+    Piece {
+        form,
+        base: at.base,
+        bases,
+        ruby: at.ruby,
+        rubies,
+        run: at.run,
+        gloss: word::Left::N,
+        left: at.left,
+        lefts: 0,
+        leftrun: at.leftrun,
+        more: false,
+    }
+}
+
 // Number 5 of an M, a G and a J.
-fn count_mono(ruby: u32, b: usize, r: usize, u: usize) -> Counted
-    ensures { λ c. ⌜ c ≡ countedAs form.M 1 ruby [] b r u ⌝ }
+fn count_mono(ruby: u32, at: Taken) -> Counted
+    ensures { λ c. ⌜ c ≡ rightAs form.M 1 ruby [] at ⌝ }
 {
     if is_outside(1, ELEMENT_RUBIES, ruby) {
         return Counted::Out;
     }
-    Counted::Is(Piece {
-        form: word::Form::M,
-        base: b,
-        bases: 1,
-        ruby: r,
-        rubies: ruby as usize,
-        run: u,
-    })
+    Counted::Is(piece_of(word::Form::M, 1, ruby as usize, at))
 }
 
-fn count_group(base: u32, ruby: u32, b: usize, r: usize, u: usize) -> Counted
-    ensures { λ c. ⌜ c ≡ countedAs form.G base ruby [] b r u ⌝ }
+fn count_group(base: u32, ruby: u32, at: Taken) -> Counted
+    ensures { λ c. ⌜ c ≡ rightAs form.G base ruby [] at ⌝ }
 {
     if is_outside(1, ELEMENT_BASES, base) {
         return Counted::Out;
@@ -391,100 +472,243 @@ fn count_group(base: u32, ruby: u32, b: usize, r: usize, u: usize) -> Counted
     if is_outside(1, ELEMENT_RUBIES, ruby) {
         return Counted::Out;
     }
-    Counted::Is(Piece {
-        form: word::Form::G,
-        base: b,
-        bases: base as usize,
-        ruby: r,
-        rubies: ruby as usize,
-        run: u,
-    })
+    Counted::Is(piece_of(word::Form::G, base as usize, ruby as usize, at))
 }
 
-fn count_jukugo(base: u32, b: usize, r: usize, u: usize, runs: &[u32]) -> Counted
-    requires { ⌜ u ≤ 1024 ⌝ }
-    ensures { λ c. ⌜ c ≡ countedAs form.J base 0 (now (runs .entry)) b r u ⌝ }
+fn count_jukugo(base: u32, at: Taken, runs: &[u32]) -> Counted
+    requires { ⌜ at .run ≤ 1024 ⌝ }
+    ensures { λ c. ⌜ c ≡ rightAs form.J base 0 (now (runs .entry)) at ⌝ }
 {
     if is_outside(1, ELEMENT_BASES, base) {
         return Counted::Out;
     }
-    match runs_from(u, base as usize, runs) {
+    match runs_from(at.run, base as usize, runs) {
         Runs::Wrong => Counted::Out,
-        Runs::Sum(taken) => Counted::Is(Piece {
-            form: word::Form::J,
-            base: b,
-            bases: base as usize,
-            ruby: r,
-            rubies: taken,
-            run: u,
-        }),
+        Runs::Sum(taken) => Counted::Is(piece_of(word::Form::J, base as usize, taken, at)),
     }
 }
 
-// Number 5: an element by its kind and counts, those before it having taken b base characters, r ruby characters and u runs. Counts that its kind does not show are not read.
-pub fn count_element(
-    kind: u32,
-    base: u32,
-    ruby: u32,
-    b: usize,
-    r: usize,
-    u: usize,
-    runs: &[u32],
-) -> Counted
-    requires { ⌜ u ≤ 1024 ⌝ }
-    ensures { λ c. ⌜ c ≡ countedBy kind base ruby (now (runs .entry)) b r u ⌝ }
+// Number 5 but for a left reading: an element by its kind and counts, behind what those before it have taken. Counts that its kind does not show are not read.
+fn count_right(kind: u32, base: u32, ruby: u32, at: Taken, runs: &[u32]) -> Counted
+    requires { ⌜ at .run ≤ 1024 ⌝ }
+    ensures { λ c. ⌜ c ≡ rightBy kind base ruby (now (runs .entry)) at ⌝ }
 {
     if !is_known(kind) {
         return Counted::Out;
     }
     match form_of(kind) {
-        word::Form::P => Counted::Is(Piece {
-            form: word::Form::P,
-            base: b,
-            bases: 1,
-            ruby: r,
-            rubies: 0,
-            run: u,
-        }),
-        word::Form::M => count_mono(ruby, b, r, u),
-        word::Form::G => count_group(base, ruby, b, r, u),
-        word::Form::J => count_jukugo(base, b, r, u, runs),
+        word::Form::P => Counted::Is(piece_of(word::Form::P, 1, 0, at)),
+        word::Form::M => count_mono(ruby, at),
+        word::Form::G => count_group(base, ruby, at),
+        word::Form::J => count_jukugo(base, at, runs),
+    }
+}
+
+// A left reading has a run for each base character of its element, or one count; nothing is read of N, nor on a P.
+fn left_by_runs(form: word::Form, gloss: word::Left) -> bool
+    ensures { λ t. ⌜ t ≡ leftByRuns form gloss ⌝ }
+{
+    match gloss {
+        word::Left::N => false,
+        word::Left::G => false,
+        word::Left::M => match form {
+            word::Form::P => false,
+            word::Form::M => false,
+            word::Form::G => true,
+            word::Form::J => true,
+        },
+        word::Left::J => match form {
+            word::Form::P => false,
+            word::Form::M => true,
+            word::Form::G => true,
+            word::Form::J => true,
+        },
+    }
+}
+
+fn left_by_count(form: word::Form, gloss: word::Left) -> bool
+    ensures { λ t. ⌜ t ≡ leftByCount form gloss ⌝ }
+{
+    match gloss {
+        word::Left::N => false,
+        word::Left::J => false,
+        word::Left::G => match form {
+            word::Form::P => false,
+            word::Form::M => true,
+            word::Form::G => true,
+            word::Form::J => true,
+        },
+        word::Left::M => match form {
+            word::Form::P => false,
+            word::Form::M => true,
+            word::Form::G => false,
+            word::Form::J => false,
+        },
+    }
+}
+
+// An element with a left reading of so many characters.
+fn with_left(p: Piece, gloss: word::Left, lefts: usize) -> Piece
+    ensures { λ r. ⌜ r ≡ withLeft p gloss lefts ⌝ }
+{
+    let form = p.form;
+    Piece {
+        form,
+        base: p.base,
+        bases: p.bases,
+        ruby: p.ruby,
+        rubies: p.rubies,
+        run: p.run,
+        gloss,
+        left: p.left,
+        lefts,
+        leftrun: p.leftrun,
+        more: p.more,
+    }
+}
+
+// Number 5 of an element's left reading, by its kind and counts, "as for right ones".
+fn count_left(p: Piece, kind: u32, left: u32, runs: &[u32]) -> Counted
+    requires { ⌜ (p .leftrun ≤ 1024) × (p .bases ≤ 32) ⌝ }
+    ensures { λ c. ⌜ c ≡ glossedBy p kind left (now (runs .entry)) ⌝ }
+{
+    if !is_known_left(kind) {
+        return Counted::Out;
+    }
+    let form = p.form;
+    let gloss = left_of(kind);
+    if left_by_runs(form, gloss) {
+        let Runs::Sum(taken) = runs_from(p.leftrun, p.bases, runs) else {
+            return Counted::Out;
+        };
+        return Counted::Is(with_left(p, gloss, taken));
+    }
+    if left_by_count(form, gloss) {
+        if is_outside(1, ELEMENT_RUBIES, left) {
+            return Counted::Out;
+        }
+        return Counted::Is(with_left(p, gloss, left as usize));
+    }
+    Counted::Is(with_left(p, gloss, 0))
+}
+
+// Number 5, right first; most elements have no left reading.
+pub fn count_element(
+    kind: u32,
+    base: u32,
+    ruby: u32,
+    lkind: u32,
+    left: u32,
+    at: Taken,
+    runs: &[u32],
+    lruns: &[u32],
+) -> Counted
+    requires { ⌜ (at .run ≤ 1024) × (at .leftrun ≤ 1024) ⌝ }
+    ensures { λ c. ⌜ c ≡ countedBy kind base ruby lkind left (now (runs .entry)) (now (lruns .entry)) at ⌝ }
+{
+    let counted = count_right(kind, base, ruby, at, runs);
+    if lkind == LEFT_NONE {
+        return counted;
+    }
+    let Counted::Is(p) = counted else {
+        return counted;
+    };
+    count_left(p, lkind, left, lruns)
+}
+
+// Number 16: "A left reading is mono on M, group on G, and mono, jukugo or group on J."
+pub fn takes_left(p: Piece) -> bool
+    ensures { λ t. ⌜ t ≡ takes (p .form) (p .gloss) ⌝ }
+{
+    let form = p.form;
+    let gloss = p.gloss;
+    match gloss {
+        word::Left::N => true,
+        word::Left::M => match form {
+            word::Form::P => false,
+            word::Form::M => true,
+            word::Form::G => false,
+            word::Form::J => true,
+        },
+        word::Left::G => match form {
+            word::Form::P => false,
+            word::Form::M => false,
+            word::Form::G => true,
+            word::Form::J => true,
+        },
+        word::Left::J => match form {
+            word::Form::P => false,
+            word::Form::M => false,
+            word::Form::G => false,
+            word::Form::J => true,
+        },
     }
 }
 
 // Number 6 of an element: it needs more characters than are left.
-pub fn runs_out(p: Piece, bases: usize, rubies: usize) -> bool
-    requires { ⌜ (p .base + p .bases < 2 ^ 40) × (p .ruby + p .rubies < 2 ^ 40) ⌝ }
-    ensures { λ t. ⌜ t ≡ (ltb bases (p .base + p .bases) || ltb rubies (p .ruby + p .rubies)) ⌝ }
+pub fn runs_out(p: Piece, bases: usize, rubies: usize, lefts: usize) -> bool
+    requires { ⌜ (p .base + p .bases < 2 ^ 40) × (p .ruby + p .rubies < 2 ^ 40) × (p .left + p .lefts < 2 ^ 40) ⌝ }
+    ensures { λ t. ⌜ t ≡ (ltb bases (p .base + p .bases) || (ltb rubies (p .ruby + p .rubies) || ltb lefts (p .left + p .lefts))) ⌝ }
 {
     if bases < p.base + p.bases {
         return true;
     }
-    rubies < p.ruby + p.rubies
+    if rubies < p.ruby + p.rubies {
+        return true;
+    }
+    lefts < p.left + p.lefts
 }
 
-// Where a piece's runs end: only a J has any.
-pub fn runs_end(p: Piece) -> usize
-    requires { ⌜ p .run + p .bases < 2 ^ 40 ⌝ }
-    ensures { λ e. ⌜ e ≡ p .run + takesRuns (p .form) (p .bases) ⌝ }
+// How many runs an element takes: only a J has any.
+pub fn runs_taken(p: Piece) -> usize
+    ensures { λ n. ⌜ n ≡ takesRuns (p .form) (p .bases) ⌝ }
 {
     let form = p.form;
     match form {
-        word::Form::P => p.run,
-        word::Form::M => p.run,
-        word::Form::G => p.run,
-        word::Form::J => p.run + p.bases,
+        word::Form::P => 0,
+        word::Form::M => 0,
+        word::Form::G => 0,
+        word::Form::J => p.bases,
+    }
+}
+
+// And of its left reading.
+pub fn left_runs_taken(p: Piece) -> usize
+    ensures { λ n. ⌜ n ≡ takesLeftRuns (p .form) (p .gloss) (p .bases) ⌝ }
+{
+    let form = p.form;
+    let gloss = p.gloss;
+    if left_by_runs(form, gloss) {
+        return p.bases;
+    }
+    0
+}
+
+// What is taken with an element.
+pub fn past(at: Taken, p: Piece) -> Taken
+    requires { ⌜ (at .base + p .bases < 2 ^ 40) × (at .ruby + p .rubies < 2 ^ 40) × (at .run + p .bases < 2 ^ 40) × (at .left + p .lefts < 2 ^ 40) × (at .leftrun + p .bases < 2 ^ 40) ⌝ }
+    ensures { λ r. ⌜ r ≡ jobs.past at p ⌝ }
+{
+    Taken {
+        base: at.base + p.bases,
+        ruby: at.ruby + p.rubies,
+        run: at.run + runs_taken(p),
+        left: at.left + p.lefts,
+        leftrun: at.leftrun + left_runs_taken(p),
     }
 }
 
 // Characters that no element took.
-pub fn left_over(b: usize, r: usize, bases: usize, rubies: usize) -> bool
-    ensures { λ t. ⌜ t ≡ (ltb b bases || ltb r rubies) ⌝ }
+pub fn left_over(at: Taken, bases: usize, rubies: usize, lefts: usize) -> bool
+    ensures { λ t. ⌜ t ≡ (ltb (at .base) bases || (ltb (at .ruby) rubies || ltb (at .left) lefts)) ⌝ }
 {
-    if b < bases {
+    if at.base < bases {
         return true;
     }
-    r < rubies
+    if at.ruby < rubies {
+        return true;
+    }
+    at.left < lefts
 }
 
 // "Where a kind's fields come in several lists, its count is the shortest list's length."
@@ -507,13 +731,27 @@ pub fn ruby_count(rclass: &[u32], rwidth: &[u32]) -> usize
     fewer(rclass.len(), rwidth.len())
 }
 
-pub fn element_count(kind: &[u32], ebase: &[u32], eruby: &[u32]) -> usize
-    ensures { λ n. ⌜ n ≡ min (length (now (kind .entry))) (min (length (now (ebase .entry))) (length (now (eruby .entry)))) ⌝ }
+pub fn left_count(lclass: &[u32], lwidth: &[u32]) -> usize
+    ensures { λ n. ⌜ n ≡ min (length (now (lclass .entry))) (length (now (lwidth .entry))) ⌝ }
 {
-    fewer(kind.len(), fewer(ebase.len(), eruby.len()))
+    fewer(lclass.len(), lwidth.len())
 }
 
-// What is judged before any element: numbers 1, 15, 20, 2 and 12, then the characters. `base`, `ruby` and `lines` are the lengths of the result lists.
+pub fn element_count(
+    kind: &[u32],
+    ebase: &[u32],
+    eruby: &[u32],
+    lkind: &[u32],
+    eleft: &[u32],
+) -> usize
+    ensures { λ n. ⌜ n ≡ min (length (now (kind .entry))) (min (length (now (ebase .entry))) (min (length (now (eruby .entry))) (min (length (now (lkind .entry))) (length (now (eleft .entry)))))) ⌝ }
+{
+    let counts = fewer(eruby.len(), fewer(lkind.len(), eleft.len()));
+    fewer(kind.len(), fewer(ebase.len(), counts))
+}
+
+// What is judged before any element: numbers 1, 15, 20, 2 and 12, then the characters, left ones after ruby ones. `base`, `ruby`, `left` and `lines` are the lengths of the result
+// lists.
 pub fn check_characters(
     em: u32,
     measure: u32,
@@ -526,14 +764,19 @@ pub fn check_characters(
     flag: &[u32],
     rclass: &[u32],
     rwidth: &[u32],
+    lclass: &[u32],
+    lwidth: &[u32],
     kind: &[u32],
     ebase: &[u32],
     eruby: &[u32],
+    lkind: &[u32],
+    eleft: &[u32],
     base: usize,
     ruby: usize,
+    left: usize,
     lines: usize,
 ) -> Checked
-    ensures { λ c. let job = jobOf em measure ratios profile (now (class .entry)) (now (width .entry)) (now (before .entry)) (now (after .entry)) (now (flag .entry)) (now (rclass .entry)) (now (rwidth .entry)) (now (kind .entry)) (now (ebase .entry)) (now (eruby .entry)) [] in ⌜ c ≡ verdict (ahead job base ruby lines) ⌝ }
+    ensures { λ c. let job = jobOf em measure ratios profile (now (class .entry)) (now (width .entry)) (now (before .entry)) (now (after .entry)) (now (flag .entry)) (now (rclass .entry)) (now (rwidth .entry)) (now (lclass .entry)) (now (lwidth .entry)) (now (kind .entry)) (now (ebase .entry)) (now (eruby .entry)) (now (lkind .entry)) (now (eleft .entry)) [] [] in ⌜ c ≡ verdict (ahead job base ruby left lines) ⌝ }
 {
     let house = check_house(em, measure, ratios, profile);
     let Checked::Passed = house else {
@@ -541,8 +784,9 @@ pub fn check_characters(
     };
     let bases = base_count(class, width, before, after, flag);
     let rubies = ruby_count(rclass, rwidth);
-    let elements = element_count(kind, ebase, eruby);
-    let sizes = check_sizes(bases, rubies, elements, base, ruby, lines);
+    let lefts = left_count(lclass, lwidth);
+    let elements = element_count(kind, ebase, eruby, lkind, eleft);
+    let sizes = check_sizes(bases, rubies, elements, lefts, base, ruby, left, lines);
     let Checked::Passed = sizes else {
         return sizes;
     };
@@ -550,5 +794,9 @@ pub fn check_characters(
     let Checked::Passed = characters else {
         return characters;
     };
-    check_rubies(rubies, rclass, rwidth)
+    let rights = check_readings(FIRST_RUBY, rubies, rclass, rwidth);
+    let Checked::Passed = rights else {
+        return rights;
+    };
+    check_readings(FIRST_LEFT, lefts, lclass, lwidth)
 }

@@ -11,10 +11,10 @@ use Rattle.basics.specs.Lists.{lastOr}
 use Rattle.refusal.specs.declared.Refusal.{Refusal}
 use Rattle.refusal.specs.declared.Refusal.the-variants.{NoBreak}
 use Rattle.door.specs.declared.Checked.the-variants as checked
-use Rattle.door.specs.Job.{Job, baseCount, rubyCount, elementCount, elements}
+use Rattle.door.specs.Job.{Job, baseCount, rubyCount, leftCount, elementCount, elements}
 use Rattle.door.specs.Refusals.{jobFaults, charFaults, elementsFaults, leftFaults, ownFaults}
 use Rattle.door.specs.Verdict.{verdict, passed-none, append-none, front-refused, front-passed}
-use Rattle.door.specs.Passed.{Passed, limits, base-good, ruby-good}
+use Rattle.door.specs.Passed.{Passed, limits, base-good, ruby-good, left-good}
 use Rattle.door.specs.Whole.{ahead}
 use Rattle.job.specs.declared.Answer.{Answer}
 use Rattle.job.specs.declared.Answer.the-variants as answer
@@ -24,7 +24,7 @@ use Rattle.join.specs.Rows.{Holds}
 use Rattle.join.specs.Join.{sound, lines-join, faults-join}
 use Rattle.layout.specs.Walk.{Ready}
 use Rattle.layout.specs.Measure.{unmeasured, same-faults, measured}
-use Rattle.cells.specs.Cells.{size, linesOf}
+use Rattle.cells.specs.Cells.{size, leftSize, linesOf}
 use Rattle.filling.specs.declared.Lines.{Lines}
 use Rattle.filling.specs.declared.Lines.the-variants as filling
 use Rattle.filling.specs.Lines.{over, toldOf, extentsOf}
@@ -33,12 +33,13 @@ use Rattle.engine.specs.Fault as fault
 -- tables with room for the rows and the lines of a job that is not too large
 pub record Room (job : Job) (t found far : List ℕ) : Type 0 where
   pub rows : baseCount job ≤ 1024 → size (baseCount job) ≤ length t
+  pub left : baseCount job ≤ 1024 → 0 < leftCount job → size (baseCount job) + leftSize (baseCount job) ≤ length t
   pub ends : baseCount job ≤ 1024 → baseCount job ≤ length found
   pub extents : baseCount job ≤ 1024 → baseCount job ≤ length far
 
 -- the job has no fault, its table is laid, and its k lines are found with their extents
-pub record Full (job : Job) (base ruby lines : ℕ) (wasFar t found far : List ℕ) (k : ℕ) : Type 0 where
-  pub own : ownFaults job base ruby lines ≡ []
+pub record Full (job : Job) (base ruby left lines : ℕ) (wasFar t found far : List ℕ) (k : ℕ) : Type 0 where
+  pub own : ownFaults job base ruby left lines ≡ []
   pub passed : Passed job
   pub holds : Holds job t
   pub none : linesFaults job ≡ []
@@ -46,14 +47,14 @@ pub record Full (job : Job) (base ruby lines : ℕ) (wasFar t found far : List �
   pub is : take k found ≡ ends job
   pub told : far ≡ over (extentsOf (job .em) t 0 (ends job)) wasFar
 
-abbrev pub Fills : Job → ℕ → ℕ → ℕ → List ℕ → List ℕ → List ℕ → List ℕ → Lines → Type 0
-Fills job base ruby lines wasFar t found far (filling.Refused q) = fault job base ruby lines ≡ some q
-Fills job base ruby lines wasFar t found far (filling.Filled k) = Full job base ruby lines wasFar t found far k
+abbrev pub Fills : Job → ℕ → ℕ → ℕ → ℕ → List ℕ → List ℕ → List ℕ → List ℕ → Lines → Type 0
+Fills job base ruby left lines wasFar t found far (filling.Refused q) = fault job base ruby left lines ≡ some q
+Fills job base ruby left lines wasFar t found far (filling.Filled k) = Full job base ruby left lines wasFar t found far k
 
 -- what a table and its lists keep of an accepted job
-abbrev pub Keeps : Job → ℕ → ℕ → ℕ → List ℕ → List ℕ → List ℕ → List ℕ → Answer → Type 0
-Keeps job base ruby lines wasFar t found far (answer.Refused q) = Unit
-Keeps job base ruby lines wasFar t found far (answer.Set n) = Full job base ruby lines wasFar t found far n
+abbrev pub Keeps : Job → ℕ → ℕ → ℕ → ℕ → List ℕ → List ℕ → List ℕ → List ℕ → Answer → Type 0
+Keeps job base ruby left lines wasFar t found far (answer.Refused q) = Unit
+Keeps job base ruby left lines wasFar t found far (answer.Set n) = Full job base ruby left lines wasFar t found far n
 
 -- no character's refusal depends on the runs
 abbrev runless : Job → Job
@@ -70,62 +71,70 @@ runless job =
       flag = job .flag;
       rubyClass = job .rubyClass;
       rubyWidth = job .rubyWidth;
+      leftClass = job .leftClass;
+      leftWidth = job .leftWidth;
       kind = job .kind;
       elementBase = job .elementBase;
       elementRuby = job .elementRuby;
+      leftKind = job .leftKind;
+      elementLeft = job .elementLeft;
       run = [];
+      leftRun = [];
     }
 
-pub any-runs : (job : Job) (base ruby lines : ℕ) → ahead (runless job) base ruby lines ≡ ahead job base ruby lines
-unfolding jobFaults charFaults baseCount rubyCount elementCount
-any-runs job base ruby lines = refl
+pub any-runs : (job : Job) (base ruby left lines : ℕ) → ahead (runless job) base ruby left lines ≡ ahead job base ruby left lines
+unfolding jobFaults charFaults baseCount rubyCount leftCount elementCount
+any-runs job base ruby left lines = refl
 
-module _ (job : Job) (base ruby lines : ℕ) where
+module _ (job : Job) (base ruby left lines : ℕ) where
   abbrev rest : List Refusal
   rest = elementsFaults job 0 (elements job) ++ leftFaults job
 
-  own-groups : ownFaults job base ruby lines ≡ ahead job base ruby lines ++ rest
+  own-groups : ownFaults job base ruby left lines ≡ ahead job base ruby left lines ++ rest
   unfolding ownFaults
-  own-groups = sym (append-assoc (jobFaults job base ruby lines) (charFaults job) rest)
+  own-groups = sym (append-assoc (jobFaults job base ruby left lines) (charFaults job) rest)
 
   -- the characters are refused
-  pub by-characters : {q : Refusal} → verdict (ahead job base ruby lines) ≡ checked.Refused q → fault job base ruby lines ≡ some q
-  by-characters e = fault.by-door job base ruby lines (ap verdict own-groups ∙ front-refused (ahead job base ruby lines) rest e)
+  pub by-characters : {q : Refusal} → verdict (ahead job base ruby left lines) ≡ checked.Refused q → fault job base ruby left lines ≡ some q
+  by-characters e = fault.by-door job base ruby left lines (ap verdict own-groups ∙ front-refused (ahead job base ruby left lines) rest e)
 
-  module _ (passes : verdict (ahead job base ruby lines) ≡ checked.Passed) where
-    first : (jobFaults job base ruby lines ≡ []) × (charFaults job ≡ [])
-    first = append-none (jobFaults job base ruby lines) (charFaults job) (passed-none (ahead job base ruby lines) passes)
+  module _ (passes : verdict (ahead job base ruby left lines) ≡ checked.Passed) where
+    first : (jobFaults job base ruby left lines ≡ []) × (charFaults job ≡ [])
+    first = append-none (jobFaults job base ruby left lines) (charFaults job) (passed-none (ahead job base ruby left lines) passes)
 
     pub few : baseCount job ≤ 1024
-    few = limits job base ruby lines (first .0) .bases
+    few = limits job base ruby left lines (first .0) .bases
 
     -- what the layout asks for
-    pub ready : (t : List ℕ) → size (baseCount job) ≤ length t → Ready (unmeasured job) t
-    unfolding baseCount rubyCount elementCount
-    ready t h =
-        let l = limits job base ruby lines (first .0) in
+    pub ready : (t : List ℕ) → size (baseCount job) ≤ length t → (0 < leftCount job → size (baseCount job) + leftSize (baseCount job) ≤ length t) → Ready (unmeasured job) t
+    unfolding baseCount rubyCount leftCount elementCount
+    ready t h g =
+        let l = limits job base ruby left lines (first .0) in
         record {
           house = l .house;
           few = l .bases;
           fewRuby = l .rubies;
+          fewLeft = l .lefts;
           fewElements = l .elements;
           some = λ i k. base-good job (first .1) i k .some;
           narrow = λ i k. base-good job (first .1) i k .narrow;
           narrowRuby = λ i k. ruby-good job (first .1) i k .narrow;
+          narrowLeft = λ i k. left-good job (first .1) i k .narrow;
           room = h;
+          roomLeft = g;
         }
 
     -- an element is refused
-    pub by-elements : {q : Refusal} → verdict (elementsFaults (unmeasured job) 0 (elements (unmeasured job)) ++ leftFaults (unmeasured job)) ≡ checked.Refused q → fault job base ruby lines ≡ some q
+    pub by-elements : {q : Refusal} → verdict (elementsFaults (unmeasured job) 0 (elements (unmeasured job)) ++ leftFaults (unmeasured job)) ≡ checked.Refused q → fault job base ruby left lines ≡ some q
     by-elements e =
-        fault.by-door job base ruby lines (ap verdict own-groups ∙ front-passed (ahead job base ruby lines) rest passes ∙ ap verdict (sym (same-faults job)) ∙ e)
+        fault.by-door job base ruby left lines (ap verdict own-groups ∙ front-passed (ahead job base ruby left lines) rest passes ∙ ap verdict (sym (same-faults job)) ∙ e)
 
     module _ (laid : verdict (elementsFaults (unmeasured job) 0 (elements (unmeasured job)) ++ leftFaults (unmeasured job)) ≡ checked.Passed) where
-      own-passes : verdict (ownFaults job base ruby lines) ≡ checked.Passed
-      own-passes = ap verdict own-groups ∙ front-passed (ahead job base ruby lines) rest passes ∙ ap verdict (sym (same-faults job)) ∙ laid
+      own-passes : verdict (ownFaults job base ruby left lines) ≡ checked.Passed
+      own-passes = ap verdict own-groups ∙ front-passed (ahead job base ruby left lines) rest passes ∙ ap verdict (sym (same-faults job)) ∙ laid
 
       pub passed : Passed job
-      passed = fault.goes-on job base ruby lines own-passes
+      passed = fault.goes-on job base ruby left lines own-passes
 
       module _ (t : List ℕ) (h : Holds (unmeasured job) t) where
         pub table : Holds job t
@@ -134,7 +143,7 @@ module _ (job : Job) (base ruby lines : ℕ) where
         -- what the filling told
         pub fills : (was found wasFar far : List ℕ) (a : Lines) →
             let es = linesOf (job .em) (2 * job .measure) t (baseCount job) in
-            (a ≡ toldOf (baseCount job) es) × (found ≡ over es was) × (far ≡ over (extentsOf (job .em) t 0 es) wasFar) → Fills job base ruby lines wasFar t found far a
+            (a ≡ toldOf (baseCount job) es) × (found ≡ over es was) × (far ≡ over (extentsOf (job .em) t 0 es) wasFar) → Fills job base ruby left lines wasFar t found far a
         fills was found wasFar far a w =
             let e = lines-join job passed t table in
             go a (w .0 ∙ ap (toldOf (baseCount job)) e) (w .1 ∙ ap (λ es. over es was) e) (w .2 ∙ ap (λ es. over (extentsOf (job .em) t 0 es) wasFar) e)
@@ -151,14 +160,14 @@ module _ (job : Job) (base ruby lines : ℕ) where
             is-stuck true k z q e = absurd (let y : _≡_ {A = ℕ} 0 1 = cc in omega arith)
             is-stuck false k z q e = (cc, refl)
 
-            go : (a : Lines) → a ≡ toldOf (baseCount job) (ends job) → found ≡ over (ends job) was → far ≡ over (extentsOf (job .em) t 0 (ends job)) wasFar → Fills job base ruby lines wasFar t found far a
+            go : (a : Lines) → a ≡ toldOf (baseCount job) (ends job) → found ≡ over (ends job) was → far ≡ over (extentsOf (job .em) t 0 (ends job)) wasFar → Fills job base ruby left lines wasFar t found far a
             go (filling.Refused q) e f g =
                 let b = is-stuck (eqb (lastOr 0 (ends job)) (baseCount job)) (length (ends job)) (lastOr 0 (ends job)) q e in
-                fault.by-line job base ruby lines own-passes (faults-join job passed t table ∙ rw (b .1, b .0))
+                fault.by-line job base ruby left lines own-passes (faults-join job passed t table ∙ rw (b .1, b .0))
             go (filling.Filled k) e f g =
                 let b = is-filled (eqb (lastOr 0 (ends job)) (baseCount job)) (length (ends job)) (lastOr 0 (ends job)) k e in
                 record {
-                  own = passed-none (ownFaults job base ruby lines) own-passes;
+                  own = passed-none (ownFaults job base ruby left lines) own-passes;
                   passed = passed;
                   holds = table;
                   none = faults-join job passed t table ∙ rw (b .1);

@@ -1,4 +1,4 @@
-// The entry point (document 01, "The job" and "Refusal list"): a job in lists to its answer and the three result lists. Nothing is asked of the caller. The door judges the
+// The entry point (document 01, "The job" and "Refusal list"): a job in lists to its answer and the four result lists. Nothing is asked of the caller. The door judges the
 // characters, `layout` the elements, whose rows it writes into a table of this crate's own; the filling finds the lines in it, and only then is anything
 // written, so that a refusal leaves every result list as it was. It relies on `door`, `layout`, `filling` and `positions`, and on `job` for what the answer means.
 ghost use mathlib.Core.Path.{_≡_};
@@ -7,8 +7,8 @@ ghost use Rattle.door.specs.Job.{jobOf};
 ghost use Rattle.job.specs.Outcome.{Outcome, outcome};
 ghost use Rattle.engine.specs.Filled.{Room, Fills, Keeps};
 
-// The job's table, and the ends and extents of its lines, at the front of lent lists; or the first refusal of all. `base`, `ruby` and `lines` are the lengths of the
-// result lists.
+// The job's table, and the ends and extents of its lines, at the front of lent lists; or the first refusal of all. `base`, `ruby`, `left` and `lines` are the lengths
+// of the result lists.
 pub fn fill_job(
     t: &mut [u32],
     ends: &mut [u32],
@@ -24,16 +24,22 @@ pub fn fill_job(
     flag: &[u32],
     rclass: &[u32],
     rwidth: &[u32],
+    lclass: &[u32],
+    lwidth: &[u32],
     kind: &[u32],
     ebase: &[u32],
     eruby: &[u32],
+    lkind: &[u32],
+    eleft: &[u32],
     runs: &[u32],
+    lruns: &[u32],
     base: usize,
     ruby: usize,
+    left: usize,
     lines: usize,
 ) -> filling::Lines
-    requires { let job = jobOf em measure ratios profile (now class) (now width) (now before) (now after) (now flag) (now rclass) (now rwidth) (now kind) (now ebase) (now eruby) (now runs) in ⌜ Room job (now t) (now ends) (now extents) ⌝ }
-    ensures { λ a. let job = jobOf em measure ratios profile (now (class .entry)) (now (width .entry)) (now (before .entry)) (now (after .entry)) (now (flag .entry)) (now (rclass .entry)) (now (rwidth .entry)) (now (kind .entry)) (now (ebase .entry)) (now (eruby .entry)) (now (runs .entry)) in ⌜ Fills job base ruby lines (now (extents .entry)) (now (t .exit)) (now (ends .exit)) (now (extents .exit)) a ⌝ }
+    requires { let job = jobOf em measure ratios profile (now class) (now width) (now before) (now after) (now flag) (now rclass) (now rwidth) (now lclass) (now lwidth) (now kind) (now ebase) (now eruby) (now lkind) (now eleft) (now runs) (now lruns) in ⌜ Room job (now t) (now ends) (now extents) ⌝ }
+    ensures { λ a. let job = jobOf em measure ratios profile (now (class .entry)) (now (width .entry)) (now (before .entry)) (now (after .entry)) (now (flag .entry)) (now (rclass .entry)) (now (rwidth .entry)) (now (lclass .entry)) (now (lwidth .entry)) (now (kind .entry)) (now (ebase .entry)) (now (eruby .entry)) (now (lkind .entry)) (now (eleft .entry)) (now (runs .entry)) (now (lruns .entry)) in ⌜ Fills job base ruby left lines (now (extents .entry)) (now (t .exit)) (now (ends .exit)) (now (extents .exit)) a ⌝ }
 {
     match door::check_characters(
         em,
@@ -47,11 +53,16 @@ pub fn fill_job(
         flag,
         rclass,
         rwidth,
+        lclass,
+        lwidth,
         kind,
         ebase,
         eruby,
+        lkind,
+        eleft,
         base,
         ruby,
+        left,
         lines,
     ) {
         door::Checked::Refused(why) => return filling::Lines::Refused(why),
@@ -69,10 +80,15 @@ pub fn fill_job(
         flag,
         rclass,
         rwidth,
+        lclass,
+        lwidth,
         kind,
         ebase,
         eruby,
+        lkind,
+        eleft,
         runs,
+        lruns,
     ) {
         door::Checked::Refused(why) => return filling::Lines::Refused(why),
         door::Checked::Passed => {}
@@ -97,17 +113,23 @@ pub fn set_table(
     flag: &[u32],
     rclass: &[u32],
     rwidth: &[u32],
+    lclass: &[u32],
+    lwidth: &[u32],
     kind: &[u32],
     ebase: &[u32],
     eruby: &[u32],
+    lkind: &[u32],
+    eleft: &[u32],
     runs: &[u32],
+    lruns: &[u32],
     base: &mut [u32],
     ruby: &mut [u32],
+    left: &mut [u32],
     lines: &mut [u32],
 ) -> job::Answer
-    requires { let job = jobOf em measure ratios profile (now class) (now width) (now before) (now after) (now flag) (now rclass) (now rwidth) (now kind) (now ebase) (now eruby) (now runs) in ⌜ Room job (now t) (now ends) (now extents) ⌝ }
-    ensures { λ r. let job = jobOf em measure ratios profile (now (class .entry)) (now (width .entry)) (now (before .entry)) (now (after .entry)) (now (flag .entry)) (now (rclass .entry)) (now (rwidth .entry)) (now (kind .entry)) (now (ebase .entry)) (now (eruby .entry)) (now (runs .entry)) in ⌜ _≡_ {A = Outcome} (record { answer = r; base = now (base .exit); ruby = now (ruby .exit); lines = now (lines .exit) }) (outcome job (now (base .entry)) (now (ruby .entry)) (now (lines .entry))) ⌝ }
-    ensures { λ r. let job = jobOf em measure ratios profile (now (class .entry)) (now (width .entry)) (now (before .entry)) (now (after .entry)) (now (flag .entry)) (now (rclass .entry)) (now (rwidth .entry)) (now (kind .entry)) (now (ebase .entry)) (now (eruby .entry)) (now (runs .entry)) in ⌜ Keeps job (length (now (base .entry))) (length (now (ruby .entry))) (length (now (lines .entry))) (now (extents .entry)) (now (t .exit)) (now (ends .exit)) (now (extents .exit)) r ⌝ }
+    requires { let job = jobOf em measure ratios profile (now class) (now width) (now before) (now after) (now flag) (now rclass) (now rwidth) (now lclass) (now lwidth) (now kind) (now ebase) (now eruby) (now lkind) (now eleft) (now runs) (now lruns) in ⌜ Room job (now t) (now ends) (now extents) ⌝ }
+    ensures { λ r. let job = jobOf em measure ratios profile (now (class .entry)) (now (width .entry)) (now (before .entry)) (now (after .entry)) (now (flag .entry)) (now (rclass .entry)) (now (rwidth .entry)) (now (lclass .entry)) (now (lwidth .entry)) (now (kind .entry)) (now (ebase .entry)) (now (eruby .entry)) (now (lkind .entry)) (now (eleft .entry)) (now (runs .entry)) (now (lruns .entry)) in ⌜ _≡_ {A = Outcome} (record { answer = r; base = now (base .exit); ruby = now (ruby .exit); left = now (left .exit); lines = now (lines .exit) }) (outcome job (now (base .entry)) (now (ruby .entry)) (now (left .entry)) (now (lines .entry))) ⌝ }
+    ensures { λ r. let job = jobOf em measure ratios profile (now (class .entry)) (now (width .entry)) (now (before .entry)) (now (after .entry)) (now (flag .entry)) (now (rclass .entry)) (now (rwidth .entry)) (now (lclass .entry)) (now (lwidth .entry)) (now (kind .entry)) (now (ebase .entry)) (now (eruby .entry)) (now (lkind .entry)) (now (eleft .entry)) (now (runs .entry)) (now (lruns .entry)) in ⌜ Keeps job (length (now (base .entry))) (length (now (ruby .entry))) (length (now (left .entry))) (length (now (lines .entry))) (now (extents .entry)) (now (t .exit)) (now (ends .exit)) (now (extents .exit)) r ⌝ }
 {
     match fill_job(
         t,
@@ -124,27 +146,34 @@ pub fn set_table(
         flag,
         rclass,
         rwidth,
+        lclass,
+        lwidth,
         kind,
         ebase,
         eruby,
+        lkind,
+        eleft,
         runs,
+        lruns,
         base.len(),
         ruby.len(),
+        left.len(),
         lines.len(),
     ) {
         filling::Lines::Refused(why) => job::Answer::Refused(why),
         filling::Lines::Filled(n) => {
-            positions::put_lines(t, n, ends, em, width, rwidth, base, ruby);
+            positions::put_lines(t, n, ends, em, width, rwidth, lwidth, base, ruby, left);
             positions::put_ends(n, ends, lines);
             job::Answer::Set(n)
         }
     }
 }
 
-// Sets a job. `ratios` are the house ratios, the ruby's first, each a, m, c; `profile` is 0, or 1 for older children; `class`, `width`, `before`, `after` and `flag` are the base characters' fields, `rclass` and
-// `rwidth` the ruby characters'; `kind` (a letter's byte: 80 P, 77 M, 71 G, 74 J), `ebase` and `eruby` the elements'; `runs` the J runs. The positions go to `base` and
-// `ruby`, in half units from the line's start, and the running counts of base characters at the lines' ends to `lines`. A small job has a small table, since a
-// table is cleared before it is used.
+// Sets a job. `ratios` are the house ratios, the ruby's first, each a, m, c; `profile` is 0, or 1 for older children; `class`, `width`, `before`, `after` and `flag` are the
+// base characters' fields, `rclass` and `rwidth` the ruby characters', `lclass` and `lwidth` the left ones'; `kind` (a letter's byte: 80 P, 77 M, 71 G, 74 J), `ebase`,
+// `eruby`, `lkind` (77 M, 71 G, 74 J, 78 none) and `eleft` the elements'; `runs` the J runs and `lruns` the left ones. The positions go to `base`, `ruby` and `left`, in
+// half units from the line's start, and the running counts of base characters at the lines' ends to `lines`. A small job has a small table, since a table is
+// cleared before it is used; either has room for left readings.
 pub fn set_job(
     em: u32,
     measure: u32,
@@ -157,18 +186,24 @@ pub fn set_job(
     flag: &[u32],
     rclass: &[u32],
     rwidth: &[u32],
+    lclass: &[u32],
+    lwidth: &[u32],
     kind: &[u32],
     ebase: &[u32],
     eruby: &[u32],
+    lkind: &[u32],
+    eleft: &[u32],
     runs: &[u32],
+    lruns: &[u32],
     base: &mut [u32],
     ruby: &mut [u32],
+    left: &mut [u32],
     lines: &mut [u32],
 ) -> job::Answer
-    ensures { λ r. ⌜ _≡_ {A = Outcome} (record { answer = r; base = now (base .exit); ruby = now (ruby .exit); lines = now (lines .exit) }) (outcome (jobOf em measure ratios profile (now (class .entry)) (now (width .entry)) (now (before .entry)) (now (after .entry)) (now (flag .entry)) (now (rclass .entry)) (now (rwidth .entry)) (now (kind .entry)) (now (ebase .entry)) (now (eruby .entry)) (now (runs .entry))) (now (base .entry)) (now (ruby .entry)) (now (lines .entry))) ⌝ }
+    ensures { λ r. ⌜ _≡_ {A = Outcome} (record { answer = r; base = now (base .exit); ruby = now (ruby .exit); left = now (left .exit); lines = now (lines .exit) }) (outcome (jobOf em measure ratios profile (now (class .entry)) (now (width .entry)) (now (before .entry)) (now (after .entry)) (now (flag .entry)) (now (rclass .entry)) (now (rwidth .entry)) (now (lclass .entry)) (now (lwidth .entry)) (now (kind .entry)) (now (ebase .entry)) (now (eruby .entry)) (now (lkind .entry)) (now (eleft .entry)) (now (runs .entry)) (now (lruns .entry))) (now (base .entry)) (now (ruby .entry)) (now (left .entry)) (now (lines .entry))) ⌝ }
 {
     if door::base_count(class, width, before, after, flag) <= 128 {
-        let mut t = [0; 2439];
+        let mut t = [0; 3463];
         let mut ends = [0; 128];
         let mut extents = [0; 128];
         return set_table(
@@ -186,16 +221,22 @@ pub fn set_job(
             flag,
             rclass,
             rwidth,
+            lclass,
+            lwidth,
             kind,
             ebase,
             eruby,
+            lkind,
+            eleft,
             runs,
+            lruns,
             base,
             ruby,
+            left,
             lines,
         );
     }
-    let mut t = [0; 19463];
+    let mut t = [0; 27655];
     let mut ends = [0; 1024];
     let mut extents = [0; 1024];
     set_table(
@@ -213,12 +254,18 @@ pub fn set_job(
         flag,
         rclass,
         rwidth,
+        lclass,
+        lwidth,
         kind,
         ebase,
         eruby,
+        lkind,
+        eleft,
         runs,
+        lruns,
         base,
         ruby,
+        left,
         lines,
     )
 }

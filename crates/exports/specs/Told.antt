@@ -31,28 +31,30 @@ few (Set n) h = h n refl
 few (Refused r) h = tt
 
 -- the answer is told, and the lists are the outcome's
-pub record Left (job : Job) (base ruby lines : List ℕ) (r : exported.Answer) (newBase newRuby newLines : List ℕ) : Type 0 where
-  pub answer : r ≡ told (outcome job base ruby lines .answer)
-  pub bases : newBase ≡ outcome job base ruby lines .base
-  pub rubies : newRuby ≡ outcome job base ruby lines .ruby
-  pub ends : newLines ≡ outcome job base ruby lines .lines
+pub record Left (job : Job) (base ruby left lines : List ℕ) (r : exported.Answer) (newBase newRuby newLeft newLines : List ℕ) : Type 0 where
+  pub answer : r ≡ told (outcome job base ruby left lines .answer)
+  pub bases : newBase ≡ outcome job base ruby left lines .base
+  pub rubies : newRuby ≡ outcome job base ruby left lines .ruby
+  pub lefts : newLeft ≡ outcome job base ruby left lines .left
+  pub ends : newLines ≡ outcome job base ruby left lines .lines
 
-module _ {job : Job} {base ruby lines : List ℕ} {o : Outcome} (e : o ≡ outcome job base ruby lines) where
-  pub left : {r : exported.Answer} → r ≡ told (o .answer) → Left job base ruby lines r (o .base) (o .ruby) (o .lines)
-  left h =
+module _ {job : Job} {base ruby left lines : List ℕ} {o : Outcome} (e : o ≡ outcome job base ruby left lines) where
+  pub leaves : {r : exported.Answer} → r ≡ told (o .answer) → Left job base ruby left lines r (o .base) (o .ruby) (o .left) (o .lines)
+  leaves h =
       record {
         answer = h ∙ ap (λ (x : Outcome). told (x .answer)) e;
         bases = ap (λ (x : Outcome). x .base) e;
         rubies = ap (λ (x : Outcome). x .ruby) e;
+        lefts = ap (λ (x : Outcome). x .left) e;
         ends = ap (λ (x : Outcome). x .lines) e;
       }
 
-pub few-lines : (job : Job) (base ruby lines : List ℕ) (o : Outcome) → o ≡ outcome job base ruby lines → Few (o .answer)
-few-lines job base ruby lines o e = few (o .answer) (λ n is. most n (ap (λ (x : Outcome). x .answer) (sym e) ∙ is))
+pub few-lines : (job : Job) (base ruby left lines : List ℕ) (o : Outcome) → o ≡ outcome job base ruby left lines → Few (o .answer)
+few-lines job base ruby left lines o e = few (o .answer) (λ n is. most n (ap (λ (x : Outcome). x .answer) (sym e) ∙ is))
   where
-    most : (n : ℕ) → outcome job base ruby lines .answer ≡ Set n → n ≤ 1024
+    most : (n : ℕ) → outcome job base ruby left lines .answer ≡ Set n → n ≤ 1024
     most n set =
-        omega (arith, many job base ruby lines set, chain-few job 0 (baseCount job) (ends job) (lines-filled job base ruby lines (accepted job base ruby lines set)), door job base ruby lines set .fewBase)
+        omega (arith, many job base ruby left lines set, chain-few job 0 (baseCount job) (ends job) (lines-filled job base ruby left lines (accepted job base ruby left lines set)), door job base ruby left lines set .fewBase)
 
 -- The same of the account: the answer is told, and the lists are the account's.
 pub record Accounted (job : Job) (rows counts wide : List ℕ) (r : exported.Answer) (newRows newCounts newWide : List ℕ) : Type 0 where

@@ -47,15 +47,21 @@ pub extern "C" fn bv_set_job(
     flag: &[u32],
     rclass: &[u32],
     rwidth: &[u32],
+    lclass: &[u32],
+    lwidth: &[u32],
     kind: &[u32],
     ebase: &[u32],
     eruby: &[u32],
+    lkind: &[u32],
+    eleft: &[u32],
     runs: &[u32],
+    lruns: &[u32],
     base: &mut [u32],
     ruby: &mut [u32],
+    left: &mut [u32],
     lines: &mut [u32],
 ) -> Answer
-    ensures { λ r. ⌜ Left (jobOf em measure (now (rratio .entry) ∷ now (bratio .entry) ∷ []) profile (now (class .entry)) (now (width .entry)) (now (before .entry)) (now (after .entry)) (now (flag .entry)) (now (rclass .entry)) (now (rwidth .entry)) (now (kind .entry)) (now (ebase .entry)) (now (eruby .entry)) (now (runs .entry))) (now (base .entry)) (now (ruby .entry)) (now (lines .entry)) r (now (base .exit)) (now (ruby .exit)) (now (lines .exit)) ⌝ }
+    ensures { λ r. ⌜ Left (jobOf em measure (now (rratio .entry) ∷ now (bratio .entry) ∷ []) profile (now (class .entry)) (now (width .entry)) (now (before .entry)) (now (after .entry)) (now (flag .entry)) (now (rclass .entry)) (now (rwidth .entry)) (now (lclass .entry)) (now (lwidth .entry)) (now (kind .entry)) (now (ebase .entry)) (now (eruby .entry)) (now (lkind .entry)) (now (eleft .entry)) (now (runs .entry)) (now (lruns .entry))) (now (base .entry)) (now (ruby .entry)) (now (left .entry)) (now (lines .entry)) r (now (base .exit)) (now (ruby .exit)) (now (left .exit)) (now (lines .exit)) ⌝ }
 {
     let answer = engine::set_job(
         em,
@@ -69,12 +75,18 @@ pub extern "C" fn bv_set_job(
         flag,
         rclass,
         rwidth,
+        lclass,
+        lwidth,
         kind,
         ebase,
         eruby,
+        lkind,
+        eleft,
         runs,
+        lruns,
         base,
         ruby,
+        left,
         lines,
     );
     answer_of(answer)
@@ -123,15 +135,20 @@ pub extern "C" fn bv_account_job(
     flag: &[u32],
     rclass: &[u32],
     rwidth: &[u32],
+    lclass: &[u32],
+    lwidth: &[u32],
     kind: &[u32],
     ebase: &[u32],
     eruby: &[u32],
+    lkind: &[u32],
+    eleft: &[u32],
     runs: &[u32],
+    lruns: &[u32],
     rows: &mut [u32],
     told: &mut [u32],
     extents: &mut [u32],
 ) -> Answer
-    ensures { λ r. ⌜ Accounted (jobOf em measure (now (rratio .entry) ∷ now (bratio .entry) ∷ []) profile (now (class .entry)) (now (width .entry)) (now (before .entry)) (now (after .entry)) (now (flag .entry)) (now (rclass .entry)) (now (rwidth .entry)) (now (kind .entry)) (now (ebase .entry)) (now (eruby .entry)) (now (runs .entry))) (now (rows .entry)) (now (told .entry)) (now (extents .entry)) r (now (rows .exit)) (now (told .exit)) (now (extents .exit)) ⌝ }
+    ensures { λ r. ⌜ Accounted (jobOf em measure (now (rratio .entry) ∷ now (bratio .entry) ∷ []) profile (now (class .entry)) (now (width .entry)) (now (before .entry)) (now (after .entry)) (now (flag .entry)) (now (rclass .entry)) (now (rwidth .entry)) (now (lclass .entry)) (now (lwidth .entry)) (now (kind .entry)) (now (ebase .entry)) (now (eruby .entry)) (now (lkind .entry)) (now (eleft .entry)) (now (runs .entry)) (now (lruns .entry))) (now (rows .entry)) (now (told .entry)) (now (extents .entry)) r (now (rows .exit)) (now (told .exit)) (now (extents .exit)) ⌝ }
 {
     let answer = job_account::account_job(
         em,
@@ -145,10 +162,15 @@ pub extern "C" fn bv_account_job(
         flag,
         rclass,
         rwidth,
+        lclass,
+        lwidth,
         kind,
         ebase,
         eruby,
+        lkind,
+        eleft,
         runs,
+        lruns,
         rows,
         told,
         extents,

@@ -14,11 +14,11 @@ use lib.Dec.{ltb, eqb}
 use lib.ListN.{length, getD}
 use Rattle.basics.specs.Lists.{count, keep, each, All}
 use Rattle.refusal.specs.declared.Refusal.{Refusal}
-use Rattle.refusal.specs.declared.Refusal.the-variants.{Range, Ratio, Profile, Count, Short, Character, Blanks, Element, Supply, BlankInside, JukugoBase, Mixed, WesternOver, NoBreak, Form}
+use Rattle.refusal.specs.declared.Refusal.the-variants.{Range, Ratio, Profile, Count, Short, Character, Blanks, Element, LeftKind, Supply, BlankInside, JukugoBase, Mixed, WesternOver, NoBreak, Form}
 use Rattle.refusal.specs.Refusal.{placeOf}
 use Rattle.door.specs.declared.Piece.{Piece}
-use Rattle.door.specs.Job.{Job, baseCount, rubyCount, elementCount, elements}
-use Rattle.door.specs.Refusals.{rubyWrong, leftOver, jobTable, baseTable, rubyTable, elementTable, baseFaults, rubyFaults, elementFaults, jobFaults, charFaults, elementsFaults, leftFaults, ownFaults}
+use Rattle.door.specs.Job.{Job, baseCount, rubyCount, leftCount, elementCount, elements}
+use Rattle.door.specs.Refusals.{readingWrong, leftOver, jobTable, baseTable, elementTable, baseFaults, rubyFaults, glossFaults, elementFaults, jobFaults, charFaults, elementsFaults, leftFaults, ownFaults}
 use Rattle.door.specs.Passed.{limits}
 use Rattle.job.specs.Line.{furthest, endsFrom, ends}
 use Rattle.job.specs.Refusals.{noBreak, lineFaults, linesFaults, faults, fault}
@@ -49,6 +49,10 @@ elements-walk : (job : Job) → elementsFaults job 0 (elements job) ≡ each (pa
 elements-walk job =
     elements-from job 0 (elements job) (λ i h. ap (λ j. getD (elements job) j nobody) (zero-add i)) ∙ ap (λ n. each (partFaults job) (count 0 n)) (length-elements job)
 
+-- The row of one character of either side.
+abbrev readingTable : ℕ → List ℕ → List ℕ → ℕ → List (Refusal × Bool)
+readingTable first class width i = (Character (first + i), readingWrong class width i) ∷ []
+
 -- The groups by short names.
 
 abbrev bases : Job → List Refusal
@@ -56,6 +60,9 @@ bases job = each (baseFaults job) (count 0 (baseCount job))
 
 abbrev rubies : Job → List Refusal
 rubies job = each (rubyFaults job) (count 0 (rubyCount job))
+
+abbrev glosses : Job → List Refusal
+glosses job = each (glossFaults job) (count 0 (leftCount job))
 
 abbrev parts : Job → List Refusal
 parts job = elementsFaults job 0 (elements job) ++ leftFaults job
@@ -92,11 +99,11 @@ follow H K lo m hi l u xs ys f p q =
 staged : {a b s : ℕ} (xs : List Refusal) → Within s a b xs → All (From s (suc s)) xs
 staged {a} {b} {s} xs w = map-all (In s a b) (From s (suc s)) xs (λ x h. (omega (arith, h .stage), omega (arith, h .stage))) (w .all)
 
-module _ (job : Job) (b r l : ℕ) where
-  job-block : Block (Unit {0}) 0 ofChars (jobFaults job b r l)
+module _ (job : Job) (b r lefts l : ℕ) where
+  job-block : Block (Unit {0}) 0 ofChars (jobFaults job b r lefts l)
   unfolding jobFaults
   job-block =
-      let rs = jobTable job b r l in
+      let rs = jobTable job b r lefts l in
       record {
         all =
             all-held (From 0 ofChars) rs
@@ -109,19 +116,30 @@ module _ (job : Job) (b r l : ℕ) where
   base-within = rows.walk (baseFaults job) ofChars 0 (baseCount job) (λ i. rw (zero-add i) (here ofChars i (baseTable job i) refl refl refl))
 
   ruby-within : Within ofChars (1024 + 0) (1024 + (0 + rubyCount job)) (rubies job)
-  ruby-within = rows.walk (rubyFaults job) ofChars 1024 (rubyCount job) (λ i. here ofChars (1024 + i) (rubyTable job i) refl refl refl)
+  ruby-within = rows.walk (rubyFaults job) ofChars 1024 (rubyCount job) (λ i. here ofChars (1024 + i) (readingTable 1024 (job .rubyClass) (job .rubyWidth) i) refl refl refl)
 
-  -- base and ruby characters have places apart where there are as few base characters as 2 asks
-  char-block : Block (baseCount job ≤ 1024) ofChars ofElements (charFaults job)
+  gloss-within : Within ofChars (3072 + 0) (3072 + (0 + leftCount job)) (glosses job)
+  gloss-within = rows.walk (glossFaults job) ofChars 3072 (leftCount job) (λ i. here ofChars (3072 + i) (readingTable 3072 (job .leftClass) (job .leftWidth) i) refl refl refl)
+
+  -- base characters and those of either side have places apart where there are as few of them as 2 asks
+  abbrev Few : Type 0
+  Few = (baseCount job ≤ 1024) × (rubyCount job ≤ 2048)
+
+  char-block : Block Few ofChars ofElements (charFaults job)
   unfolding charFaults
   char-block =
       let n = baseCount job in
       let m = rubyCount job in
+      let o = leftCount job in
       record {
-        all = all-append (From ofChars ofElements) (bases job) (rubies job) (staged (bases job) base-within) (staged (rubies job) ruby-within);
+        all =
+            all-append (From ofChars ofElements) (bases job) (rubies job ++ glosses job) (staged (bases job) base-within)
+            (all-append (From ofChars ofElements) (rubies job) (glosses job) (staged (rubies job) ruby-within) (staged (glosses job) gloss-within));
         leads = λ h.
-            rows.join ofChars (0 + 0) (0 + (0 + n)) (1024 + 0) (1024 + (0 + m)) (1024 + (n + m)) (omega arith) (omega arith) (omega arith) (omega arith) (bases job) (rubies job) base-within
-            ruby-within .leads;
+            let sides = rows.join ofChars (1024 + 0) (1024 + (0 + m)) (3072 + 0) (3072 + (0 + o)) (3072 + (m + o)) (omega arith) (omega (arith, h .1)) (omega (arith, h .1)) (omega arith)
+            (rubies job) (glosses job) ruby-within gloss-within in
+            rows.join ofChars (0 + 0) (0 + (0 + n)) (1024 + 0) (3072 + (m + o)) (3072 + (n + m + o)) (omega arith) (omega (arith, h .0)) (omega arith) (omega arith)
+            (bases job) (rubies job ++ glosses job) base-within sides .leads;
       }
 
   -- what is left over has the place past all elements
@@ -136,12 +154,12 @@ module _ (job : Job) (b r l : ℕ) where
       let w = rows.join ofElements (0 + 0) (0 + (0 + n)) n (suc n) (suc n) (omega arith) (omega arith) (omega arith) (omega arith) walked (leftFaults job) own left in
       rw (elements-walk job) (record { all = staged (walked ++ leftFaults job) w; leads = λ _. w .leads })
 
-  own-block : Block (Unit {0}) 0 ofLines (ownFaults job b r l)
+  own-block : Block (Unit {0}) 0 ofLines (ownFaults job b r lefts l)
   unfolding ownFaults
   own-block =
-      follow (Unit {0}) (baseCount job ≤ 1024) 0 ofChars ofLines (omega arith) (omega arith) (jobFaults job b r l) (charFaults job ++ parts job)
-      (λ _ none. limits job b r l none .bases) job-block
-      (follow (baseCount job ≤ 1024) (Unit {0}) ofChars ofElements ofLines (omega arith) (omega arith) (charFaults job) (parts job) (λ _ _. tt) char-block part-block)
+      follow (Unit {0}) Few 0 ofChars ofLines (omega arith) (omega arith) (jobFaults job b r lefts l) (charFaults job ++ parts job)
+      (λ _ none. (limits job b r lefts l none .bases, limits job b r lefts l none .rubies)) job-block
+      (follow Few (Unit {0}) ofChars ofElements ofLines (omega arith) (omega arith) (charFaults job) (parts job) (λ _ _. tt) char-block part-block)
 
 -- The lines: a line that no break ends is the last, so that there is one refusal at most.
 
@@ -187,26 +205,29 @@ module _ (job : Job) where
         leads = λ _. lines-from (baseCount job) 0;
       }
 
-all-lead : (job : Job) (b r l : ℕ) → Leads (faults job b r l)
+all-lead : (job : Job) (b r lefts l : ℕ) → Leads (faults job b r lefts l)
 unfolding faults
-all-lead job b r l =
-    follow (Unit {0}) (Unit {0}) 0 ofLines (suc ofLines) (omega arith) (omega arith) (ownFaults job b r l) (linesFaults job) (λ _ _. tt) (own-block job b r l) (line-block job) .leads tt
+all-lead job b r lefts l =
+    follow (Unit {0}) (Unit {0}) 0 ofLines (suc ofLines) (omega arith) (omega arith) (ownFaults job b r lefts l) (linesFaults job) (λ _ _. tt) (own-block job b r lefts l) (line-block job) .leads tt
 
 -- Each refusal of the list has its row.
 
-module _ (job : Job) (b r l : ℕ) where
+module _ (job : Job) (b r lefts l : ℕ) where
   abbrev R : Refusal → Type 0
-  R q = Row job b r l q
+  R q = Row job b r lefts l q
 
-  job-rows : All R (jobFaults job b r l)
+  job-rows : All R (jobFaults job b r lefts l)
   unfolding jobFaults
-  job-rows = all-held R (jobTable job b r l) (search (inl, inr, ltb-true) depth 24 fits 4000)
+  job-rows = all-held R (jobTable job b r lefts l) (search (inl, inr, ltb-true) depth 24 fits 4000)
 
   base-rows : (i : ℕ) → i < baseCount job → All R (baseFaults job i)
   base-rows i h = all-held R (baseTable job i) (search (inl, inr) depth 24)
 
   ruby-rows : (i : ℕ) → i < rubyCount job → All R (rubyFaults job i)
-  ruby-rows i h = all-held R (rubyTable job i) (λ t. inr (i, refl, h, t), tt)
+  ruby-rows i h = all-held R (readingTable 1024 (job .rubyClass) (job .rubyWidth) i) (λ t. inr (inl (i, refl, h, t)), tt)
+
+  gloss-rows : (i : ℕ) → i < leftCount job → All R (glossFaults job i)
+  gloss-rows i h = all-held R (readingTable 3072 (job .leftClass) (job .leftWidth) i) (λ t. inr (inr (i, refl, h, t)), tt)
 
   part-rows : (k : ℕ) → k < elementCount job → All R (partFaults job k)
   part-rows k h = all-held R (elementTable job k (getD (elements job) k nobody)) (search (inl, inr) depth 24)
@@ -217,50 +238,55 @@ module _ (job : Job) (b r l : ℕ) where
       all-each (Begins job) R (lineFaults job) (keep (λ s. ltb s (baseCount job)) (0 ∷ ends job)) (λ s h. all-when R (NoBreak s) (noBreak job s) (λ t. (h, t)))
       (rows.all-kept (λ s. ltb s (baseCount job)) (Begins job) (0 ∷ ends job) (λ s m t. (ltb-true s (baseCount job) t, m)))
 
-  pub rows-hold : All (Row job b r l) (faults job b r l)
+  pub rows-hold : All (Row job b r lefts l) (faults job b r lefts l)
   unfolding faults ownFaults charFaults leftFaults
   rows-hold =
-      all-append R (ownFaults job b r l) (linesFaults job)
-      (all-append R (jobFaults job b r l) (charFaults job ++ parts job) job-rows
+      all-append R (ownFaults job b r lefts l) (linesFaults job)
+      (all-append R (jobFaults job b r lefts l) (charFaults job ++ parts job) job-rows
       (all-append R (charFaults job) (parts job)
-      (all-append R (bases job) (rubies job) (all-walk (baseFaults job) R (baseCount job) base-rows) (all-walk (rubyFaults job) R (rubyCount job) ruby-rows))
+      (all-append R (bases job) (rubies job ++ glosses job) (all-walk (baseFaults job) R (baseCount job) base-rows)
+      (all-append R (rubies job) (glosses job) (all-walk (rubyFaults job) R (rubyCount job) ruby-rows) (all-walk (glossFaults job) R (leftCount job) gloss-rows)))
       (all-append R (elementsFaults job 0 (elements job)) (leftFaults job) (rw (elements-walk job) (all-walk (partFaults job) R (elementCount job) part-rows))
       (all-when R (Supply (elementCount job)) (leftOver job (elements job)) (λ t. inr (refl, t))))))
       line-rows
 
 -- Each row that holds is in the list.
 
-module _ (job : Job) (b r l : ℕ) where
+module _ (job : Job) (b r lefts l : ℕ) where
   abbrev Listed : Refusal → Type 0
-  Listed q = Member q (faults job b r l)
+  Listed q = Member q (faults job b r lefts l)
 
-  in-own : (q : Refusal) → Member q (ownFaults job b r l) → Listed q
+  in-own : (q : Refusal) → Member q (ownFaults job b r lefts l) → Listed q
   unfolding faults
-  in-own q m = in-left q (ownFaults job b r l) (linesFaults job) m
+  in-own q m = in-left q (ownFaults job b r lefts l) (linesFaults job) m
 
   -- a row of the job itself, at a place that is a numeral
-  in-job : (make : ℕ → Refusal) (k : ℕ) {p : ℕ} → p ≡ k → find (exact (make k)) (jobTable job b r l) ≡ true → Listed (make p)
+  in-job : (make : ℕ → Refusal) (k : ℕ) {p : ℕ} → p ≡ k → find (exact (make k)) (jobTable job b r lefts l) ≡ true → Listed (make p)
   unfolding ownFaults jobFaults
-  in-job make k e t = rw e (in-own (make k) (in-left (make k) (jobFaults job b r l) (charFaults job ++ parts job) (rows.in-exact (make k) (jobTable job b r l) t)))
+  in-job make k e t = rw e (in-own (make k) (in-left (make k) (jobFaults job b r lefts l) (charFaults job ++ parts job) (rows.in-exact (make k) (jobTable job b r lefts l) t)))
 
   in-chars : (q : Refusal) → Member q (charFaults job) → Listed q
   unfolding ownFaults
-  in-chars q m = in-own q (in-right q (jobFaults job b r l) (charFaults job ++ parts job) (in-left q (charFaults job) (parts job) m))
+  in-chars q m = in-own q (in-right q (jobFaults job b r lefts l) (charFaults job ++ parts job) (in-left q (charFaults job) (parts job) m))
 
   in-parts : (q : Refusal) → Member q (parts job) → Listed q
   unfolding ownFaults
-  in-parts q m = in-own q (in-right q (jobFaults job b r l) (charFaults job ++ parts job) (in-right q (charFaults job) (parts job) m))
+  in-parts q m = in-own q (in-right q (jobFaults job b r lefts l) (charFaults job ++ parts job) (in-right q (charFaults job) (parts job) m))
 
   -- a row of the base character, of the element that is its place
   in-base : (q : Refusal) → (placeOf q < baseCount job) × (find (numbered q) (baseTable job (placeOf q)) ≡ true) →
       map (λ r. placeOf (r .0)) (baseTable job (placeOf q)) ≡ map (λ r. placeOf q) (baseTable job (placeOf q)) → Listed q
   unfolding charFaults
   in-base q h e =
-      in-chars q (in-left q (bases job) (rubies job) (in-walk (baseFaults job) (baseCount job) (placeOf q) q (h .0) (rows.in-numbered q (baseTable job (placeOf q)) e (h .1))))
+      in-chars q (in-left q (bases job) (rubies job ++ glosses job) (in-walk (baseFaults job) (baseCount job) (placeOf q) q (h .0) (rows.in-numbered q (baseTable job (placeOf q)) e (h .1))))
 
   in-ruby : (i : ℕ) (q : Refusal) → i < rubyCount job → Member q (rubyFaults job i) → Listed q
   unfolding charFaults
-  in-ruby i q h m = in-chars q (in-right q (bases job) (rubies job) (in-walk (rubyFaults job) (rubyCount job) i q h m))
+  in-ruby i q h m = in-chars q (in-right q (bases job) (rubies job ++ glosses job) (in-left q (rubies job) (glosses job) (in-walk (rubyFaults job) (rubyCount job) i q h m)))
+
+  in-gloss : (i : ℕ) (q : Refusal) → i < leftCount job → Member q (glossFaults job i) → Listed q
+  unfolding charFaults
+  in-gloss i q h m = in-chars q (in-right q (bases job) (rubies job ++ glosses job) (in-right q (rubies job) (glosses job) (in-walk (glossFaults job) (leftCount job) i q h m)))
 
   in-element : (q : Refusal) → (placeOf q < elementCount job) × (find (numbered q) (elementTable job (placeOf q) (getD (elements job) (placeOf q) nobody)) ≡ true) → Listed q
   in-element q h =
@@ -275,11 +301,11 @@ module _ (job : Job) (b r l : ℕ) where
   in-lines : (s : ℕ) → Begins job s → noBreak job s ≡ true → Listed (NoBreak s)
   unfolding faults linesFaults
   in-lines s h t =
-      in-right (NoBreak s) (ownFaults job b r l) (linesFaults job)
+      in-right (NoBreak s) (ownFaults job b r lefts l) (linesFaults job)
       (rows.in-each (lineFaults job) s (NoBreak s) (keep (λ s. ltb s (baseCount job)) (0 ∷ ends job))
       (rows.in-keep (λ s. ltb s (baseCount job)) s (0 ∷ ends job) (h .1) (lt-ltb s (baseCount job) (h .0))) (in-when (NoBreak s) (noBreak job s) t))
 
-  pub listed : (q : Refusal) → Row job b r l q → Member q (faults job b r l)
+  pub listed : (q : Refusal) → Row job b r lefts l q → Member q (faults job b r lefts l)
   listed (Range p) (inl h) = in-job Range 0 (h .0) (h .1)
   listed (Range p) (inr h) = in-job Range 1 (h .0) (h .1)
   listed (Ratio p) (inl h) = in-job Ratio 0 (h .0) (h .1)
@@ -287,12 +313,15 @@ module _ (job : Job) (b r l : ℕ) where
   listed Profile h = in-job (λ p. Profile) 0 {p = 0} refl h
   listed (Count p) (inl h) = in-job Count 0 (h .0) (lt-ltb _ _ (h .1))
   listed (Count p) (inr (inl h)) = in-job Count 1 (h .0) (lt-ltb _ _ (h .1))
-  listed (Count p) (inr (inr h)) = in-job Count 2 (h .0) (lt-ltb _ _ (h .1))
+  listed (Count p) (inr (inr (inl h))) = in-job Count 2 (h .0) (lt-ltb _ _ (h .1))
+  listed (Count p) (inr (inr (inr h))) = in-job Count 3 (h .0) (lt-ltb _ _ (h .1))
   listed Short h = in-job (λ p. Short) 0 {p = 0} refl h
   listed (Character p) (inl h) = in-base (Character p) h refl
-  listed (Character p) (inr h) = in-ruby (h .0) (Character p) (h .2) (rw (h .1) (in-when (Character (1024 + h .0)) (rubyWrong job (h .0)) (h .3)))
+  listed (Character p) (inr (inl h)) = in-ruby (h .0) (Character p) (h .2) (rw (h .1) (in-when (Character (1024 + h .0)) (readingWrong (job .rubyClass) (job .rubyWidth) (h .0)) (h .3)))
+  listed (Character p) (inr (inr h)) = in-gloss (h .0) (Character p) (h .2) (rw (h .1) (in-when (Character (3072 + h .0)) (readingWrong (job .leftClass) (job .leftWidth) (h .0)) (h .3)))
   listed (Blanks p) h = in-base (Blanks p) h refl
   listed (Element p) h = in-element (Element p) h
+  listed (LeftKind p) h = in-element (LeftKind p) h
   listed (Supply p) (inl h) = in-element (Supply p) h
   listed (Supply p) (inr h) = in-left-over p (h .0) (h .1)
   listed (BlankInside p) h = in-element (BlankInside p) h
@@ -327,24 +356,24 @@ irreflexive a b (inr h) (inr k) = go (h .1) (k .1)
     go (inr h) (inl k) = omega (arith, h .0)
     go (inr h) (inr k) = omega (arith, h .1, k .1)
 
-module _ (job : Job) (base ruby lines : ℕ) where
+module _ (job : Job) (base ruby left lines : ℕ) where
   -- the head of the list is the table's first
-  pub given-first : (r : Refusal) → fault job base ruby lines ≡ some r → First job base ruby lines r
+  pub given-first : (r : Refusal) → fault job base ruby left lines ≡ some r → First job base ruby left lines r
   unfolding fault
   given-first r e =
       record {
-        holds = head-all (faults job base ruby lines) (rows-hold job base ruby lines) e;
-        least = λ q h. first-of (faults job base ruby lines) r (all-lead job base ruby lines) e q (listed job base ruby lines q h);
+        holds = head-all (faults job base ruby left lines) (rows-hold job base ruby left lines) e;
+        least = λ q h. first-of (faults job base ruby left lines) r (all-lead job base ruby left lines) e q (listed job base ruby left lines q h);
       }
     where
-      head-all : (xs : List Refusal) → All (Row job base ruby lines) xs → head? xs ≡ some r → Row job base ruby lines r
+      head-all : (xs : List Refusal) → All (Row job base ruby left lines) xs → head? xs ≡ some r → Row job base ruby left lines r
       head-all [] a e = absurd (let z : _≡_ {A = ℕ} 0 1 = cc in omega arith)
-      head-all (x ∷ xs) a e = let h : x ≡ r = cc in subst (Row job base ruby lines) h (a .0)
+      head-all (x ∷ xs) a e = let h : x ≡ r = cc in subst (Row job base ruby left lines) h (a .0)
 
-  pub first-given : (r : Refusal) → First job base ruby lines r → fault job base ruby lines ≡ some r
+  pub first-given : (r : Refusal) → First job base ruby left lines r → fault job base ruby left lines ≡ some r
   unfolding fault
   first-given r f =
-      let h = some-head r (faults job base ruby lines) (listed job base ruby lines r (f .holds)) in
+      let h = some-head r (faults job base ruby left lines) (listed job base ruby left lines r (f .holds)) in
       let g = given-first (h .0) (h .1) in
       h .1 ∙ ap {B = Option Refusal} some (same (h .0) (f .least (h .0) (g .holds)) (g .least r (f .holds)))
     where
@@ -354,18 +383,18 @@ module _ (job : Job) (base ruby lines : ℕ) where
       same q (inr h) (inr k) = absurd (irreflexive r q h k)
 
   -- and there is none exactly where no row holds
-  pub none-given : fault job base ruby lines ≡ none → (q : Refusal) → Row job base ruby lines q → ⊥
+  pub none-given : fault job base ruby left lines ≡ none → (q : Refusal) → Row job base ruby left lines q → ⊥
   unfolding fault
-  none-given e q h = let k = some-head q (faults job base ruby lines) (listed job base ruby lines q h) in let z : _≡_ {A = ℕ} 0 1 = absurd-head (k .0) (k .1) in omega arith
+  none-given e q h = let k = some-head q (faults job base ruby left lines) (listed job base ruby left lines q h) in let z : _≡_ {A = ℕ} 0 1 = absurd-head (k .0) (k .1) in omega arith
     where
-      absurd-head : (r : Refusal) → head? (faults job base ruby lines) ≡ some r → _≡_ {A = ℕ} 0 1
+      absurd-head : (r : Refusal) → head? (faults job base ruby left lines) ≡ some r → _≡_ {A = ℕ} 0 1
       absurd-head r k = let z : none ≡ some r = sym e ∙ k in cc
 
-  pub given-none : ((q : Refusal) → Row job base ruby lines q → ⊥) → fault job base ruby lines ≡ none
+  pub given-none : ((q : Refusal) → Row job base ruby left lines q → ⊥) → fault job base ruby left lines ≡ none
   unfolding fault
-  given-none f = go (faults job base ruby lines) (rows-hold job base ruby lines)
+  given-none f = go (faults job base ruby left lines) (rows-hold job base ruby left lines)
     where
-      go : (xs : List Refusal) → All (Row job base ruby lines) xs → head? xs ≡ none
+      go : (xs : List Refusal) → All (Row job base ruby left lines) xs → head? xs ≡ none
       go [] a = refl
       go (x ∷ xs) a = absurd (f x (a .0))
 
@@ -376,10 +405,10 @@ head-of P [] ys r a e = inr (refl, e)
 head-of P (x ∷ xs) ys r a e = let h : x ≡ r = cc in inl (subst P h (a .0))
 
 -- a refusal of the lines' stage is given only where the door has none
-pub lines-turn : (job : Job) (b r l : ℕ) (q : Refusal) → stage q ≡ stage (NoBreak 0) → fault job b r l ≡ some q → (ownFaults job b r l ≡ []) × (head? (linesFaults job) ≡ some q)
+pub lines-turn : (job : Job) (b r lefts l : ℕ) (q : Refusal) → stage q ≡ stage (NoBreak 0) → fault job b r lefts l ≡ some q → (ownFaults job b r lefts l ≡ []) × (head? (linesFaults job) ≡ some q)
 unfolding fault faults
-lines-turn job b r l q h e = go (head-of (From 0 ofLines) (ownFaults job b r l) (linesFaults job) q (own-block job b r l .all) e)
+lines-turn job b r lefts l q h e = go (head-of (From 0 ofLines) (ownFaults job b r lefts l) (linesFaults job) q (own-block job b r lefts l .all) e)
   where
-    go : From 0 ofLines q ⊎ ((ownFaults job b r l ≡ []) × (head? (linesFaults job) ≡ some q)) → (ownFaults job b r l ≡ []) × (head? (linesFaults job) ≡ some q)
+    go : From 0 ofLines q ⊎ ((ownFaults job b r lefts l ≡ []) × (head? (linesFaults job) ≡ some q)) → (ownFaults job b r lefts l ≡ []) × (head? (linesFaults job) ≡ some q)
     go (inl k) = absurd (omega (arith, k .1))
     go (inr k) = k

@@ -13,17 +13,20 @@ use lib.Seq.{getD-append-add}
 use Rattle.basics.specs.Lists.{count, each, All}
 use Rattle.basics.specs.Laws.{length-count}
 use Rattle.word.specs.Given.{hasRuby}
-use Rattle.word.specs.Alone.{places}
+use Rattle.word.specs.Both.{hasLeft}
+use Rattle.readings.specs.Standing.{Standing, stand}
+use Rattle.line.specs.declared.Side.{Side}
+use Rattle.line.specs.declared.Side.the-variants.{Right, Left}
 use Rattle.door.specs.declared.Piece.{Piece}
-use Rattle.door.specs.Job.{Job, baseCount, rubyCount, given}
+use Rattle.door.specs.Job.{Job, baseCount, given, glossOf}
 use Rattle.door.specs.Entries.{length-entries}
 use Rattle.door.specs.Passed.{Passed}
-use Rattle.job.specs.Line.{pieces, origins, along, baseAt, rubyAt, baseIn, rubyIn, byLine}
+use Rattle.job.specs.Line.{pieces, wordOf, origins, along, firstOf, manyOf, countOf, onSide, alone, baseAt, readingAt, baseIn, readingIn, byLine}
 use Rattle.job.specs.Walk.{length-origins}
-use Rattle.job.specs.Words.{GoodPiece, good-pieces}
-use Rattle.job.specs.Lengths.{places-counted}
-use Rattle.job.specs.Tiles.{base-numbers, ruby-numbers}
-use Rattle.job.specs.Promise.{Filled, IsLine, nobody, Placed, BasePlaced, RubyPlaced}
+use Rattle.job.specs.Words.{GoodPiece}
+use Rattle.job.specs.Pieces.{good-pieces}
+use Rattle.job.specs.Tiles.{base-numbers, reading-numbers}
+use Rattle.job.specs.Promise.{Filled, IsLine, nobody, Placed, BasePlaced, ReadingPlaced}
 
 count-at : (a n k : ℕ) → k < n → getD (count a n) k 0 ≡ a + k
 count-at a zero k h = absurd (omega arith)
@@ -39,9 +42,9 @@ map-at x (y ∷ ys) zero h = refl
 map-at x (y ∷ ys) (suc k) h = map-at x ys k (omega arith)
 
 -- Two lists that are made piece by piece alike: the numbers of a piece's characters, and where they stand.
-module _ (first many : Piece → ℕ) (alone : Piece → List ℕ) where
+module _ (first many : Piece → ℕ) (places : Piece → List ℕ) where
   abbrev at : Piece → ℕ → List ℕ
-  at p x = map (λ y. x + y) (alone p)
+  at p x = map (λ y. x + y) (places p)
 
   -- an entry of both
   record Spot (ps : List Piece) (xs : List ℕ) (number position : ℕ) : Type 0 where
@@ -50,10 +53,10 @@ module _ (first many : Piece → ℕ) (alone : Piece → List ℕ) where
     pub own : ℕ
     pub within : own < many (getD ps piece nobody)
     pub is : number ≡ first (getD ps piece nobody) + own
-    pub stands : position ≡ getD xs piece 0 + getD (alone (getD ps piece nobody)) own 0
+    pub stands : position ≡ getD xs piece 0 + getD (places (getD ps piece nobody)) own 0
 
   abbrev Counted : Piece → Type 0
-  Counted p = length (alone p) ≡ many p
+  Counted p = length (places p) ≡ many p
 
   abbrev numbersOf : List Piece → List ℕ
   numbersOf ps = each (λ p. count (first p) (many p)) ps
@@ -63,7 +66,7 @@ module _ (first many : Piece → ℕ) (alone : Piece → List ℕ) where
   along-length (p ∷ ps) [] h a = absurd (omega arith)
   along-length (p ∷ ps) (x ∷ xs) h a =
       length-append (at p x) (along at ps xs)
-      ∙ omega (arith, a .0, length-map (alone p) (λ y. x + y), length-count (first p) (many p), along-length ps xs (omega arith) (a .1), length-append (count (first p) (many p)) (numbersOf ps))
+      ∙ omega (arith, a .0, length-map (places p) (λ y. x + y), length-count (first p) (many p), along-length ps xs (omega arith) (a .1), length-append (count (first p) (many p)) (numbersOf ps))
 
   spot : (ps : List Piece) (xs : List ℕ) → length xs ≡ length ps → All Counted ps → (k : ℕ) → k < length (numbersOf ps) → Spot ps xs (getD (numbersOf ps) k 0) (getD (along at ps xs) k 0)
   spot [] xs h a k l = absurd (omega arith)
@@ -76,7 +79,7 @@ module _ (first many : Piece → ℕ) (alone : Piece → List ℕ) where
           own = k;
           within = g;
           is = List·getD-append (count (first p) (many p)) (numbersOf ps) 0 k (omega (arith, length-count (first p) (many p))) ∙ count-at (first p) (many p) k g;
-          stands = List·getD-append (at p x) (along at ps xs) 0 k (omega (arith, a .0, length-map (alone p) (λ y. x + y))) ∙ map-at x (alone p) k (omega (arith, a .0));
+          stands = List·getD-append (at p x) (along at ps xs) 0 k (omega (arith, a .0, length-map (places p) (λ y. x + y))) ∙ map-at x (places p) k (omega (arith, a .0));
         }
         | no g ↦ next (back g) (spot ps xs (omega arith) (a .1) (k - many p) (omega (arith, length-append (count (first p) (many p)) (numbersOf ps), length-count (first p) (many p))))
       ]
@@ -97,7 +100,7 @@ module _ (first many : Piece → ℕ) (alone : Piece → List ℕ) where
                 ∙ getD-append-add (count (first p) (many p)) (numbersOf ps) (k - many p) 0
                 ∙ q .is;
             stands =
-                ap (λ k. getD (at p x ++ along at ps xs) k 0) (e ∙ ap (λ m. m + (k - many p)) (sym (length-map (alone p) (λ y. x + y) ∙ a .0)))
+                ap (λ k. getD (at p x ++ along at ps xs) k 0) (e ∙ ap (λ m. m + (k - many p)) (sym (length-map (places p) (λ y. x + y) ∙ a .0)))
                 ∙ getD-append-add (at p x) (along at ps xs) (k - many p) 0
                 ∙ q .stands;
           }
@@ -110,7 +113,7 @@ module _ (first many : Piece → ℕ) (alone : Piece → List ℕ) where
     pub position : getD ps at 0 ≡ p
 
   entry : (ps : List Piece) (xs : List ℕ) → length xs ≡ length ps → All Counted ps → (k own : ℕ) → k < length ps → own < many (getD ps k nobody) →
-      Entry (numbersOf ps) (along at ps xs) (first (getD ps k nobody) + own) (getD xs k 0 + getD (alone (getD ps k nobody)) own 0)
+      Entry (numbersOf ps) (along at ps xs) (first (getD ps k nobody) + own) (getD xs k 0 + getD (places (getD ps k nobody)) own 0)
   entry [] xs h a k own l u = absurd (omega arith)
   entry (p ∷ ps) [] h a k own l u = absurd (omega arith)
   entry (p ∷ ps) (x ∷ xs) h a zero own l u =
@@ -118,12 +121,12 @@ module _ (first many : Piece → ℕ) (alone : Piece → List ℕ) where
         at = own;
         there = omega (arith, length-append (count (first p) (many p)) (numbersOf ps), length-count (first p) (many p));
         number = List·getD-append (count (first p) (many p)) (numbersOf ps) 0 own (omega (arith, length-count (first p) (many p))) ∙ count-at (first p) (many p) own u;
-        position = List·getD-append (at p x) (along at ps xs) 0 own (omega (arith, a .0, length-map (alone p) (λ y. x + y))) ∙ map-at x (alone p) own (omega (arith, a .0));
+        position = List·getD-append (at p x) (along at ps xs) 0 own (omega (arith, a .0, length-map (places p) (λ y. x + y))) ∙ map-at x (places p) own (omega (arith, a .0));
       }
   entry (p ∷ ps) (x ∷ xs) h a (suc k) own l u = next (entry ps xs (omega arith) (a .1) k own (omega arith) u)
     where
-      next : Entry (numbersOf ps) (along at ps xs) (first (getD ps k nobody) + own) (getD xs k 0 + getD (alone (getD ps k nobody)) own 0) →
-          Entry (count (first p) (many p) ++ numbersOf ps) (at p x ++ along at ps xs) (first (getD ps k nobody) + own) (getD xs k 0 + getD (alone (getD ps k nobody)) own 0)
+      next : Entry (numbersOf ps) (along at ps xs) (first (getD ps k nobody) + own) (getD xs k 0 + getD (places (getD ps k nobody)) own 0) →
+          Entry (count (first p) (many p) ++ numbersOf ps) (at p x ++ along at ps xs) (first (getD ps k nobody) + own) (getD xs k 0 + getD (places (getD ps k nobody)) own 0)
       next q =
           record {
             at = many p + q .at;
@@ -133,7 +136,7 @@ module _ (first many : Piece → ℕ) (alone : Piece → List ℕ) where
                 ∙ getD-append-add (count (first p) (many p)) (numbersOf ps) (q .at) 0
                 ∙ q .number;
             position =
-                ap (λ m. getD (at p x ++ along at ps xs) (m + q .at) 0) (sym (length-map (alone p) (λ y. x + y) ∙ a .0)) ∙ getD-append-add (at p x) (along at ps xs) (q .at) 0 ∙ q .position;
+                ap (λ m. getD (at p x ++ along at ps xs) (m + q .at) 0) (sym (length-map (places p) (λ y. x + y) ∙ a .0)) ∙ getD-append-add (at p x) (along at ps xs) (q .at) 0 ∙ q .position;
           }
 
   -- and line by line
@@ -204,13 +207,13 @@ module _ (first many : Piece → ℕ) (alone : Piece → List ℕ) where
             }
 
     -- where the numbers are 0, 1, ..
-    pub placed : (n : ℕ) (es : List ℕ) → byLine numbers 0 es ≡ count 0 n → (i : ℕ) → i < n → Placed first many alone job es i (getD (byLine positions 0 es) i 0)
+    pub placed : (n : ℕ) (es : List ℕ) → byLine numbers 0 es ≡ count 0 n → (i : ℕ) → i < n → Placed first many places job es i (getD (byLine positions 0 es) i 0)
     placed n es all i h = go (in-line 0 es i (omega (arith, ap length all, length-count 0 n)))
       where
         number : getD (byLine numbers 0 es) i 0 ≡ i
         number = ap (λ xs. getD xs i 0) all ∙ count-at 0 n i h ∙ zero-add i
 
-        go : InLine 0 es (getD (byLine numbers 0 es) i 0) (getD (byLine positions 0 es) i 0) → Placed first many alone job es i (getD (byLine positions 0 es) i 0)
+        go : InLine 0 es (getD (byLine numbers 0 es) i 0) (getD (byLine positions 0 es) i 0) → Placed first many places job es i (getD (byLine positions 0 es) i 0)
         go q =
             record {
               from = q .from;
@@ -249,7 +252,7 @@ module _ (first many : Piece → ℕ) (alone : Piece → List ℕ) where
               position = ap (λ m. getD (positions s e ++ byLine positions e es) (m + q .at) 0) (sym (as-long s e)) ∙ getD-append-add (positions s e) (byLine positions e es) (q .at) 0 ∙ q .position;
             }
 
-    pub placed-once : (n : ℕ) (es : List ℕ) → byLine numbers 0 es ≡ count 0 n → (i position : ℕ) → Placed first many alone job es i position → position ≡ getD (byLine positions 0 es) i 0
+    pub placed-once : (n : ℕ) (es : List ℕ) → byLine numbers 0 es ≡ count 0 n → (i position : ℕ) → Placed first many places job es i position → position ≡ getD (byLine positions 0 es) i 0
     placed-once n es all i position q =
         go (in-lines 0 es (q .from) (q .upto) _ _ (q .line)
         (entry (pieces job (q .from) (q .upto)) (origins job (q .from) (q .upto)) (length-origins job (q .from) (q .upto)) (counted (q .from) (q .upto)) (q .piece) (q .own) (q .there) (q .within)))
@@ -257,68 +260,77 @@ module _ (first many : Piece → ℕ) (alone : Piece → List ℕ) where
         p : Piece
         p = getD (pieces job (q .from) (q .upto)) (q .piece) nobody
 
-        go : Entry (byLine numbers 0 es) (byLine positions 0 es) (first p + q .own) (getD (origins job (q .from) (q .upto)) (q .piece) 0 + getD (alone p) (q .own) 0) → position ≡ getD (byLine positions 0 es) i 0
+        go : Entry (byLine numbers 0 es) (byLine positions 0 es) (first p + q .own) (getD (origins job (q .from) (q .upto)) (q .piece) 0 + getD (places p) (q .own) 0) → position ≡ getD (byLine positions 0 es) i 0
         go k =
             let h : k .at < n = omega (arith, k .there, ap length all, length-count 0 n) in
             let e : k .at ≡ i = sym (ap (λ xs. getD xs (k .at) 0) all ∙ count-at 0 n (k .at) h ∙ zero-add (k .at)) ∙ k .number ∙ sym (q .is) in
             q .stands ∙ sym (k .position) ∙ ap (λ m. getD (byLine positions 0 es) m 0) e
 
--- Base and ruby characters.
+-- Base characters, and those of either side.
 
-abbrev pub baseAlone : Job → Piece → List ℕ
-baseAlone job p = places (p .form) (given job p) .base
+pub stands : (job : Job) (p : Piece) → GoodPiece job p → Standing (p .form) (given job p) (glossOf job p) (wordOf job p)
+stands job p g = stand (p .form) 0 (given job p) (glossOf job p) (wordOf job p) (g .set 0) (g .ready)
 
-abbrev pub rubyAlone : Job → Piece → List ℕ
-rubyAlone job p = places (p .form) (given job p) .ruby
+pub base-counted : (job : Job) (p : Piece) → GoodPiece job p → length (alone job p .base) ≡ p .bases
+base-counted job p g = stands job p g .base .count ∙ length-entries (job .width) (p .base) (p .bases)
 
-pub base-counted : (job : Job) (p : Piece) → GoodPiece job p → length (baseAlone job p) ≡ p .bases
-base-counted job p g = places-counted (p .form) (given job p) (g .sized .whole) .base ∙ length-entries (job .width) (p .base) (p .bases)
-
-pub ruby-counted : (job : Job) (p : Piece) → GoodPiece job p → length (rubyAlone job p) ≡ p .rubies
-ruby-counted job p g = places-counted (p .form) (given job p) (g .sized .whole) .ruby ∙ go (hasRuby (p .form)) refl
+pub reading-counted : (side : Side) (job : Job) (p : Piece) → GoodPiece job p → length (onSide side (alone job p)) ≡ manyOf side p
+reading-counted Right job p g = go (hasRuby (p .form)) refl
   where
-    go : (t : Bool) → hasRuby (p .form) ≡ t → cond t (length (given job p .rubyWidth)) 0 ≡ p .rubies
-    go true e = length-entries (job .rubyWidth) (p .ruby) (p .rubies)
-    go false e = sym (g .plain e)
+    rubies : length (given job p .rubyWidth) ≡ p .rubies
+    rubies = length-entries (job .rubyWidth) (p .ruby) (p .rubies)
 
-all-base : (job : Job) (ps : List Piece) → All (GoodPiece job) ps → All (λ p. length (baseAlone job p) ≡ p .bases) ps
+    go : (t : Bool) → hasRuby (p .form) ≡ t → length (alone job p .right) ≡ p .rubies
+    go true e = stands job p g .right e .count ∙ rubies
+    go false e = ap length (stands job p g .noRight e) ∙ sym (ap length (g .ready .plain e)) ∙ rubies
+reading-counted Left job p g = go (hasLeft (p .gloss)) refl
+  where
+    lefts : length (glossOf job p .width) ≡ p .lefts
+    lefts = length-entries (job .leftWidth) (p .left) (p .lefts)
+
+    go : (t : Bool) → hasLeft (p .gloss) ≡ t → length (alone job p .left) ≡ p .lefts
+    go true e = stands job p g .left e .count ∙ lefts
+    go false e = ap length (stands job p g .noLeft e) ∙ sym (ap length (g .ready .left .none e)) ∙ lefts
+
+all-base : (job : Job) (ps : List Piece) → All (GoodPiece job) ps → All (λ p. length (alone job p .base) ≡ p .bases) ps
 all-base job [] a = tt
 all-base job (p ∷ ps) a = (base-counted job p (a .0), all-base job ps (a .1))
 
-all-ruby : (job : Job) (ps : List Piece) → All (GoodPiece job) ps → All (λ p. length (rubyAlone job p) ≡ p .rubies) ps
-all-ruby job [] a = tt
-all-ruby job (p ∷ ps) a = (ruby-counted job p (a .0), all-ruby job ps (a .1))
+all-readings : (side : Side) (job : Job) (ps : List Piece) → All (GoodPiece job) ps → All (λ p. length (onSide side (alone job p)) ≡ manyOf side p) ps
+all-readings side job [] a = tt
+all-readings side job (p ∷ ps) a = (reading-counted side job p (a .0), all-readings side job ps (a .1))
 
 module _ (job : Job) (passed : Passed job) (es : List ℕ) (fill : Filled job es) where
-  bases : (s e : ℕ) → All (λ p. length (baseAlone job p) ≡ p .bases) (pieces job s e)
+  bases : (s e : ℕ) → All (λ p. length (alone job p .base) ≡ p .bases) (pieces job s e)
   bases s e = all-base job (pieces job s e) (good-pieces job passed s e)
-
-  rubies : (s e : ℕ) → All (λ p. length (rubyAlone job p) ≡ p .rubies) (pieces job s e)
-  rubies s e = all-ruby job (pieces job s e) (good-pieces job passed s e)
 
   pub base-placed : (i : ℕ) → i < baseCount job → BasePlaced job es i (getD (byLine (baseIn job) 0 es) i 0)
   unfolding baseIn baseAt
-  base-placed = placed (λ p. p .base) (λ p. p .bases) (baseAlone job) job bases (baseCount job) es (base-numbers job passed es fill)
-
-  pub ruby-placed : (i : ℕ) → i < rubyCount job → RubyPlaced job es i (getD (byLine (rubyIn job) 0 es) i 0)
-  unfolding rubyIn rubyAt
-  ruby-placed = placed (λ p. p .ruby) (λ p. p .rubies) (rubyAlone job) job rubies (rubyCount job) es (ruby-numbers job passed es fill)
+  base-placed = placed (λ p. p .base) (λ p. p .bases) (λ p. alone job p .base) job bases (baseCount job) es (base-numbers job passed es fill)
 
   pub base-once : (i position : ℕ) → BasePlaced job es i position → position ≡ getD (byLine (baseIn job) 0 es) i 0
   unfolding baseIn baseAt
-  base-once = placed-once (λ p. p .base) (λ p. p .bases) (baseAlone job) job bases (baseCount job) es (base-numbers job passed es fill)
+  base-once = placed-once (λ p. p .base) (λ p. p .bases) (λ p. alone job p .base) job bases (baseCount job) es (base-numbers job passed es fill)
 
-  pub ruby-once : (i position : ℕ) → RubyPlaced job es i position → position ≡ getD (byLine (rubyIn job) 0 es) i 0
-  unfolding rubyIn rubyAt
-  ruby-once = placed-once (λ p. p .ruby) (λ p. p .rubies) (rubyAlone job) job rubies (rubyCount job) es (ruby-numbers job passed es fill)
-
-  -- the lists have a position for each character, and no more
+  -- the list has a position for each character, and no more
   pub base-long : length (byLine (baseIn job) 0 es) ≡ baseCount job
   unfolding baseIn baseAt
   base-long =
-      lines-long (λ p. p .base) (λ p. p .bases) (baseAlone job) job bases 0 es ∙ ap length (base-numbers job passed es fill) ∙ length-count 0 (baseCount job)
+      lines-long (λ p. p .base) (λ p. p .bases) (λ p. alone job p .base) job bases 0 es ∙ ap length (base-numbers job passed es fill) ∙ length-count 0 (baseCount job)
 
-  pub ruby-long : length (byLine (rubyIn job) 0 es) ≡ rubyCount job
-  unfolding rubyIn rubyAt
-  ruby-long =
-      lines-long (λ p. p .ruby) (λ p. p .rubies) (rubyAlone job) job rubies 0 es ∙ ap length (ruby-numbers job passed es fill) ∙ length-count 0 (rubyCount job)
+  module _ (side : Side) where
+    readings : (s e : ℕ) → All (λ p. length (onSide side (alone job p)) ≡ manyOf side p) (pieces job s e)
+    readings s e = all-readings side job (pieces job s e) (good-pieces job passed s e)
+
+    pub reading-placed : (i : ℕ) → i < countOf side job → ReadingPlaced side job es i (getD (byLine (readingIn side job) 0 es) i 0)
+    unfolding readingIn readingAt
+    reading-placed = placed (firstOf side) (manyOf side) (λ p. onSide side (alone job p)) job readings (countOf side job) es (reading-numbers job passed side es fill)
+
+    pub reading-once : (i position : ℕ) → ReadingPlaced side job es i position → position ≡ getD (byLine (readingIn side job) 0 es) i 0
+    unfolding readingIn readingAt
+    reading-once = placed-once (firstOf side) (manyOf side) (λ p. onSide side (alone job p)) job readings (countOf side job) es (reading-numbers job passed side es fill)
+
+    pub reading-long : length (byLine (readingIn side job) 0 es) ≡ countOf side job
+    unfolding readingIn readingAt
+    reading-long =
+        lines-long (firstOf side) (manyOf side) (λ p. onSide side (alone job p)) job readings 0 es ∙ ap length (reading-numbers job passed side es fill) ∙ length-count 0 (countOf side job)

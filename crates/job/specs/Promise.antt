@@ -1,17 +1,18 @@
 -- What the demands say of a job, in their own terms: no search and no loop. `Placed` speaks of the line's origins as the engine finds them (`origins`); `lines-stand`
 -- says that they stand as demand 3 has it, and there is only one such setting. `Demands` has the theorems.
 use mathlib.Core.Path.{_≡_}
-use mathlib.Core.Bool.{true}
+use mathlib.Core.Bool.{true, false}
 use mathlib.Core.List.{List, [], _∷_}
 use mathlib.Core.Logic.{_⊎_}
 use Prim.Native.Nat.{ℕ, _+_, _≤_, _<_}
 use lib.ListN.{length, getD}
 use Rattle.word.specs.declared.Form.the-variants.{P}
-use Rattle.word.specs.Alone.{places}
+use Rattle.word.specs.declared.Left.the-variants as left
 use Rattle.line.specs.Rules.{Clear, Least, org}
+use Rattle.line.specs.declared.Side.{Side}
 use Rattle.door.specs.declared.Piece.{Piece}
-use Rattle.door.specs.Job.{Job, baseCount, given}
-use Rattle.job.specs.Line.{lineOf, permitted, pieces, origins}
+use Rattle.door.specs.Job.{Job, baseCount}
+use Rattle.job.specs.Line.{lineOf, permitted, pieces, origins, firstOf, manyOf, onSide, alone}
 
 -- the line from s up to e "can be set": some setting of it keeps document 01's four rules
 abbrev pub CanSet : Job → ℕ → ℕ → Type 0
@@ -56,7 +57,7 @@ IsLine s (e ∷ es) a b = ((a ≡ s) × (b ≡ e)) ⊎ IsLine e es a b
 
 -- where there is no piece
 abbrev pub nobody : Piece
-nobody = record { form = P; base = 0; bases = 0; ruby = 0; rubies = 0; run = 0 }
+nobody = record { form = P; base = 0; bases = 0; ruby = 0; rubies = 0; run = 0; gloss = left.N; left = 0; lefts = 0; leftrun = 0; more = false }
 
 abbrev pub pieceOf : Job → ℕ → ℕ → ℕ → Piece
 pieceOf job s e k = getD (pieces job s e) k nobody
@@ -75,7 +76,8 @@ pub record Placed (first many : Piece → ℕ) (alone : Piece → List ℕ) (job
   pub stands : position ≡ org (origins job from upto) piece + getD (alone (pieceOf job from upto piece)) own 0
 
 abbrev pub BasePlaced : Job → List ℕ → ℕ → ℕ → Type 0
-BasePlaced job = Placed (λ p. p .base) (λ p. p .bases) (λ p. places (p .form) (given job p) .base) job
+BasePlaced job = Placed (λ p. p .base) (λ p. p .bases) (λ p. alone job p .base) job
 
-abbrev pub RubyPlaced : Job → List ℕ → ℕ → ℕ → Type 0
-RubyPlaced job = Placed (λ p. p .ruby) (λ p. p .rubies) (λ p. places (p .form) (given job p) .ruby) job
+-- of ruby characters, and of left ones
+abbrev pub ReadingPlaced : Side → Job → List ℕ → ℕ → ℕ → Type 0
+ReadingPlaced side job = Placed (firstOf side) (manyOf side) (λ p. onSide side (alone job p)) job

@@ -26,12 +26,12 @@ unfolding noBreak ends baseCount
 linesFaults job = each (lineFaults job) (keep (λ s. ltb s (baseCount job)) (0 ∷ ends job))
 
 -- "Order: 1, 2 and 12, ..; then base characters and then ruby characters in turn, ..; then elements in turn, ..; then leftover characters; then lines in
--- turn"; base, ruby and lines are the lengths of the result lists
-unfoldable pub faults : Job → ℕ → ℕ → ℕ → List Refusal
+-- turn"; base, ruby, left and lines are the lengths of the result lists
+unfoldable pub faults : Job → ℕ → ℕ → ℕ → ℕ → List Refusal
 unfolding ownFaults linesFaults
-faults job base ruby lines = ownFaults job base ruby lines ++ linesFaults job
+faults job base ruby left lines = ownFaults job base ruby left lines ++ linesFaults job
 
 -- the first of them, if there is any
-unfoldable pub fault : Job → ℕ → ℕ → ℕ → Option Refusal
+unfoldable pub fault : Job → ℕ → ℕ → ℕ → ℕ → Option Refusal
 unfolding faults
-fault job base ruby lines = head? (faults job base ruby lines)
+fault job base ruby left lines = head? (faults job base ruby left lines)

@@ -3,109 +3,95 @@
 use mathlib.Core.Path.{_≡_, refl, sym, ap, ap₂, _∙_, subst}
 use mathlib.Core.Bool.{Bool, true, false, cond, _&&_, _||_, true≢false}
 use mathlib.Core.List.{List, [], _∷_, _++_, map, map-append, append-nil, append-assoc}
+use mathlib.Core.Logic.{_⊎_, inl, inr}
 use Prim.Native.Nat.{ℕ, zero, suc, _+_, _-_, _*_, _≤_, _<_, min, max}
 use native.Mathlib.Numerals.{add-one}
 use native.Mathlib.Nat.{add-zero, sub-zero}
 use native.Mathlib.Omega.{arith}
-use borrow.Author.Tests.{lt-ltb, le-ltb, lt-leb, eq-eqb, ne-eqb}
+use borrow.Author.Tests.{lt-ltb, le-ltb, lt-leb, eq-eqb, ne-eqb, ltb-true, ltb-false}
 use lib.Dec.{eqb, leb, ltb}
 use lib.ListN.{length, getD, take, drop, take-append-drop, length-map}
 use lib.Seq.{drop-drop, take-add, take-all}
 use Rattle.basics.specs.Lists.{count, any, keep, each, All, lastOr}
 use Rattle.basics.specs.Laws.{none-any}
-use Rattle.word.specs.Given.{isJ}
+use Rattle.word.specs.Both.{apart}
 use Rattle.line.specs.declared.Element.{Element}
 use Rattle.line.specs.declared.State.{State}
 use Rattle.line.specs.Setting.{start, put, origin, settleFrom, settle, run}
+use Rattle.line.specs.declared.Side.{Side}
 use Rattle.line.specs.Setting as setting
 use Rattle.line.specs.Least.{run-append}
 use Rattle.line.specs.Extent.{run-grows}
 use Rattle.line.specs.Theorems.{prefix, extent-state}
 use Rattle.door.specs.declared.Piece.{Piece}
-use Rattle.door.specs.Job.{Job, baseCount, rubyCount, elementCount, takesRuns, element, elementsFrom, elements}
-use Rattle.door.specs.Passed.{Tiled, BaseTiled, RubyTiled, Passed}
-use Rattle.job.specs.Line.{part, inLine, pieces, seen, lineOf, origins, extentOf, canSet, endsIn, permitted, tries, furthest, along, baseAt, rubyAt, baseIn, rubyIn}
+use Rattle.door.specs.declared.Taken.{Taken}
+use Rattle.door.specs.Job.{Job, baseCount, elementCount, nothing, past, element, elementsFrom, elements}
+use Rattle.door.specs.Passed.{Tiled, BaseTiled, RubyTiled, LeftTiled}
+use Rattle.job.specs.Line.{part, cuts, inLine, pieces, seen, lineOf, origins, extentOf, canSet, endsIn, permitted, tries, furthest, along, baseAt, readingAt, baseIn, readingIn}
 use Rattle.job.specs.Laws.{any-append, count-join, keep-append, keep-keep, last-append}
-use Rattle.job.specs.Pieces.{in-whole, in-cut, IsElement, is-element, into, none-before, beyond}
+use Rattle.job.specs.Pieces.{in-whole, in-cut, IsElement, Single, IsWord, into, none-before, beyond}
+use Rattle.job.specs.Apart.{apart-is}
 
--- The walk stands before element k; those before it have taken b base characters, r ruby characters and u runs.
+-- The walk stands before element k; those before it have taken `at`.
 
-pub record At (job : Job) (k b r u : ℕ) : Type 0 where
-  pub rest : drop k (elements job) ≡ elementsFrom job (elementCount job - k) k b r u
-  pub base : BaseTiled 0 (take k (elements job)) b
-  pub ruby : RubyTiled 0 (take k (elements job)) r
+pub record At (job : Job) (k : ℕ) (at : Taken) : Type 0 where
+  pub rest : drop k (elements job) ≡ elementsFrom job (elementCount job - k) k at
+  pub base : BaseTiled 0 (take k (elements job)) (at .base)
+  pub ruby : RubyTiled 0 (take k (elements job)) (at .ruby)
+  pub left : LeftTiled 0 (take k (elements job)) (at .left)
 
-pub at-first : (job : Job) → At job 0 0 0 0
+pub at-first : (job : Job) → At job 0 nothing
 unfolding elements
-at-first job = record { rest = rw (sub-zero (elementCount job)); base = refl; ruby = refl }
+at-first job = record { rest = rw (sub-zero (elementCount job)); base = refl; ruby = refl; left = refl }
 
 -- its rest is the element and the rest after it
-at-cons : (job : Job) (k b r u : ℕ) → k < elementCount job → At job k b r u →
-    let x = element job k b r u in
-    drop k (elements job) ≡ x ∷ elementsFrom job (elementCount job - (k + 1)) (k + 1) (b + x .bases) (r + x .rubies) (u + takesRuns (x .form) (x .bases))
+at-cons : (job : Job) (k : ℕ) (at : Taken) → k < elementCount job → At job k at →
+    let x = element job k at in drop k (elements job) ≡ x ∷ elementsFrom job (elementCount job - (k + 1)) (k + 1) (past at x)
 unfolding elementsFrom
-at-cons job k b r u h a = a .rest ∙ go (elementCount job - k) (elementCount job - (k + 1)) (omega arith)
+at-cons job k at h a = a .rest ∙ go (elementCount job - k) (elementCount job - (k + 1)) (omega arith)
   where
     x : Piece
-    x = element job k b r u
+    x = element job k at
 
-    go : (m n : ℕ) → m ≡ suc n → elementsFrom job m k b r u ≡ x ∷ elementsFrom job n (k + 1) (b + x .bases) (r + x .rubies) (u + takesRuns (x .form) (x .bases))
+    go : (m n : ℕ) → m ≡ suc n → elementsFrom job m k at ≡ x ∷ elementsFrom job n (k + 1) (past at x)
     go m n e = rw (e, add-one)
 
 tiled-more : (first many : Piece → ℕ) (a b : ℕ) (xs : List Piece) (x : Piece) → first x ≡ b → Tiled first many a xs b → Tiled first many a (xs ++ (x ∷ [])) (b + many x)
 tiled-more first many a b [] x e t = (e ∙ sym t, ap (λ c. c + many x) t)
 tiled-more first many a b (y ∷ ys) x e t = (t .0, tiled-more first many (a + many y) b ys x e (t .1))
 
-pub at-next : (job : Job) (k b r u : ℕ) → k < elementCount job → At job k b r u →
-    let x = element job k b r u in At job (k + 1) (b + x .bases) (r + x .rubies) (u + takesRuns (x .form) (x .bases))
+pub at-next : (job : Job) (k : ℕ) (at : Taken) → k < elementCount job → At job k at → At job (k + 1) (past at (element job k at))
 unfolding element
-at-next job k b r u h a =
-    let x = element job k b r u in
-    let more : take (k + 1) (elements job) ≡ take k (elements job) ++ (x ∷ []) = take-add k 1 (elements job) ∙ ap (λ es. take k (elements job) ++ take 1 es) (at-cons job k b r u h a) in
+at-next job k at h a =
+    let x = element job k at in
+    let more : take (k + 1) (elements job) ≡ take k (elements job) ++ (x ∷ []) = take-add k 1 (elements job) ∙ ap (λ es. take k (elements job) ++ take 1 es) (at-cons job k at h a) in
     record {
-      rest = sym (drop-drop 1 k (elements job)) ∙ ap (λ es. drop 1 es) (at-cons job k b r u h a);
-      base = rw more (tiled-more (λ p. p .base) (λ p. p .bases) 0 b (take k (elements job)) x refl (a .base));
-      ruby = rw more (tiled-more (λ p. p .ruby) (λ p. p .rubies) 0 r (take k (elements job)) x refl (a .ruby));
+      rest = sym (drop-drop 1 k (elements job)) ∙ ap (λ es. drop 1 es) (at-cons job k at h a);
+      base = rw more (tiled-more (λ p. p .base) (λ p. p .bases) 0 (at .base) (take k (elements job)) x refl (a .base));
+      ruby = rw more (tiled-more (λ p. p .ruby) (λ p. p .rubies) 0 (at .ruby) (take k (elements job)) x refl (a .ruby));
+      left = rw more (tiled-more (λ p. p .left) (λ p. p .lefts) 0 (at .left) (take k (elements job)) x refl (a .left));
     }
 
--- so it is an element of the job
-pub at-element : (job : Job) → Passed job → (k b r u : ℕ) → k < elementCount job → At job k b r u → IsElement job (element job k b r u)
-at-element job p k b r u h a =
-    let x = element job k b r u in
-    is-element job p (take k (elements job)) _ x (sym (take-append-drop k (elements job)) ∙ ap (λ es. take k (elements job) ++ es) (at-cons job k b r u h a))
-
-length-from : (job : Job) (n k b r u : ℕ) → length (elementsFrom job n k b r u) ≡ n
+length-from : (job : Job) (n k : ℕ) (at : Taken) → length (elementsFrom job n k at) ≡ n
 unfolding elementsFrom
-length-from job zero k b r u = refl
-length-from job (suc n) k b r u = let x = element job k b r u in ap suc (length-from job n (suc k) (b + x .bases) (r + x .rubies) (u + takesRuns (x .form) (x .bases)))
+length-from job zero k at = refl
+length-from job (suc n) k at = ap suc (length-from job n (suc k) (past at (element job k at)))
 
 pub length-elements : (job : Job) → length (elements job) ≡ elementCount job
 unfolding elements
-length-elements job = length-from job (elementCount job) 0 0 0 0
+length-elements job = length-from job (elementCount job) 0 nothing
 
--- past the last element all characters are taken
-tiled-same : (first many : Piece → ℕ) (a b c : ℕ) (xs : List Piece) → Tiled first many a xs b → Tiled first many a xs c → b ≡ c
-tiled-same first many a b c [] t w = sym t ∙ w
-tiled-same first many a b c (x ∷ xs) t w = tiled-same first many (a + many x) b c xs (t .1) (w .1)
+-- One word more in the line.
 
-pub at-end : (job : Job) → Passed job → (k b r u : ℕ) → elementCount job ≤ k → At job k b r u → (b ≡ baseCount job) × (r ≡ rubyCount job)
-at-end job p k b r u h a =
-    let all : take k (elements job) ≡ elements job = take-all k (elements job) (omega (arith, length-elements job)) in (
-      tiled-same (λ p. p .base) (λ p. p .bases) 0 b (baseCount job) (elements job) (subst (λ es. BaseTiled 0 es b) all (a .base)) (p .tiled),
-      tiled-same (λ p. p .ruby) (λ p. p .rubies) 0 r (rubyCount job) (elements job) (subst (λ es. RubyTiled 0 es r) all (a .ruby)) (p .rubies),
-    )
-
--- One element more in the line.
-
-module _ (job : Job) (x : Piece) (at : IsElement job x) where
-  -- the whole element
+module _ (job : Job) (x : Piece) (at : IsWord job x) where
+  -- the whole word
   pub whole : (s : ℕ) → s ≤ x .base → pieces job s (x .base + x .bases) ≡ pieces job s (x .base) ++ (x ∷ [])
   whole s h =
       into job x at s (x .base + x .bases) (omega arith) (omega arith)
       ∙ ap (λ ps. pieces job s (x .base) ++ ps) (in-whole job s (x .base + x .bases) x (at .good .counts .some) h (omega arith))
 
-  module _ (jukugo : isJ (x .form) ≡ true) where
-    -- the first j base characters of a J
+  module _ (jukugo : cuts job x ≡ true) where
+    -- the first j base characters of a J that is cut
     pub cut : (s j : ℕ) → s ≤ x .base → 0 < j → j < x .bases → pieces job s (x .base + j) ≡ pieces job s (x .base) ++ (part job x 0 j ∷ [])
     cut s j h some less =
         into job x at s (x .base + j) (omega arith) (omega arith)
@@ -182,9 +168,10 @@ module _ (job : Job) (s d e : ℕ) (p : Piece) (more : pieces job s e ≡ pieces
   unfolding baseIn
   base-more = ap₂ (along (baseAt job)) more (origins-more job s d e p more) ∙ along-more (baseAt job) (pieces job s d) (origins job s d) p _ (length-origins job s d)
 
-  pub ruby-more : rubyIn job s e ≡ rubyIn job s d ++ rubyAt job p (origin (stateOf job s d) (seen job p))
-  unfolding rubyIn
-  ruby-more = ap₂ (along (rubyAt job)) more (origins-more job s d e p more) ∙ along-more (rubyAt job) (pieces job s d) (origins job s d) p _ (length-origins job s d)
+  pub reading-more : (side : Side) → readingIn side job s e ≡ readingIn side job s d ++ readingAt side job p (origin (stateOf job s d) (seen job p))
+  unfolding readingIn
+  reading-more side =
+      ap₂ (along (readingAt side job)) more (origins-more job s d e p more) ∙ along-more (readingAt side job) (pieces job s d) (origins job s d) p _ (length-origins job s d)
 
 -- a line that has not begun
 module _ (job : Job) (s e : ℕ) (none : pieces job s e ≡ []) where
@@ -196,15 +183,15 @@ module _ (job : Job) (s e : ℕ) (none : pieces job s e ≡ []) where
   unfolding baseIn
   base-none = ap (λ ps. along (baseAt job) ps (origins job s e)) none
 
-  pub ruby-none : rubyIn job s e ≡ []
-  unfolding rubyIn
-  ruby-none = ap (λ ps. along (rubyAt job) ps (origins job s e)) none
+  pub reading-none : (side : Side) → readingIn side job s e ≡ []
+  unfolding readingIn
+  reading-none side = ap (λ ps. along (readingAt side job) ps (origins job s e)) none
 
 -- Where a line may end.
 
 -- an element that ends before e, or begins at or after it, has no break there
 ends-behind : (job : Job) (e : ℕ) (x : Piece) → x .base + x .bases < e → endsIn job e x ≡ false
-ends-behind job e x h = rw (ne-eqb e (x .base + x .bases) (λ z. omega arith), le-ltb e (x .base + x .bases) (omega arith)) (go (isJ (x .form)) (ltb (x .base) e))
+ends-behind job e x h = rw (ne-eqb e (x .base + x .bases) (λ z. omega arith), le-ltb e (x .base + x .bases) (omega arith)) (go (cuts job x) (ltb (x .base) e))
   where
     go : (a b : Bool) → (a && (b && false)) ≡ false
     go true true = refl
@@ -212,7 +199,7 @@ ends-behind job e x h = rw (ne-eqb e (x .base + x .bases) (λ z. omega arith), l
     go false b = refl
 
 ends-ahead : (job : Job) (e : ℕ) (x : Piece) → 0 < x .bases → e ≤ x .base → endsIn job e x ≡ false
-ends-ahead job e x some h = rw (ne-eqb e (x .base + x .bases) (λ z. omega arith), le-ltb (x .base) e h) (go (isJ (x .form)))
+ends-ahead job e x some h = rw (ne-eqb e (x .base + x .bases) (λ z. omega arith), le-ltb (x .base) e h) (go (cuts job x))
   where
     go : (a : Bool) → (a && false) ≡ false
     go true = refl
@@ -224,8 +211,8 @@ module _ (job : Job) (x : Piece) (at : IsElement job x) where
   unfolding permitted
   permitted-in e l h =
       ap (λ t. eqb e (baseCount job) || t)
-      (ap (any (endsIn job e)) (at .split) ∙ any-append (endsIn job e) (at .front) (x ∷ at .rest)
-      ∙ rw (none-any (endsIn job e) (at .front) (fronts (at .front) (at .behind)), none-any (endsIn job e) (at .rest) (rests (at .rest) (at .ahead) (at .some))) (last (endsIn job e x)))
+      (ap (any (endsIn job e)) (at .place .split) ∙ any-append (endsIn job e) (at .place .front) (x ∷ at .place .rest)
+      ∙ rw (none-any (endsIn job e) (at .place .front) (fronts (at .place .front) (at .place .behind)), none-any (endsIn job e) (at .place .rest) (rests (at .place .rest) (at .place .ahead) (at .place .some))) (last (endsIn job e x)))
     where
       fronts : (xs : List Piece) → All (λ y. y .base + y .bases ≤ x .base) xs → All (λ y. endsIn job e y ≡ false) xs
       fronts [] a = tt
@@ -240,11 +227,11 @@ module _ (job : Job) (x : Piece) (at : IsElement job x) where
       last false = refl
 
   -- at its end: where the flag is 1, or at the job's end
-  pub permitted-end : permitted job (x .base + x .bases) ≡ (eqb (x .base + x .bases) (baseCount job) || eqb (getD (job .flag) (x .base + x .bases - 1) 0) 1)
-  permitted-end =
+  element-end : permitted job (x .base + x .bases) ≡ (eqb (x .base + x .bases) (baseCount job) || eqb (getD (job .flag) (x .base + x .bases - 1) 0) 1)
+  element-end =
       permitted-in (x .base + x .bases) (omega (arith, at .good .counts .some)) (omega arith)
       ∙ rw (eq-eqb (x .base + x .bases) (x .base + x .bases) refl, le-ltb (x .base + x .bases) (x .base + x .bases) (omega arith))
-      (ap (λ t. eqb (x .base + x .bases) (baseCount job) || t) (go (eqb (getD (job .flag) (x .base + x .bases - 1) 0) 1) (isJ (x .form)) (ltb (x .base) (x .base + x .bases))))
+      (ap (λ t. eqb (x .base + x .bases) (baseCount job) || t) (go (eqb (getD (job .flag) (x .base + x .bases - 1) 0) 1) (cuts job x) (ltb (x .base) (x .base + x .bases))))
     where
       go : (f a b : Bool) → (f || (a && (b && false))) ≡ f
       go true a b = refl
@@ -252,16 +239,66 @@ module _ (job : Job) (x : Piece) (at : IsElement job x) where
       go false true false = refl
       go false false b = refl
 
-  -- within it: where it is a J
-  pub permitted-within : (e : ℕ) → x .base < e → e < x .base + x .bases → permitted job e ≡ isJ (x .form)
-  permitted-within e l h =
+  -- within it: where it is cut
+  pub element-within : (e : ℕ) → x .base < e → e < x .base + x .bases → permitted job e ≡ cuts job x
+  element-within e l h =
       permitted-in e l (omega arith)
       ∙ rw (ne-eqb e (baseCount job) (λ z. omega (arith, at .good .inside)), ne-eqb e (x .base + x .bases) (λ z. omega arith), lt-ltb (x .base) e l, lt-ltb e (x .base + x .bases) h)
-      (go (isJ (x .form)))
+      (go (cuts job x))
     where
       go : (a : Bool) → (a && true) ≡ a
       go true = refl
       go false = refl
+
+-- a J with a mono left reading is cut
+pub apart-cuts : (job : Job) (y : Piece) → apart (y .form) (y .gloss) ≡ true → cuts job y ≡ true
+unfolding cuts
+apart-cuts job y e = let q = apart-is (y .form) (y .gloss) e in rw (q .0, q .1)
+
+part-one : (job : Job) (y : Piece) (i : ℕ) → part job y i 1 .bases ≡ 1
+unfolding part
+part-one job y i = refl
+
+-- at the end of each of its characters a line may end, at the last one's by the flag
+single-end : (job : Job) (y : Piece) → IsElement job y → apart (y .form) (y .gloss) ≡ true → (i : ℕ) → i < y .bases → let x = part job y i 1 in
+    permitted job (x .base + x .bases) ≡ (eqb (x .base + x .bases) (baseCount job) || (x .more || eqb (getD (job .flag) (x .base + x .bases - 1) 0) 1))
+unfolding part
+single-end job y at separate i h = rw separate (go (ltb (i + 1) (y .bases)) refl)
+  where
+    or-true : (a : Bool) → (a || true) ≡ true
+    or-true true = refl
+    or-true false = refl
+
+    last : (b i n : ℕ) → n ≤ i + 1 → i < n → b + i + 1 ≡ b + n
+    last b i n h l = omega arith
+
+    go : (t : Bool) → ltb (i + 1) (y .bases) ≡ t →
+        permitted job (y .base + i + 1) ≡ (eqb (y .base + i + 1) (baseCount job) || (t || eqb (getD (job .flag) (y .base + i + 1 - 1) 0) 1))
+    go true e = element-within job y at (y .base + i + 1) (omega arith) (omega (arith, ltb-true (i + 1) (y .bases) e)) ∙ apart-cuts job y separate ∙ sym (or-true (eqb (y .base + i + 1) (baseCount job)))
+    go false e = rw (last (y .base) i (y .bases) (ltb-false (i + 1) (y .bases) e) h) (element-end job y at)
+
+-- Of a word: at its end a line may end where its element goes on behind it, where the flag is 1, or at the job's end; and within it where it is cut.
+module _ (job : Job) (x : Piece) (at : IsWord job x) where
+  pub permitted-end : permitted job (x .base + x .bases) ≡ (eqb (x .base + x .bases) (baseCount job) || (x .more || eqb (getD (job .flag) (x .base + x .bases - 1) 0) 1))
+  permitted-end = go (at .of .word)
+    where
+      y : Piece
+      y = at .of .element
+
+      Claim : Piece → Type 0
+      Claim p = permitted job (p .base + p .bases) ≡ (eqb (p .base + p .bases) (baseCount job) || (p .more || eqb (getD (job .flag) (p .base + p .bases - 1) 0) 1))
+
+      go : (x ≡ y) ⊎ Single job y x → Claim x
+      go (inl e) = subst Claim (sym e) (element-end job y (at .of .good)
+          ∙ ap (λ (t : Bool). eqb (y .base + y .bases) (baseCount job) || (t || eqb (getD (job .flag) (y .base + y .bases - 1) 0) 1)) (sym (at .of .good .last)))
+      go (inr s) = subst Claim (sym (s .is)) (single-end job y (at .of .good) (s .separate) (s .at) (s .there))
+
+  pub permitted-within : (e : ℕ) → x .base < e → e < x .base + x .bases → permitted job e ≡ cuts job x
+  permitted-within e l h = go (at .of .word)
+    where
+      go : (x ≡ at .of .element) ⊎ Single job (at .of .element) x → permitted job e ≡ cuts job x
+      go (inl q) = element-within job (at .of .element) (at .of .good) e (omega (arith, ap (λ (p : Piece). p .base) q)) (omega (arith, ap (λ (p : Piece). p .base) q, ap (λ (p : Piece). p .bases) q)) ∙ ap (cuts job) (sym q)
+      go (inr s) = absurd (omega (arith, ap (λ (p : Piece). p .bases) (s .is), part-one job (at .of .element) (s .at)))
 
 -- The search for the furthest break, try by try.
 
@@ -320,9 +357,9 @@ and-no : (a b : Bool) → b ≡ false → (a && b) ≡ false
 and-no true b e = e
 and-no false b e = refl
 
-module _ (job : Job) (x : Piece) (at : IsElement job x) where
-  -- an element that is no J has one try, at its end
-  pub best-over : (s : ℕ) → isJ (x .form) ≡ false → s ≤ x .base →
+module _ (job : Job) (x : Piece) (at : IsWord job x) where
+  -- a word that is not cut has one try, at its end
+  pub best-over : (s : ℕ) → cuts job x ≡ false → s ≤ x .base →
       best job s (x .base + x .bases) ≡ cond (permitted job (x .base + x .bases) && canSet job s (x .base + x .bases)) (x .base + x .bases) (best job s (x .base))
   best-over s j h = go (x .bases - 1) (omega (arith, at .good .counts .some))
     where

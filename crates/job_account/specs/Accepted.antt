@@ -13,12 +13,12 @@ use Rattle.account.specs.Claims.{Tight}
 use Rattle.account.specs.Theorems.{Accounted}
 use Rattle.job_account.specs.Theorems.{reasonIn, accounted, tight}
 
-module _ (job : Job) (base ruby lines : List ℕ) {n : ℕ} (set : outcome job base ruby lines .answer ≡ Set n) where
-  accepted : Accepted job base ruby lines
-  accepted = set-accepted job base ruby lines n set
+module _ (job : Job) (base ruby left lines : List ℕ) {n : ℕ} (set : outcome job base ruby left lines .answer ≡ Set n) where
+  accepted : Accepted job base ruby left lines
+  accepted = set-accepted job base ruby left lines n set
 
   door : Passed job
-  door = passed job (length base) (length ruby) (length lines) (filled-exactly job base ruby lines .0 accepted .0)
+  door = passed job (length base) (length ruby) (length left) (length lines) (filled-exactly job base ruby left lines .0 accepted .0)
 
   -- Why each gap of each line is as wide as it is: every piece has a reason, whose own numbers make the gap, and the rule that it names would be broken one half unit nearer
   -- the line's start.

@@ -8,7 +8,6 @@ use lib.ListN.{length, take, drop, length-take, length-append}
 use lib.Seq.{sets}
 use Rattle.refusal.specs.declared.Refusal.{Refusal}
 use Rattle.door.specs.Job.{Job, baseCount}
-use Rattle.door.specs.Verdict.{verdict}
 use Rattle.job.specs.declared.Answer.{Answer}
 use Rattle.job.specs.declared.Answer.the-variants.{Set, Refused}
 use Rattle.job.specs.Line.{ends}
@@ -46,7 +45,7 @@ tellingBy job rows told wide none =
 -- "a result list too short" is number 12 here too, in its turn; positions are not asked for, so those lists are as long as can be
 unfoldable pub telling : Job → List ℕ → List ℕ → List ℕ → Telling
 unfolding tellingBy fault
-telling job rows told wide = tellingBy job rows told wide (fault job 1024 2048 (room rows told wide))
+telling job rows told wide = tellingBy job rows told wide (fault job 1024 2048 2048 (room rows told wide))
 
 -- lines of the job are lines of its table
 chained : (job : Job) (s : ℕ) (es : List ℕ) (d : ℕ) → Chain job s es d → Chained (baseCount job) s es
@@ -59,12 +58,12 @@ take-front (x ∷ xs) ys = ap (λ (l : List ℕ). x ∷ l) (take-front xs ys)
 
 module _ (job : Job) (rows told wide : List ℕ) (m : ℕ) (is : m ≡ room rows told wide) where
   -- the first refusal of all
-  pub refused : {q : Refusal} → fault job 1024 2048 m ≡ some q → _≡_ {A = Telling} (record { answer = Refused q; rows = rows; told = told; extents = wide }) (telling job rows told wide)
+  pub refused : {q : Refusal} → fault job 1024 2048 2048 m ≡ some q → _≡_ {A = Telling} (record { answer = Refused q; rows = rows; told = told; extents = wide }) (telling job rows told wide)
   unfolding telling tellingBy
   refused e = rw (← is, e)
 
   -- a table that holds the job, and its n lines
-  module _ (wasFar t found far : List ℕ) (n : ℕ) (full : Full job 1024 2048 m wasFar t found far n) where
+  module _ (wasFar t found far : List ℕ) (n : ℕ) (full : Full job 1024 2048 2048 m wasFar t found far n) where
     all : Filled job (ends job)
     all = filled job (full .passed) (full .none)
 
@@ -74,7 +73,7 @@ module _ (job : Job) (rows told wide : List ℕ) (m : ℕ) (is : m ≡ room rows
     -- the lists have room
     long : (6 * baseCount job ≤ length rows) × (baseCount job ≤ length told) × (baseCount job ≤ length wide)
     long =
-        let k = fault.long job 1024 2048 m (ap verdict (full .own)) .1 in
+        let k = fault.long job 1024 2048 2048 m (full .own) .1 in
         many (length rows) (length told) (length wide) (omega (arith, is, k))
       where
         many : (a b c : ℕ) → baseCount job ≤ min (a / 6) (min b c) → (6 * baseCount job ≤ a) × (baseCount job ≤ b) × (baseCount job ≤ c)
@@ -125,7 +124,7 @@ module _ (job : Job) (rows told wide : List ℕ) (m : ℕ) (is : m ≡ room rows
             extents = extent ∙ ap (sets wide 0) (front ∙ join.extents-join job (full .passed) t (full .holds) 0 (ends job) (baseCount job) all);
           }
 
-      no-fault : fault job 1024 2048 m ≡ none
+      no-fault : fault job 1024 2048 2048 m ≡ none
       unfolding fault faults
       no-fault = rw (full .own, full .none)
 

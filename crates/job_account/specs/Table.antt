@@ -1,9 +1,10 @@
 -- The account of a job's lines by the rows of its table: piece by piece its place in the line, and why it stands there (specs/Join.antt: it is that of the job's lines).
 use mathlib.Core.Path.{_≡_}
-use mathlib.Core.Bool.{cond, _&&_}
+use mathlib.Core.Bool.{cond}
 use mathlib.Core.List.{List, [], _∷_, _++_}
 use Prim.Native.Nat.{ℕ, zero, suc, _+_, _-_}
 use lib.Dec.{leb, ltb}
+use lib.ListN.{length, getD}
 use Rattle.line.specs.declared.Element.{Element}
 use Rattle.line.specs.declared.State.{State}
 use Rattle.line.specs.Rules.{blockOf}
@@ -28,17 +29,22 @@ pub same : {a a′ : Account} {x x′ : ℕ} {st st′ : State} {b b′ : Before
     _≡_ {A = Told} (record { account = a; start = x; st = st; before = b }) (record { account = a′; start = x′; st = st′; before = b′ })
 same p q r s = cc
 
--- the row of each of at most n pieces from i on up to e, the first of them number j of its line, whose first element has the index k
-unfoldable pub rowsFrom : ℕ → List ℕ → ℕ → ℕ → ℕ → State → Before → ℕ → ℕ → List ℕ
-unfolding wordAt reasonAfter
-rowsFrom em t k zero j st b i e = []
-rowsFrom em t k (suc n) j st b i e =
-    let r = toldAt em t i (stop t i e) st j b in
-    cond (ltb i e) (row k (k + j) (r .start) (r .account) ++ rowsFrom em t k n (j + 1) (r .st) (r .before) (i + cellAt t i .bases) e) []
+-- How many elements end with the piece whose row is i, in a line up to e: none where the element goes on behind it, and a J that e cuts goes on in the next line.
+abbrev pub ended : List ℕ → ℕ → ℕ → ℕ
+ended t i e = cond (cellAt t i .more) 0 (cond (leb (i + cellAt t i .bases) e) 1 0)
 
--- the rows of the line from s up to e
+-- the row of each of at most n pieces from i on up to e, the first of them of element k; ks has the elements' indexes of the pieces before it in its line
+unfoldable pub rowsFrom : ℕ → List ℕ → List ℕ → ℕ → ℕ → State → Before → ℕ → ℕ → List ℕ
+unfolding wordAt reasonAfter
+rowsFrom em t ks k zero st b i e = []
+rowsFrom em t ks k (suc n) st b i e =
+    let r = toldAt em t i (stop t i e) st (length ks) b in
+    cond (ltb i e)
+    (row (λ j. getD ks j 0) k (r .start) (r .account) ++ rowsFrom em t (ks ++ (k ∷ [])) (k + ended t i e) n (r .st) (r .before) (i + cellAt t i .bases) e) []
+
+-- the rows of the line from s up to e, whose first element has the index k
 abbrev pub lineRows : ℕ → List ℕ → ℕ → ℕ → ℕ → List ℕ
-lineRows em t k s e = rowsFrom em t k (e - s) 0 start nothing s e
+lineRows em t k s e = rowsFrom em t [] k (e - s) start nothing s e
 
 -- how many pieces there are from i on up to e, at most n,
 unfoldable pub piecesFrom : List ℕ → ℕ → ℕ → ℕ → ℕ
@@ -48,10 +54,10 @@ piecesFrom t (suc n) i e = cond (ltb i e) (suc (piecesFrom t n (i + cellAt t i .
 abbrev pub piecesIn : List ℕ → ℕ → ℕ → ℕ
 piecesIn t s e = piecesFrom t (e - s) s e
 
--- and how many elements end among them: a J that e cuts goes on in the next line
+-- and how many elements end among them
 unfoldable pub endedFrom : List ℕ → ℕ → ℕ → ℕ → ℕ
 endedFrom t zero i e = 0
-endedFrom t (suc n) i e = let c = i + cellAt t i .bases in cond (ltb i e && leb c e) (suc (endedFrom t n c e)) 0
+endedFrom t (suc n) i e = cond (ltb i e) (ended t i e + endedFrom t n (i + cellAt t i .bases) e) 0
 
 abbrev pub endedIn : List ℕ → ℕ → ℕ → ℕ
 endedIn t s e = endedFrom t (e - s) s e

@@ -4,7 +4,7 @@ use mathlib.Core.List.{List, [], _∷_, _++_, map, map-append}
 use Prim.Native.Nat.{ℕ, zero, suc, _+_, _≤_, _<_}
 use native.Mathlib.Numerals.{add-one}
 use native.Mathlib.Omega.{arith}
-use lib.ListN.{length, length-map, length-append}
+use lib.ListN.{length, getD, length-map, length-append, List·getD-append}
 use Rattle.line.specs.declared.Element.{Element}
 use Rattle.line.specs.Rules.{blockOf, blockAt, Apart, Sounds}
 use Rattle.line.specs.Setting.{origin}
@@ -13,14 +13,17 @@ use Rattle.door.specs.Job.{Job}
 use Rattle.door.specs.Passed.{Passed}
 use Rattle.job.specs.Line.{pieces, seen, lineOf, origins}
 use Rattle.job.specs.Walk.{stateOf, origins-more, length-origins}
+use Rattle.job.specs.Promise.{nobody}
+use Rattle.job.specs.Stretches.{length-line}
 use Rattle.job.specs.Sound.{sounds}
 use Rattle.account.specs.declared.Before.{Before}
 use Rattle.account.specs.Reasons.{accountOf}
 use Rattle.account.specs.Step.{accountAfter, passed, nothing, standing}
+use Rattle.account.specs.Theorems.{earlier}
 use Rattle.account.specs.More as more
 use Rattle.job_account.specs.Theorems.{accountIn, apart}
 use Rattle.job_account.specs.First.{firstIn}
-use Rattle.job_account.specs.Rows.{row, startIn, rowIn, rowsUpto, rowsIn}
+use Rattle.job_account.specs.Rows.{row, row-by, startIn, indexIn, rowIn, rowsUpto, rowsIn}
 
 -- how many pieces the line from s up to e has, and what stands behind the last of them
 abbrev pub countIn : Job → ℕ → ℕ → ℕ
@@ -89,12 +92,29 @@ module _ (job : Job) (door : Passed job) (s b c : ℕ) (p : Piece) (one : pieces
       sym (more.standing-new es xs el at each) ∙ ap₂ (λ ls os. standing ls os (suc n)) (sym line-is) (sym origins-is)
       ∙ ap (standing (lineOf job s c) (origins job s c)) (sym (one-more ∙ add-one n))
 
+  -- the index of each piece so far is as it was, and that of the new one is its own
+  many : length es ≡ length (pieces job s b)
+  many = length-line job s b
+
+  pub index-old : (m : ℕ) → m < length es → indexIn job s c m ≡ indexIn job s b m
+  index-old m h =
+      ap (λ ps. firstIn job (getD ps m nobody .base)) one ∙ ap (λ (q : Piece). firstIn job (q .base)) (List·getD-append (pieces job s b) (p ∷ []) nobody m (omega (arith, many)))
+
+  pub index-new : indexIn job s c n ≡ firstIn job (p .base)
+  index-new = ap₂ (λ ps (m : ℕ). firstIn job (getD ps m nobody .base)) one many ∙ ap (λ (q : Piece). firstIn job (q .base)) (last (pieces job s b))
+    where
+      last : (ps : List Piece) → getD (ps ++ (p ∷ [])) (length ps) nobody ≡ p
+      last [] = refl
+      last (q ∷ ps) = last ps
+
   old : (m : ℕ) → m < length es → rowIn job s c m ≡ rowIn job s b m
   old m h =
-      ap₂ (λ ls os. row (firstIn job s) (firstIn job s + m) (blockAt ls os m .start) (accountOf ls os m)) line-is origins-is
-      ∙ ap₂ (λ y a. row (firstIn job s) (firstIn job s + m) y a)
+      ap₂ (λ ls os. row (indexIn job s c) (indexIn job s c m) (blockAt ls os m .start) (accountOf ls os m)) line-is origins-is
+      ∙ ap₂ (λ y a. row (indexIn job s c) (indexIn job s c m) y a)
       (ap₂ (λ p o. blockOf p o .start) (more.el-old es xs el at each m h) (more.org-old es xs el at each m h))
       (more.account-old es xs el at each m h)
+      ∙ row-by (indexIn job s c) (indexIn job s b) m (indexIn job s c m) (startIn job s b m) (accountIn job s b m) (earlier es xs m) (λ j l. index-old j (omega arith))
+      ∙ ap (λ k. row (indexIn job s b) k (startIn job s b m) (accountIn job s b m)) (index-old m h)
 
   rows-old : (m : ℕ) → m ≤ length es → rowsUpto job s c m ≡ rowsUpto job s b m
   rows-old zero h = refl

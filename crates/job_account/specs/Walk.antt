@@ -17,7 +17,7 @@ use Rattle.account.specs.declared.Before.{Before}
 use Rattle.account.specs.Step.{nothing}
 use Rattle.job_account.specs.declared.Place.{Place}
 use Rattle.job_account.specs.Rows.{row}
-use Rattle.job_account.specs.Table.{toldAt, rowsFrom, lineRows, piecesFrom, piecesIn, first, behind, rowsBy, countsBy}
+use Rattle.job_account.specs.Table.{toldAt, ended, rowsFrom, lineRows, piecesFrom, piecesIn, first, behind, rowsBy, countsBy}
 use Rattle.job_account.specs.Line.{LineReady, pieces-few, ended-few}
 
 -- lines from s on, one after the other in m rows
@@ -36,13 +36,13 @@ pub record LinesReady (em : ℕ) (t : List ℕ) (n : ℕ) (ends rows told : List
   pub roomTold : n ≤ length told
 
 -- six numbers for each piece
-rows-long : (em : ℕ) (t : List ℕ) (k n j : ℕ) (st : State) (b : Before) (i e : ℕ) → length (rowsFrom em t k n j st b i e) ≡ 6 * piecesFrom t n i e
+rows-long : (em : ℕ) (t ks : List ℕ) (k n : ℕ) (st : State) (b : Before) (i e : ℕ) → length (rowsFrom em t ks k n st b i e) ≡ 6 * piecesFrom t n i e
 unfolding rowsFrom piecesFrom
-rows-long em t k zero j st b i e = refl
-rows-long em t k (suc n) j st b i e =
-    let r = toldAt em t i (stop t i e) st j b in
-    go (ltb i e) (row k (k + j) (r .start) (r .account)) (rowsFrom em t k n (j + 1) (r .st) (r .before) (i + cellAt t i .bases) e) (piecesFrom t n (i + cellAt t i .bases) e) refl
-    (rows-long em t k n (j + 1) (r .st) (r .before) (i + cellAt t i .bases) e)
+rows-long em t ks k zero st b i e = refl
+rows-long em t ks k (suc n) st b i e =
+    let r = toldAt em t i (stop t i e) st (length ks) b in
+    go (ltb i e) (row (λ j. getD ks j 0) k (r .start) (r .account)) (rowsFrom em t (ks ++ (k ∷ [])) (k + ended t i e) n (r .st) (r .before) (i + cellAt t i .bases) e)
+    (piecesFrom t n (i + cellAt t i .bases) e) refl (rows-long em t (ks ++ (k ∷ [])) (k + ended t i e) n (r .st) (r .before) (i + cellAt t i .bases) e)
   where
     go : (p : Bool) (xs ys : List ℕ) (z : ℕ) → length xs ≡ 6 → length ys ≡ 6 * z → length (cond p (xs ++ ys) []) ≡ 6 * cond p (suc z) 0
     go true xs ys z h l = omega (arith, length-append xs ys)
@@ -129,7 +129,7 @@ module _ {em : ℕ} {t : List ℕ} {n : ℕ} {ends was wasTold : List ℕ} {at :
           })
         where
           six : 6 * (at .q + piecesIn t s e) ≡ 6 * at .q + length (lineRows em t (at .k) s e)
-          six = omega (arith, rows-long em t (at .k) (e - s) 0 start nothing s e)
+          six = omega (arith, rows-long em t [] (at .k) (e - s) start nothing s e)
 
   -- after the last line all is told
   pub going-end : n ≤ l → (rows ≡ sets was 0 (rowsBy em t first 0 es)) × (told ≡ sets wasTold 0 (countsBy t first 0 es))

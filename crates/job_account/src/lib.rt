@@ -2,13 +2,15 @@
 // a line's pieces as the filling and the writing do, and asks `account` for what holds each where it stands. It relies on `engine` for the table of a job without faults and for
 // its lines' ends and extents, on `cells` for pieces and places, and on `job` for what all this means.
 ghost use mathlib.Core.Path.{_≡_};
-ghost use Prim.Native.Nat.{_+_, _*_, _/_, _^_, _≤_, _<_, min};
+ghost use Prim.Native.Nat.{_+_, _*_, _/_, _≤_, _<_, min};
+ghost use mathlib.Core.Bool.{cond};
+ghost use lib.Dec.{leb};
 ghost use lib.ListN.{length, take};
 ghost use lib.Seq.{sets};
 ghost use Rattle.door.specs.Job.{jobOf};
 ghost use Rattle.cells.specs.Cells.{Advances};
-ghost use Rattle.account.specs.Claims.{other};
-ghost use Rattle.job_account.specs.Rows.{otherFrom, row};
+ghost use Rattle.account.specs.Claims.{Earlier};
+ghost use Rattle.job_account.specs.Rows.{indexAt, otherBy, row, RowReady};
 ghost use Rattle.job_account.specs.Table.{toldAt, lineRows, behind, first, rowsBy, countsBy};
 ghost use Rattle.job_account.specs.Line.{LineReady};
 ghost use Rattle.job_account.specs.Walk.{LinesReady};
@@ -52,33 +54,44 @@ pub fn tell_piece(
     }
 }
 
-// The other element's index in the job, where the line's first element has the index `first`; 0 where there is none.
-fn other_index(first: u32, r: account::Reason) -> u32
-    requires { ⌜ first + other r < 2 ^ 32 ⌝ }
-    ensures { λ n. ⌜ n ≡ otherFrom first r ⌝ }
+// The element's index in row `first` + j of a list of rows.
+fn index_at(first: usize, j: u32, rows: &[u32]) -> u32
+    requires { ⌜ (first ≤ 1024) × (j ≤ 1024) × (6 * (first + j) < length (now rows)) ⌝ }
+    ensures { λ n. ⌜ n ≡ indexAt (now (rows .entry)) first j ⌝ }
+{
+    rows[6 * (first + j as usize)]
+}
+
+// The other element's index in the job, 0 where there is none, for piece j of a line whose rows begin at row `first` of the list: the row of each earlier piece has its own.
+fn other_index(first: usize, j: u32, r: account::Reason, rows: &[u32]) -> u32
+    requires { ⌜ (first ≤ 1024) × (j ≤ 1024) × (6 * (first + j) ≤ length (now rows)) × Earlier j r ⌝ }
+    ensures { λ n. ⌜ n ≡ otherBy (indexAt (now (rows .entry)) first) r ⌝ }
 {
     match r {
         account::Reason::Start => 0,
-        account::Reason::Block(j) => first + j,
-        account::Reason::Under(j, _) => first + j,
-        account::Reason::Over(j, _) => first + j,
-        account::Reason::Ruby(j) => first + j,
-        account::Reason::Edge => 0,
+        account::Reason::Block(k) => index_at(first, k, rows),
+        account::Reason::Under(_, k, _) => index_at(first, k, rows),
+        account::Reason::Over(_, k, _) => index_at(first, k, rows),
+        account::Reason::Ruby(_, k) => index_at(first, k, rows),
+        account::Reason::Edge(_) => 0,
         account::Reason::Free => 0,
     }
 }
 
-// The account of element k as a row of six numbers: its index, its block's start, the gap, the reason's place in the rules' order, the other element and the depth.
-fn put_row(a: account::Account, first: u32, k: u32, start: u64, q: usize, out: &mut [u32])
-    requires { ⌜ (a .gap < 2 ^ 32) × (start < 2 ^ 32) × (first + other (a .reason) < 2 ^ 32) × (q + 6 ≤ length (now out)) ⌝ }
-    ensures { λ _. ⌜ now (out .exit) ≡ sets (now (out .entry)) q (row first k start a) ⌝ }
+// The account of piece j of a line, of element k, as a row of six numbers: the element's index, its block's start, the gap, the reason's number, the other element and the depth.
+// The line's rows begin at row `first` of the list.
+fn put_row(a: account::Account, first: usize, j: u32, k: u32, start: u64, out: &mut [u32])
+    requires { ⌜ RowReady a first j start (now out) ⌝ }
+    ensures { λ _. let was = now (out .entry) in ⌜ now (out .exit) ≡ sets was (6 * (first + j)) (row (indexAt was first) k start a) ⌝ }
 {
     let r = a.reason;
+    let other = other_index(first, j, r, out);
+    let q = 6 * (first + j as usize);
     out[q] = k;
     out[q + 1] = start as u32;
     out[q + 2] = a.gap as u32;
     out[q + 3] = account::number_of(r);
-    out[q + 4] = other_index(first, r);
+    out[q + 4] = other;
     out[q + 5] = account::depth_of(r);
 }
 
@@ -88,8 +101,19 @@ pub struct Place {
     pub q: usize,
 }
 
-// The accounts of the line from s up to e, a row for each piece from row `from.q` of the list on; the answer is where the walk stands behind it. A J that e cuts goes on with
-// its index in the next line.
+// The index of the element behind a piece of element k, whose word ends at row `end`: with `more` the element goes on behind that word, and a J that the line's end e cuts
+// goes on in the next line.
+fn next_index(k: u32, more: bool, end: usize, e: usize) -> u32
+    requires { ⌜ k ≤ 1024 ⌝ }
+    ensures { λ n. ⌜ n ≡ k + cond more 0 (cond (leb end e) 1 0) ⌝ }
+{
+    if more {
+        return k;
+    }
+    if end <= e { k + 1 } else { k }
+}
+
+// The accounts of the line from s up to e, a row for each piece from row `from.q` of the list on; the answer is where the walk stands behind it.
 pub fn tell_line(t: &[u32], s: usize, e: usize, em: u32, from: Place, out: &mut [u32]) -> Place
     requires { ⌜ LineReady em (now t) s e from (now out) ⌝ }
     ensures { λ r. let u = now (t .entry) in ⌜ (r ≡ behind u s e from) × (now (out .exit) ≡ sets (now (out .entry)) (6 * from .q) (lineRows em u (from .k) s e)) ⌝ }
@@ -98,25 +122,22 @@ pub fn tell_line(t: &[u32], s: usize, e: usize, em: u32, from: Place, out: &mut 
     let mut st = line::START;
     let mut b = account::START;
     let mut j: u32 = 0;
+    let mut k = from.k;
     while i < e {
         let a = cells::cell_at(t, i);
         let end = i + a.bases as usize;
         let told = tell_piece(t, i, door::fewer(e, end), em, st, j, b);
-        let q = from.q + j as usize;
-        put_row(told.account, from.k, from.k + j, told.start, 6 * q, out);
+        put_row(told.account, from.q, j, k, told.start, out);
+        k = next_index(k, a.more, end, e);
         st = told.st;
         b = told.before;
         j += 1;
         i = end;
     }
-    let q = from.q + j as usize;
-    if e < i {
-        return Place {
-            k: from.k + j - 1,
-            q,
-        };
+    Place {
+        k,
+        q: from.q + j as usize,
     }
-    Place { k: from.k + j, q }
 }
 
 // The accounts of n lines that end where the front of `ends` says: in `rows` six numbers for each piece, in `told` for each line the count of pieces up to its end. Entries
@@ -171,18 +192,23 @@ pub fn account_job(
     flag: &[u32],
     rclass: &[u32],
     rwidth: &[u32],
+    lclass: &[u32],
+    lwidth: &[u32],
     kind: &[u32],
     ebase: &[u32],
     eruby: &[u32],
+    lkind: &[u32],
+    eleft: &[u32],
     runs: &[u32],
+    lruns: &[u32],
     rows: &mut [u32],
     told: &mut [u32],
     extents: &mut [u32],
 ) -> job::Answer
-    ensures { λ r. ⌜ _≡_ {A = Telling} (record { answer = r; rows = now (rows .exit); told = now (told .exit); extents = now (extents .exit) }) (telling (jobOf em measure ratios profile (now (class .entry)) (now (width .entry)) (now (before .entry)) (now (after .entry)) (now (flag .entry)) (now (rclass .entry)) (now (rwidth .entry)) (now (kind .entry)) (now (ebase .entry)) (now (eruby .entry)) (now (runs .entry))) (now (rows .entry)) (now (told .entry)) (now (extents .entry))) ⌝ }
+    ensures { λ r. ⌜ _≡_ {A = Telling} (record { answer = r; rows = now (rows .exit); told = now (told .exit); extents = now (extents .exit) }) (telling (jobOf em measure ratios profile (now (class .entry)) (now (width .entry)) (now (before .entry)) (now (after .entry)) (now (flag .entry)) (now (rclass .entry)) (now (rwidth .entry)) (now (lclass .entry)) (now (lwidth .entry)) (now (kind .entry)) (now (ebase .entry)) (now (eruby .entry)) (now (lkind .entry)) (now (eleft .entry)) (now (runs .entry)) (now (lruns .entry))) (now (rows .entry)) (now (told .entry)) (now (extents .entry))) ⌝ }
 {
     let room = room_of(rows.len(), told.len(), extents.len());
-    let mut t = [0; 19463];
+    let mut t = [0; 27655];
     let mut ends = [0; 1024];
     let mut found = [0; 1024];
     match engine::fill_job(
@@ -200,11 +226,17 @@ pub fn account_job(
         flag,
         rclass,
         rwidth,
+        lclass,
+        lwidth,
         kind,
         ebase,
         eruby,
+        lkind,
+        eleft,
         runs,
+        lruns,
         1024,
+        2048,
         2048,
         room,
     ) {

@@ -1,39 +1,55 @@
 -- One element of the walk: refused by the first of its rows, or laid.
 use mathlib.Core.Path.{_≡_, refl, sym, ap, ap₂, _∙_, subst}
 use mathlib.Core.Bool.{Bool, true, false, cond, _&&_, _||_, true≢false, false≢true}
-use mathlib.Core.List.{List, [], _∷_}
-use Prim.Native.Nat.{ℕ, _+_, _-_, _*_, _≤_, _<_, _^_}
+use mathlib.Core.Logic.{_⊎_, inl, inr}
+use mathlib.Core.List.{List, [], _∷_, map}
+use Prim.Native.Nat.{ℕ, zero, suc, _+_, _-_, _≤_, _<_, _^_}
+use native.Mathlib.Nat.{add-zero}
 use native.Mathlib.Omega.{arith}
-use borrow.Author.Tests.{ltb-false, eqb-true}
+use borrow.Author.Tests.{ltb-false, eqb-true, ne-eqb, not-false}
 use lib.Dec.{eqb, ltb}
 use lib.ListN.{length, getD}
-use Rattle.basics.specs.Lists.{sum}
+use Rattle.basics.specs.Lists.{sum, count, any, All}
 use Rattle.basics.specs.Laws.{or-none}
+use Rattle.class.specs.Class.{western}
 use Rattle.refusal.specs.declared.Refusal.{Refusal}
-use Rattle.refusal.specs.declared.Refusal.the-variants.{Supply}
+use Rattle.refusal.specs.declared.Refusal.the-variants.{LeftKind, Supply, BlankInside, JukugoBase, Mixed, WesternOver}
 use Rattle.word.specs.declared.Form.{Form}
 use Rattle.word.specs.declared.Form.the-variants.{P, M, G, J}
+use Rattle.word.specs.declared.Left.{Left}
+use Rattle.word.specs.declared.Left.the-variants as left
 use Rattle.word.specs.declared.Word.{Word}
 use Rattle.word.specs.declared.Answer.{Answer}
 use Rattle.word.specs.declared.Answer.the-variants as answered
-use Rattle.word.specs.Given.{hasRuby, isJ}
-use Rattle.word.specs.Answer.{answer}
-use Rattle.word.specs.Word as word
+use Rattle.word.specs.Given.{Given, hasRuby, isG, isJ}
+use Rattle.word.specs.Answer.{blankInside, jukugoBase, mixedIn, westernOver, answer}
+use Rattle.word.specs.Word as one
+use Rattle.word.specs.Promise.{one-reading}
+use Rattle.word.specs.Both.{Gloss, hasLeft, takes, apart}
+use Rattle.word.specs.Sides as sides
+use Rattle.word.specs.Answered.{mixedBoth, westernBoth, answerBoth}
+use Rattle.word.specs.Answered as both
 use Rattle.word.specs.Sized.{Small}
 use Rattle.word.specs.Sized as size
-use Rattle.word.specs.Promise as promise
+use Rattle.line.specs.declared.Side.{Side}
+use Rattle.line.specs.declared.Side.the-variants.{Right, Left as LeftSide}
+use Rattle.cells.specs.Cells.{beside, cellAt}
 use Rattle.door.specs.declared.Piece.{Piece}
-use Rattle.door.specs.declared.Counted.{Counted}
-use Rattle.door.specs.declared.Counted.the-variants.{Is, Out}
+use Rattle.door.specs.declared.Taken.{Taken}
+use Rattle.door.specs.declared.Counted.the-variants.{Is}
 use Rattle.door.specs.declared.Step.{Step}
 use Rattle.door.specs.declared.Step.the-variants.{Next, Stop}
-use Rattle.door.specs.Job.{Job, entries, known, formOf, element, given, takesBase, takesRuns}
-use Rattle.door.specs.Elements.{countedAs, countedBy, partsOnly, Reads, own-reads}
+use Rattle.door.specs.Job.{Job, baseCount, rubyCount, leftCount, entries, known, knownLeft, formOf, leftOf, leftByRuns, takesBase, takesRuns, takesLeftRuns, element, given, glossOf}
+use Rattle.door.specs.Refusals.{countsOut, leftOut, countsWrong, runOut}
+use Rattle.door.specs.Elements.{Reads}
+use Rattle.door.specs.Passed.{Few, FewLeft, supplied}
 use Rattle.door.specs.Walk as walk
-use Rattle.job.specs.Line.{wordOf, onP, depthsAt}
-use Rattle.join.specs.Rows.{rowBy, rowOf, endsBehind, HasRows}
-use Rattle.cells.specs.Cells.{noLeft, beside}
-use Rattle.layout.specs.Lay.{Filled, row-alone, HasRuns, WordReady, JukugoReady, Judged, judged-as, wordRow, word-row, Standing, Laid, Stepped, runsOnly, wordsOnly}
+use Rattle.job.specs.Line.{part, wordsIn, cuts, wordOf, onP}
+use Rattle.join.specs.Rows.{isCut, none, rowBy, leftRowBy, endsBehind, rowOf, HasRows}
+use Rattle.layout.specs.Table.{from-none, clear-upto, LeftRoom, Filled, Written, bareRow, BareReady, Bared, over-bared}
+use Rattle.layout.specs.Runs.{bothOnly, wordsOnly, runsOnly, leftsOnly, Runs, HasRuns, jukugoRow}
+use Rattle.layout.specs.Lay.{wordRow, word-row, jukugo-row, aloneRow, flagged, WordReady, JukugoReady, AloneReady, Judged, Standing, Laid, Stepped}
+use Rattle.layout.specs.Left.{runs-all, ownRow, characterRow, bothRow, BothReady}
 
 -- no step both stops and goes on
 stop-next : {q : Refusal} {p : Piece} → Stop q ≡ Next p → ⊥
@@ -46,204 +62,401 @@ on-none M d h = refl
 on-none G d h = refl
 on-none J d h = refl
 
-runs-all : (form : Form) (n : ℕ) → isJ form ≡ true → takesRuns form n ≡ n
-runs-all P n h = absurd (false≢true h)
-runs-all M n h = absurd (false≢true h)
-runs-all G n h = absurd (false≢true h)
-runs-all J n h = refl
-
--- a kind that is known and no P has ruby
-known-ruby : (n : ℕ) → known n ≡ true → (n ≡ 80 → ⊥) → hasRuby (formOf n) ≡ true
-known-ruby n = go (eqb n 77) (eqb n 71) (eqb n 74) (eqb n 80) refl
+-- what a kind that is known says by its letter
+known-plain : (n : ℕ) → known n ≡ true → hasRuby (formOf n) ≡ false → n ≡ 80
+known-plain n = go (eqb n 77) (eqb n 71) (eqb n 74) (eqb n 80) refl
   where
-    go : (m g j p : Bool) → eqb n 80 ≡ p → (p || (m || (g || (j || false)))) ≡ true → (n ≡ 80 → ⊥) → hasRuby (cond m M (cond g G (cond j J P))) ≡ true
-    go true g j p e k h = refl
-    go false true j p e k h = refl
-    go false false true p e k h = refl
-    go false false false true e k h = absurd (h (eqb-true n 80 e))
+    go : (m g j p : Bool) → eqb n 80 ≡ p → (p || (m || (g || (j || false)))) ≡ true → hasRuby (cond m M (cond g G (cond j J P))) ≡ false → n ≡ 80
+    go true g j p e k h = absurd (true≢false h)
+    go false true j p e k h = absurd (true≢false h)
+    go false false true p e k h = absurd (true≢false h)
+    go false false false true e k h = eqb-true n 80 e
     go false false false false e k h = absurd (false≢true k)
 
-counted-known : (kind base ruby : ℕ) (runs : List ℕ) (b r u : ℕ) {p : Piece} → countedBy kind base ruby runs b r u ≡ Is p → known kind ≡ true
-unfolding countedBy
-counted-known kind base ruby runs b r u e = go (known kind) (countedAs (formOf kind) base ruby runs b r u) e
+known-none : (n : ℕ) → knownLeft n ≡ true → hasLeft (leftOf n) ≡ false → n ≡ 78
+known-none n = go (eqb n 77) (eqb n 71) (eqb n 74) (eqb n 78) refl
   where
-    go : (t : Bool) (c : Counted) {p : Piece} → cond t c Out ≡ Is p → t ≡ true
-    go true c e = refl
-    go false c e = absurd (let z : _≡_ {A = ℕ} 0 1 = cc in omega arith)
+    go : (m g j p : Bool) → eqb n 78 ≡ p → (p || (m || (g || (j || false)))) ≡ true → hasLeft (cond m left.M (cond g left.G (cond j left.J left.N))) ≡ false → n ≡ 78
+    go true g j p e k h = absurd (true≢false h)
+    go false true j p e k h = absurd (true≢false h)
+    go false false true p e k h = absurd (true≢false h)
+    go false false false true e k h = eqb-true n 78 e
+    go false false false false e k h = absurd (false≢true k)
+
+none-is : (k : Left) → hasLeft k ≡ false → k ≡ left.N
+none-is left.N h = refl
+none-is left.M h = absurd (true≢false h)
+none-is left.G h = absurd (true≢false h)
+none-is left.J h = absurd (true≢false h)
+
+-- without a left reading level one's answer is that of the right one
+alone-answer : (form : Form) (place : ℕ) (w : Given) (g : Gloss) → hasLeft (g .kind) ≡ false → g .class ≡ [] → answerBoth form place w g ≡ answer form place w
+unfolding answerBoth answer sides.wordOf
+alone-answer form place w g h c = rw (h, c, nine (mixedIn form w) (isG form || isJ form), ten (westernOver form w) (isG form))
+  where
+    nine : (a b : Bool) → (a || (b && false)) ≡ a
+    nine true b = refl
+    nine false true = refl
+    nine false false = refl
+
+    ten : (a b : Bool) → (a || (b && false)) ≡ a
+    ten = nine
+
+right-word : (job : Job) (x : Piece) → hasLeft (x .gloss) ≡ false → wordOf job x ≡ one.wordOf (x .form) (given job x)
+unfolding sides.wordOf
+right-word job x h = rw h
+
+-- and its left rows say where the next left characters begin
+bare-left : (job : Job) (x : Piece) (w : Word) (i : ℕ) → hasLeft (x .gloss) ≡ false → x .lefts ≡ 0 → x .more ≡ false → w .left ≡ one.none → bareRow (x .left) ≡ leftRowBy job x w i
+bare-left job x w i h l m n = rw (reading (isCut job x), runs (cuts job x) h, l, m, add-zero (x .left))
+  where
+    reading : (t : Bool) → cond t none w .left ≡ one.none
+    reading true = refl
+    reading false = n
+
+    runs : (c : Bool) {t : Bool} → t ≡ false → (c && t) ≡ false
+    runs true e = e
+    runs false e = refl
+
+-- of n in turn
+pub all-counted : {A : Type 0} (Q : A → Type 0) (f : ℕ → A) (a n : ℕ) → ((j : ℕ) → a ≤ j → j < a + n → Q (f j)) → All Q (map f (count a n))
+all-counted Q f a zero h = tt
+all-counted Q f a (suc n) h = (h a (omega arith) (omega arith), all-counted Q f (suc a) n (λ j l m. h j (omega arith) (omega arith)))
 
 -- the job's own numbers and lists
-abbrev pub runsIn : Job → Job
-runsIn job = runsOnly (job .em) (job .rubyClass) (job .rubyWidth) (job .run)
+abbrev pub bothOf : Job → Job
+bothOf job =
+    bothOnly (job .ratios) (job .em) (job .class) (job .width) (job .before) (job .after) (job .flag) (job .rubyClass) (job .rubyWidth) (job .run) (job .leftClass) (job .leftWidth) (job .leftRun)
 
-abbrev pub partsIn : Job → Job
-partsIn job = partsOnly (job .ratios) (job .em) (job .class) (job .width) (job .before) (job .after) (job .rubyClass) (job .rubyWidth) [] [] [] (job .run)
+abbrev pub wordsOf : Job → Job
+wordsOf job = wordsOnly (job .ratios) (job .em) (job .class) (job .width) (job .before) (job .after) (job .flag) (job .rubyClass) (job .rubyWidth) (job .run)
 
-module _ (bases rubies : ℕ) (job : Job) (k b r u : ℕ) (was : List ℕ) (h : Standing bases rubies job k b r u was) where
+abbrev pub runsOf : Job → Job
+runsOf job = runsOnly (job .em) (job .rubyClass) (job .rubyWidth) (job .run)
+
+abbrev pub leftsOf : Job → Job
+leftsOf job = leftsOnly (job .leftWidth) (job .leftRun)
+
+-- An element's rows are its words'.
+
+picked : {A : Type 0} (t : Bool) (a b : A) → t ≡ true → cond t a b ≡ a
+picked true a b e = refl
+picked false a b e = absurd (false≢true e)
+
+one-word : (job : Job) (x : Piece) (t : List ℕ) → apart (x .form) (x .gloss) ≡ false → HasRows job t x → All (HasRows job t) (wordsIn job x)
+unfolding wordsIn
+one-word job x t a h = rw a (h, tt)
+
+characters : (job : Job) (x : Piece) (t : List ℕ) → apart (x .form) (x .gloss) ≡ true → ((j : ℕ) → j < x .bases → HasRows job t (part job x j 1)) → All (HasRows job t) (wordsIn job x)
+unfolding wordsIn
+characters job x t a h =
+    subst (All (HasRows job t)) (sym (picked (apart (x .form) (x .gloss)) (map (λ j. part job x j 1) (count 0 (x .bases))) (x ∷ []) a))
+    (all-counted (HasRows job t) (λ j. part job x j 1) 0 (x .bases) (λ j l m. h j (omega arith)))
+
+-- a word's row, with ruby and with nothing behind it
+row-is : (job : Job) (x : Piece) (w : Word) (i : ℕ) → hasRuby (x .form) ≡ true → w ≡ wordOf job x → ownRow job x w (endsBehind job x) i ≡ rowOf job x i
+unfolding rowOf
+row-is job x w i h e =
+    ap (λ v. ownRow job x v (endsBehind job x) i) e
+    ∙ ap₂ (λ c d. beside (rowBy job x (wordOf job x) (endsBehind job x) c d i) (leftRowBy job x (wordOf job x) i)) (sym (on-none (x .form) _ h)) (sym (on-none (x .form) _ h))
+
+ends-flagged : (job : Job) (x : Piece) → x .more ≡ false → endsBehind job x ≡ flagged job x
+ends-flagged job x e = rw e
+
+part-mono : (job : Job) (x : Piece) (j : ℕ) → (part job x j 1 .base ≡ x .base + j) × (part job x j 1 .bases ≡ 1) × (hasRuby (part job x j 1 .form) ≡ true)
+unfolding part
+part-mono job x j = (refl, refl, refl)
+
+module _ (job : Job) (k : ℕ) (at : Taken) (was : List ℕ) (h : Standing job k at was) where
   abbrev x : Piece
-  x = element job k b r u
+  x = element job k at
 
-  run-is : x .run ≡ u
+  its-place : (x .run ≡ at .run) × (x .leftrun ≡ at .leftrun) × (x .base ≡ at .base) × (x .more ≡ false)
   unfolding element
-  run-is = refl
+  its-place = (refl, refl, refl, refl)
 
-  pub stopped : {q : Refusal} → Stop q ≡ walk.elementStep bases rubies job k b r u → Stepped bases rubies job k b r u was was (Stop q)
+  pub stopped : {q : Refusal} → Stop q ≡ walk.elementStep job k at → Stepped job k at was was (Stop q)
   stopped e = record { long = refl; step = e; laid = λ p f. absurd (stop-next f) }
 
-  module _ (p : Piece) (is : walk.counting bases rubies job k b r u ≡ Is p) where
-    ruby : hasRuby (x .form) ≡ true
-    unfolding element
-    ruby = known-ruby (getD (job .kind) k 0) (counted-known _ _ _ _ b r u is) (h .ruby)
+  stopped-at : {q : Refusal} (t : List ℕ) → length t ≡ length was → Stop q ≡ walk.elementStep job k at → Stepped job k at was t (Stop q)
+  stopped-at t l e = record { long = l; step = e; laid = λ p f. absurd (stop-next f) }
 
-    -- so it is no P
-    pub no-plain : p .form ≡ P → ⊥
-    no-plain e = false≢true (ap hasRuby (sym e ∙ ap (λ z. z .form) (walk.is-it bases rubies job k b r u is)) ∙ ruby)
-
+  module _ (p : Piece) (is : walk.counting job k at ≡ Is p) where
     pub same : p ≡ x
-    same = walk.is-it bases rubies job k b r u is
+    same = walk.passes-five job k at is .1
 
-    pub small : (p .base + p .bases < 2 ^ 40) × (p .ruby + p .rubies < 2 ^ 40) × (p .run + p .bases < 2 ^ 40)
-    small = rw same (walk.small bases rubies job k b r u is (h .stands))
+    five : countsWrong job k x ≡ false
+    five = walk.passes-five job k at is .0
 
-    abbrev short : Bool
-    short = ltb bases (p .base + p .bases) || ltb rubies (p .ruby + p .rubies)
+    pub small : (p .base + p .bases < 2 ^ 40) × (p .ruby + p .rubies < 2 ^ 40) × (p .left + p .lefts < 2 ^ 40)
+    small = rw same (walk.small job k at five (h .stands))
 
-    short-same : short ≡ (ltb bases (x .base + x .bases) || ltb rubies (x .ruby + x .rubies))
-    short-same = rw same
+    pub kind-stops : takes (p .form) (p .gloss) ≡ false → Stepped job k at was was (Stop (LeftKind k))
+    kind-stops e = stopped (walk.kind-stops job k at five (subst (λ z. takes (z .form) (z .gloss) ≡ false) same e))
 
-    pub short-stops : short ≡ true → Stepped bases rubies job k b r u was was (Stop (Supply k))
-    short-stops e = stopped (walk.short-stops bases rubies job k b r u is (sym short-same ∙ e))
+    module _ (sixteen : takes (p .form) (p .gloss) ≡ true) where
+      taken-x : takes (x .form) (x .gloss) ≡ true
+      taken-x = subst (λ z. takes (z .form) (z .gloss) ≡ true) same sixteen
 
-    module _ (supplied : short ≡ false) where
-      supply : (ltb bases (x .base + x .bases) || ltb rubies (x .ruby + x .rubies)) ≡ false
-      supply = sym short-same ∙ supplied
+      pub short-stops : runOut job p ≡ true → Stepped job k at was was (Stop (Supply k))
+      short-stops e = stopped (walk.short-stops job k at five taken-x (subst (λ z. runOut job z ≡ true) same e))
 
-      reads : Reads job x
-      reads = walk.reads bases rubies job k b r u is (h .stands) supply
+      module _ (six : runOut job p ≡ false) where
+        six-x : runOut job x ≡ false
+        six-x = subst (λ z. runOut job z ≡ false) same six
 
-      inside : (p .base + p .bases ≤ bases) × (p .ruby + p .rubies ≤ rubies)
-      inside = let q = or-none (ltb bases (p .base + p .bases)) (ltb rubies (p .ruby + p .rubies)) supplied in (ltb-false _ _ (q .0), ltb-false _ _ (q .1))
+        reads : Reads job x
+        reads = walk.reads job k at five taken-x six-x (h .stands)
 
-      pub own : Reads (partsIn job) p
-      own = rw same (own-reads job x reads)
+        held : (x .base + x .bases ≤ baseCount job) × (x .ruby + x .rubies ≤ rubyCount job) × (x .left + x .lefts ≤ leftCount job)
+        held = supplied job x six-x
 
-      -- the last of its characters
-      pub last : (0 < p .bases) × (p .base + p .bases ≤ 1024) × (p .base + p .bases ≤ length (job .flag))
-      last = (rw same (walk.few bases rubies job k b r u is .some), omega (arith, inside .0, h .stands .few), omega (arith, inside .0, h .flags))
+        few : Few (x .form) (x .bases) (x .rubies) (given job x .run)
+        few = walk.few job k at five
 
-      sized : Small (given job p .width) (given job p .rubyWidth)
-      sized = rw same (size.small _ _ _ _ ruby (reads .sized))
+        few-left : FewLeft (x .form) (x .gloss) (x .lefts) (glossOf job x .run)
+        few-left = walk.few-left job k at five
 
-      -- what its arm asks for, by the lists that are lent to it
-      pub ready : (class rubyClass run : List ℕ) → WordReady (wordsOnly (job .ratios) (job .em) class (job .width) (job .before) (job .after) (job .flag) rubyClass (job .rubyWidth) run) p was
-      ready class rubyClass run =
-          let s = h .stands in
-          record {
-            some = last .0;
-            few = last .1;
-            fewRuby = omega (arith, inside .1, s .fewRuby);
-            width = own .width;
-            before = own .before;
-            after = own .after;
-            flag = last .2;
-            rubyWidth = own .rubyWidth;
-            small = sized;
-            house = h .house;
-            room = omega (arith, inside .0, h .room);
-          }
+        -- a P without a left reading is laid in a loop of its own
+        kinds : (known (getD (job .kind) k 0) ≡ true) × (knownLeft (getD (job .leftKind) k 0) ≡ true)
+        kinds =
+            let q = or-none _ _ five in
+            (not-false (known (getD (job .kind) k 0)) (or-none _ _ (q .0) .0), not-false (knownLeft (getD (job .leftKind) k 0)) (or-none _ _ (q .1) .0))
 
-      pub one : p .form ≡ M → p .bases ≡ 1
-      unfolding element
-      one e = ap (λ z. z .bases) same ∙ ap (λ f. takesBase f (getD (job .elementBase) k 0)) (sym (ap (λ z. z .form) same) ∙ e)
+        pub ruby : hasRuby (x .form) ≡ true
+        unfolding element
+        ruby = go (hasRuby (x .form)) (hasLeft (x .gloss)) refl refl
+          where
+            go : (t s : Bool) → hasRuby (x .form) ≡ t → hasLeft (x .gloss) ≡ s → t ≡ true
+            go true s e f = refl
+            go false true e f = sym e ∙ walk.left-over-ruby (x .form) (x .gloss) f taken-x
+            go false false e f = absurd (h .ruby (known-plain (getD (job .kind) k 0) (kinds .0) e) (known-none (getD (job .leftKind) k 0) (kinds .1) f))
 
-      pub runs-held : isJ (p .form) ≡ true → HasRuns (runsIn job) p was
-      runs-held j =
-          let s = h .stands in
-          let f = walk.few bases rubies job k b r u is in
-          let jx = subst (λ z. isJ (z .form) ≡ true) same j in
-          let whole = f .whole jx in
-          subst (λ z. HasRuns (runsIn job) z was) (sym same)
-          (record {
-            held = omega (arith, inside .0, h .room, ap (λ z. z .base + z .bases) same);
-            small = omega (arith, inside .0, s .few, ap (λ z. z .base + z .bases) same);
-            few = f .few;
-            runs = omega (arith, reads .run, runs-all (x .form) (x .bases) jx);
-            fewRuns = omega (arith, s .runs, s .taken, s .few, run-is);
-            rubies = omega (arith, inside .1, s .fewRuby, whole, ap (λ z. z .ruby + z .rubies) same);
-            class = omega (arith, reads .rubyClass, whole);
-            width = omega (arith, reads .rubyWidth, whole);
-            narrow = omega (arith, reads .sized .narrowRuby, ap (λ m. sum (entries (job .rubyWidth) (x .ruby) m)) whole);
-            each = f .each jx;
-          })
+        -- what each way asks for, by the lists that are lent to it
+        small-x : Small (given job x .width) (given job x .rubyWidth)
+        small-x = size.small _ _ _ _ ruby (reads .sized)
 
-      pub jukugo-ready : p .form ≡ J → JukugoReady (wordsOnly (job .ratios) (job .em) (job .class) (job .width) (job .before) (job .after) (job .flag) (job .rubyClass) (job .rubyWidth) (job .run)) p was
-      jukugo-ready e =
-          let f = walk.few bases rubies job k b r u is in
-          record {
-            form = ap isJ e;
-            class = own .class;
-            rubyClass = own .rubyClass;
-            whole = rw same (omega (arith, f .whole (ap isJ (sym (ap (λ z. z .form) same) ∙ e))));
-            runs = runs-held (ap isJ e);
-            word = ready (job .class) (job .rubyClass) (job .run);
-          }
+        word-ready : (t : List ℕ) → length t ≡ length was → (class rubyClass run leftClass leftWidth leftRun : List ℕ) →
+            WordReady (bothOnly (job .ratios) (job .em) class (job .width) (job .before) (job .after) (job .flag) rubyClass (job .rubyWidth) run leftClass leftWidth leftRun) x t
+        word-ready t long class rubyClass run leftClass leftWidth leftRun =
+            let c = h .stands .clean in
+            record {
+              some = few .some;
+              few = omega (arith, held .0, c .few);
+              fewRuby = omega (arith, held .1, c .fewRuby);
+              width = reads .width;
+              before = reads .before;
+              after = reads .after;
+              flag = reads .flag;
+              rubyWidth = reads .rubyWidth;
+              small = small-x;
+              house = h .house;
+              room = omega (arith, held .0, h .room, long);
+            }
 
-      pub refused-stops : {q : Refusal} → answer (p .form) k (given (partsIn job) p) ≡ answered.Refused q → Stepped bases rubies job k b r u was was (Stop q)
-      refused-stops {q} e = stopped (walk.refused-stops bases rubies job k b r u is supply (subst (λ z. answer (z .form) k (given job z) ≡ answered.Refused q) same e))
+        right-runs : (t : List ℕ) → length t ≡ length was → isJ (x .form) ≡ true → HasRuns (runsOf job) x t
+        right-runs t long j =
+            let c = h .stands .clean in
+            let w = h .stands .within in
+            let whole = few .whole j in
+            record {
+              held = omega (arith, held .0, h .room, long);
+              class = omega (arith, reads .rubyClass, whole);
+              own =
+                  record {
+                    few = few .few;
+                    small = omega (arith, held .0, c .few);
+                    runs = omega (arith, reads .run, runs-all (x .form) (x .bases) j);
+                    fewRuns = omega (arith, its-place .0, w .runs, w .base, c .few);
+                    many = omega (arith, held .1, c .fewRuby, whole);
+                    width = omega (arith, reads .rubyWidth, whole);
+                    narrow = omega (arith, reads .sized .narrowRuby, ap (λ m. sum (entries (job .rubyWidth) (x .ruby) m)) whole);
+                    each = few .each j;
+                  };
+            }
 
-      -- its rows
-      pub goes-on : (t : List ℕ) (w : Word) → answer (p .form) k (given (partsIn job) p) ≡ answered.Set w → (ends : Bool) → ends ≡ eqb (getD (job .flag) (p .base + p .bases - 1) 0) 1 →
-          Filled (rowBy (runsIn job) p w ends 0 0) (p .base) (p .base + p .bases) was t → Stepped bases rubies job k b r u was t (Next p)
-      unfolding rowOf
-      goes-on t w e ends f q = record { long = q .long; step = ap Next same ∙ walk.set-goes-on bases rubies job k b r u is supply given-x; laid = λ _ _. laid }
-        where
-          given-x : answer (x .form) k (given job x) ≡ answered.Set w
-          given-x = subst (λ z. answer (z .form) k (given job z) ≡ answered.Set w) same e
+        one-base : x .form ≡ M → x .bases ≡ 1
+        unfolding element
+        one-base e = ap (λ f. takesBase f (getD (job .elementBase) k 0)) e
 
-          filled : Filled (rowBy (runsIn job) x w ends 0 0) (x .base) (x .base + x .bases) was t
-          filled = subst (λ z. Filled (rowBy (runsIn job) z w ends 0 0) (z .base) (z .base + z .bases) was t) same q
+        alone-ready-x : (t : List ℕ) → length t ≡ length was → AloneReady (wordsOf job) x t
+        alone-ready-x t long =
+            let w = word-ready t long (job .class) (job .rubyClass) (job .run) [] [] [] in
+            record {
+              ruby = ruby;
+              class = reads .class;
+              rubyClass = reads .rubyClass;
+              one = one-base;
+              jukugo = λ j. record { class = reads .class; rubyClass = reads .rubyClass; whole = omega (arith, few .whole j); runs = right-runs t long j; word = w };
+              word = w;
+            }
 
-          row : (i : ℕ) → rowBy (runsIn job) x w ends 0 0 i ≡ rowOf job x i
-          row i =
-              ap (λ v. rowBy job x v ends 0 0 i) (promise.passed (x .form) k (given job x) given-x .word)
-              ∙ ap (λ v. rowBy job x (wordOf job x) v 0 0 i) (f ∙ ap (λ z. eqb (getD (job .flag) (z .base + z .bases - 1) 0) 1) same)
-              ∙ ap₂ (λ c d. rowBy job x (wordOf job x) (endsBehind job x) c d i) (sym (on-none (x .form) _ ruby)) (sym (on-none (x .form) _ ruby))
+        -- level one's answer taken apart
+        steps : {a : Answer} {Done : Word → Type 0} {mid t : List ℕ} {s : Step} → length mid ≡ length was → answerBoth (x .form) k (given job x) (glossOf job x) ≡ a →
+            ((w : Word) → answerBoth (x .form) k (given job x) (glossOf job x) ≡ answered.Set w → Done w → Laid job x was t) → Judged a Done x mid t s → Stepped job k at was t s
+        steps {a} {Done} {mid} {t} {s} long is-a done j = go a refl
+          where
+            go : (b : Answer) → a ≡ b → Stepped job k at was t s
+            go (answered.Set w) e =
+                let g = j .goes w e in
+                record { long = j .long ∙ long; step = g .0 ∙ walk.set-goes-on job k at five taken-x six-x (is-a ∙ e); laid = λ _ _. done w (is-a ∙ e) (g .1) }
+            go (answered.Refused q) e =
+                let g = j .stops q e in
+                subst (Stepped job k at was t) (sym (g .0)) (stopped-at t (j .long ∙ long) (walk.refused-stops job k at five taken-x six-x (is-a ∙ e)))
 
-          laid : Laid job x was t
-          laid =
+        -- without left characters it has no left reading: its left rows say where the next left characters begin
+        module _ (none : p .lefts ≡ 0) where
+          bare-ready-x : BareReady (x .left) (x .base) (x .base + x .bases) (leftCount job) was
+          bare-ready-x =
+              let c = h .stands .clean in
               record {
-                long = filled .long;
-                head = filled .head;
-                lefts = filled .lefts;
-                rows = λ i l m. filled .here (h .none) i l m ∙ ap (λ c. beside c noLeft) (row i) ∙ row-alone job x i;
-                other = filled .other (h .none);
+                order = omega arith;
+                few = omega (arith, held .0, c .few);
+                fewLeft = omega (arith, held .2, c .fewLeft);
+                room = λ s. let r = h .leftRoom s in record { behind = omega (arith, r .behind, held .0); room = omega (arith, r .room, held .0) };
+                none = λ z. (h .begins ∙ from-none (baseCount job) (leftCount job) z, omega (arith, held .2));
               }
 
-      judged : {t : List ℕ} {s : Step} → Judged (answer (p .form) k (given (partsIn job) p)) (λ w. rowBy (runsIn job) p w (endsBehind job p) 0 0) p was t s → Stepped bases rubies job k b r u was t s
-      judged {t} {s} j = go (answer (p .form) k (given (partsIn job) p)) refl
-        where
-          go : (a : Answer) → answer (p .form) k (given (partsIn job) p) ≡ a → Stepped bases rubies job k b r u was t s
-          go (answered.Set w) e =
-              let g = j .goes w e in
-              subst (Stepped bases rubies job k b r u was t) (sym (g .0)) (goes-on t w e (endsBehind job p) refl (g .1))
-          go (answered.Refused q) e =
-              let g = j .stops q e in
-              subst (Stepped bases rubies job k b r u was t) (sym (g .0)) (subst (λ z. Stepped bases rubies job k b r u was z (Stop q)) (sym (g .1)) (refused-stops e))
+          pub bare-ready : BareReady (p .left) (p .base) (p .base + p .bases) (leftCount job) was
+          bare-ready = subst (λ z. BareReady (z .left) (z .base) (z .base + z .bases) (leftCount job) was) (sym same) bare-ready-x
 
-      pub mono-judged : p .form ≡ M → {t : List ℕ} {s : Step} →
-          Judged (answer M k (given (wordsOnly (job .ratios) (job .em) [] (job .width) (job .before) (job .after) (job .flag) [] (job .rubyWidth) []) p)) (λ w. wordRow p w (endsBehind job p) 0 0) p was t s →
-          Stepped bases rubies job k b r u was t s
-      unfolding answer word.wordOf
-      mono-judged e j =
-          judged (judged-as (ap (λ f. answer f k (given (partsIn job) p)) (sym e)) (λ w i. word-row (runsIn job) p w (endsBehind job p) 0 0 i (ap isJ e)) j)
+          none-x : hasLeft (x .gloss) ≡ false
+          none-x = go (hasLeft (x .gloss)) refl
+            where
+              go : (t : Bool) → hasLeft (x .gloss) ≡ t → t ≡ false
+              go true e = absurd (omega (arith, few-left .reads e taken-x, none, ap (λ z. z .lefts) same))
+              go false e = refl
 
-      pub group-judged : p .form ≡ G → {t : List ℕ} {s : Step} →
-          Judged (answer G k (given (wordsOnly (job .ratios) (job .em) (job .class) (job .width) (job .before) (job .after) (job .flag) (job .rubyClass) (job .rubyWidth) []) p)) (λ w. wordRow p w (endsBehind job p) 0 0) p was t s →
-          Stepped bases rubies job k b r u was t s
-      unfolding answer word.wordOf
-      group-judged e j =
-          judged (judged-as (ap (λ f. answer f k (given (partsIn job) p)) (sym e)) (λ w i. word-row (runsIn job) p w (endsBehind job p) 0 0 i (ap isJ e)) j)
+          whole-x : apart (x .form) (x .gloss) ≡ false
+          whole-x = ap (apart (x .form)) (none-is (x .gloss) none-x)
 
-      pub jukugo-judged : p .form ≡ J → {t : List ℕ} {s : Step} →
-          Judged (answer J k (given (wordsOnly (job .ratios) (job .em) (job .class) (job .width) (job .before) (job .after) (job .flag) (job .rubyClass) (job .rubyWidth) (job .run)) p)) (λ w. rowBy (runsIn job) p w (endsBehind job p) 0 0) p was t s →
-          Stepped bases rubies job k b r u was t s
-      jukugo-judged e j = judged (judged-as (ap (λ f. answer f k (given (partsIn job) p)) (sym e)) (λ w i. refl) j)
+          answer-x : answerBoth (x .form) k (given job x) (glossOf job x) ≡ answer (x .form) k (given job x)
+          answer-x = alone-answer (x .form) k (given job x) (glossOf job x) none-x (ap (entries (job .leftClass) (x .left)) (sym (ap (λ z. z .lefts) same) ∙ none))
+
+          cuts-x : cuts job x ≡ isJ (x .form)
+          unfolding cuts
+          cuts-x = rw (none-is (x .gloss) none-x) (go (isJ (x .form)))
+            where
+              go : (t : Bool) → (t && true) ≡ t
+              go true = refl
+              go false = refl
+
+          alone-row : (w : Word) (i : ℕ) → aloneRow (wordsOf job) x w (flagged job x) i ≡ rowBy job x w (flagged job x) 0 0 i
+          alone-row w i = go (isJ (x .form)) cuts-x
+            where
+              go : (t : Bool) → cuts job x ≡ t → cond t (jukugoRow job x w (flagged job x) i) (wordRow x w (flagged job x) 0 0 i) ≡ rowBy job x w (flagged job x) 0 0 i
+              go true e = jukugo-row job x w (flagged job x) i e
+              go false e = word-row job x w (flagged job x) 0 0 i e
+
+          abbrev Bare : Piece → List ℕ → Type 0
+          Bare z mid = Bared (z .left) (z .base) (z .base + z .bases) was mid
+
+          alone-laid : (mid t : List ℕ) → Bare x mid → (w : Word) → answerBoth (x .form) k (given job x) (glossOf job x) ≡ answered.Set w →
+              Filled (aloneRow (wordsOf job) x w (flagged job x)) (x .base) (x .base + x .bases) mid t → Laid job x was t
+          alone-laid mid t b w e f =
+              let n = x .base + x .bases in
+              let q = over-bared (aloneRow (wordsOf job) x w (flagged job x)) (x .left) (x .base) n was mid t (clear-upto (baseCount job) (leftCount job) n was (h .begins) (held .0)) b f in
+              record {
+                long = q .long;
+                head = q .head;
+                lefts = q .lefts;
+                rows =
+                    one-word job x t whole-x
+                    (λ i l m. q .here i l m ∙ ap₂ beside (alone-row w i ∙ ap (λ z. rowBy job x w z 0 0 i) (sym (ends-flagged job x (its-place .3)))) (no-left i)
+                    ∙ row-is job x w i ruby set);
+                other = q .other;
+              }
+            where
+              set : w ≡ wordOf job x
+              set = both.passed (x .form) k (given job x) (glossOf job x) e .word
+
+              no-left : (i : ℕ) → bareRow (x .left) ≡ leftRowBy job x w i
+              no-left i = bare-left job x w i none-x (sym (ap (λ z. z .lefts) same) ∙ none) (its-place .3) (ap (λ v. v .left) (set ∙ right-word job x none-x) ∙ one-reading (x .form) (given job x))
+
+          pub alone-ready : (mid : List ℕ) → Bare p mid → AloneReady (wordsOf job) p mid
+          alone-ready mid b = subst (λ z. AloneReady (wordsOf job) z mid) (sym same) (alone-ready-x mid (b .long))
+
+          pub alone-judged : {mid t : List ℕ} {s : Step} → Bare p mid →
+              Judged (answer (p .form) k (given (wordsOf job) p)) (λ w. Filled (aloneRow (wordsOf job) p w (flagged (wordsOf job) p)) (p .base) (p .base + p .bases) mid t) p mid t s → Stepped job k at was t s
+          alone-judged {mid} {t} {s} b j =
+              steps (b .long) answer-x (alone-laid mid t (subst (λ z. Bare z mid) same b))
+              (subst (λ z. Judged (answer (z .form) k (given job z)) (λ w. Filled (aloneRow (wordsOf job) z w (flagged job z)) (z .base) (z .base + z .bases) mid t) z mid t s) same j)
+
+        -- with left characters it has one
+        module _ (some : 0 < p .lefts) where
+          here-x : hasLeft (x .gloss) ≡ true
+          here-x = go (hasLeft (x .gloss)) refl
+            where
+              go : (t : Bool) → hasLeft (x .gloss) ≡ t → t ≡ true
+              go true e = refl
+              go false e = absurd (omega (arith, few-left .none e, some, ap (λ z. z .lefts) same))
+
+          room-x : LeftRoom (x .base + x .bases) was
+          room-x = let r = h .leftRoom (omega (arith, held .2, some, ap (λ z. z .lefts) same)) in record { behind = omega (arith, r .behind, held .0); room = omega (arith, r .room, held .0) }
+
+          left-runs : leftByRuns (x .form) (x .gloss) ≡ true → Runs LeftSide (leftsOf job) x
+          left-runs l =
+              let c = h .stands .clean in
+              let w = h .stands .within in
+              let whole = few-left .whole l in
+              record {
+                few = few .few;
+                small = omega (arith, held .0, c .few);
+                runs = omega (arith, reads .leftRun, ap (λ t. cond t (x .bases) 0) l);
+                fewRuns = omega (arith, its-place .1, w .leftRuns, w .base, c .few);
+                many = omega (arith, held .2, c .fewLeft, whole);
+                width = omega (arith, reads .leftWidth, whole);
+                narrow = omega (arith, walk.left-ready job k at five taken-x six-x (h .stands) here-x .gloss .narrow, ap (λ m. sum (entries (job .leftWidth) (x .left) m)) whole);
+                each = few-left .each l;
+              }
+
+          both-ready-x : BothReady (bothOf job) x was
+          both-ready-x =
+              let c = h .stands .clean in
+              let w = h .stands .within in
+              record {
+                word = word-ready was refl (job .class) (job .rubyClass) (job .run) (job .leftClass) (job .leftWidth) (job .leftRun);
+                few = few .few;
+                fewLefts = omega (arith, held .2, c .fewLeft);
+                fewRuns = omega (arith, its-place .0, w .runs, w .base, c .few);
+                fewLeftRuns = omega (arith, its-place .1, w .leftRuns, w .base, c .few);
+                class = reads .class;
+                rubyClass = reads .rubyClass;
+                run = reads .run;
+                leftClass = reads .leftClass;
+                leftWidth = reads .leftWidth;
+                leftRun = reads .leftRun;
+                taken = taken-x;
+                ready = walk.left-ready job k at five taken-x six-x (h .stands) here-x;
+                whole = its-place .3;
+                jukugo = right-runs was refl;
+                lefts = left-runs;
+                room = room-x;
+              }
+
+          pub both-ready : BothReady (bothOf job) p was
+          both-ready = subst (λ z. BothReady (bothOf job) z was) (sym same) both-ready-x
+
+          both-laid : (t : List ℕ) (w : Word) → answerBoth (x .form) k (given job x) (glossOf job x) ≡ answered.Set w → Written (bothRow (bothOf job) x w) (x .base) (x .base + x .bases) was t → Laid job x was t
+          unfolding cuts part
+          both-laid t w e q = record { long = q .long; head = q .head; lefts = q .lefts; rows = go (apart (x .form) (x .gloss)) refl (q .here); other = q .other }
+            where
+              set : w ≡ wordOf job x
+              set = both.passed (x .form) k (given job x) (glossOf job x) e .word
+
+              own : (j i : ℕ) → i - x .base ≡ j → characterRow job x i ≡ rowOf job (part job x j 1) i
+              own j i e =
+                  ap (λ n. let y = part job x n 1 in ownRow job y (wordOf job y) (endsBehind job y) i) e
+                  ∙ row-is job (part job x j 1) (wordOf job (part job x j 1)) i (part-mono job x j .2) refl
+
+              go : (a : Bool) → apart (x .form) (x .gloss) ≡ a →
+                  ((i : ℕ) → x .base ≤ i → i < x .base + x .bases → cellAt t i ≡ cond a (characterRow job x i) (ownRow job x w (flagged job x) i)) → All (HasRows job t) (wordsIn job x)
+              go true a f = characters job x t a (λ j m i l r. f i (omega arith) (omega arith) ∙ own j i (omega arith))
+              go false a f =
+                  one-word job x t a (λ i l m. f i l m ∙ ap (λ z. ownRow job x w z i) (sym (ends-flagged job x (its-place .3))) ∙ row-is job x w i ruby set)
+
+          pub both-judged : {t : List ℕ} {s : Step} →
+              Judged (answerBoth (p .form) k (given (bothOf job) p) (glossOf (bothOf job) p)) (λ w. Written (bothRow (bothOf job) p w) (p .base) (p .base + p .bases) was t) p was t s → Stepped job k at was t s
+          both-judged {t} {s} j =
+              steps refl refl (both-laid t)
+              (subst (λ z. Judged (answerBoth (z .form) k (given job z) (glossOf job z)) (λ w. Written (bothRow (bothOf job) z w) (z .base) (z .base + z .bases) was t) z was t s) same j)

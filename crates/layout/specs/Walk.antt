@@ -10,247 +10,251 @@ use native.Mathlib.Omega.{arith}
 use lib.Dec.{eqb, ltb}
 use lib.ListN.{length, getD, take, drop}
 use lib.Seq.{take-all, take-add}
-use Rattle.basics.specs.Lists.{sum, All}
-use Rattle.refusal.specs.declared.Refusal.{Refusal}
+use Rattle.basics.specs.Lists.{sum, each, All}
+use Rattle.basics.specs.Laws.{all-map}
 use Rattle.class.specs.Class.{depthsBy}
-use Rattle.spread.specs.Ratio.{Housed}
+use Rattle.spread.specs.Ratio.{Ratios, Housed}
 use Rattle.word.specs.declared.Form.the-variants.{P}
 use Rattle.word.specs.Word as word
-use Rattle.cells.specs.Cells.{size, ratiosAt, leftsAt, noLeft, beside, cellAt}
-use Rattle.cells.specs.Put.{headed, length-headed, head-written, no-left, Puts}
+use Rattle.word.specs.Sides as sides
+use Rattle.cells.specs.declared.Cell.{Cell}
+use Rattle.cells.specs.Cells.{size, leftSize, ratiosAt, leftsAt, beside, cellAt}
+use Rattle.cells.specs.Put.{headed, length-headed, head-written, Puts}
 use Rattle.door.specs.declared.Piece.{Piece}
-use Rattle.door.specs.Job.{Job, baseCount, rubyCount, elementCount, entries, element, elementsFrom, elements, takesRuns}
-use Rattle.door.specs.Refusals.{elementFaults, elementsFaults, leftFaults}
-use Rattle.door.specs.Walk.{Stands}
+use Rattle.door.specs.declared.Taken.{Taken}
+use Rattle.door.specs.Job.{Job, baseCount, rubyCount, leftCount, elementCount, entries, nothing, past, element, elementsFrom, elements}
+use Rattle.door.specs.Elements.{alone}
+use Rattle.door.specs.Walk.{Clean, Within, Stands}
 use Rattle.door.specs.Loop as loop
-use Rattle.door.specs.Loop.{Along, elementsRows, allRows}
-use Rattle.door.specs.Whole.{base-within, ruby-within, element-within}
-use Rattle.job.specs.Laws.{all-append}
+use Rattle.door.specs.Loop.{Along, pastPlain}
+use Rattle.door.specs.Whole.{base-within}
+use Rattle.job.specs.Line.{part, wordsIn, words, cuts}
+use Rattle.job.specs.Laws.{all-append, all-each, each-append}
+use Rattle.job.specs.Apart.{by-apart}
 use Rattle.job.specs.Pieces.{tiled-ends}
 use Rattle.job.specs.Walk.{At, at-first, at-next, length-elements}
 use Rattle.join.specs.Rows.{rowBy, rowOf, HasRows, Holds}
-use Rattle.layout.specs.Lay.{none-behind, row-alone, PlainReady, plainRow, Standing, Laid}
+use Rattle.layout.specs.Table.{leftFrom, Clear, from-none, from-some, clear-upto, filled-one, bareRow, BareReady, Bared, over-bared}
+use Rattle.layout.specs.Element.{all-counted}
+use Rattle.layout.specs.Lay.{PlainReady, plainRow, Standing, Laid}
 
-three : (Q : ℕ → ℕ → ℕ → Type 0) {a a' b b' c c' : ℕ} → a ≡ a' → b ≡ b' → c ≡ c' → Q a b c → Q a' b' c'
-three Q {a} {a'} {b} {b'} {c} {c'} e f g h = subst (λ z. Q a' b' z) g (subst (λ z. Q a' z c) f (subst (λ z. Q z b c) e h))
-
--- What the walk asks for: characters that their checks leave, and a table with room.
+-- What the walk asks for: characters that their checks leave, and a table with room, for left rows too where the job has left characters.
 pub record Ready (job : Job) (t : List ℕ) : Type 0 where
   pub house : Housed (job .ratios)
   pub few : baseCount job ≤ 1024
   pub fewRuby : rubyCount job ≤ 2048
+  pub fewLeft : leftCount job ≤ 2048
   pub fewElements : elementCount job ≤ 1024
   pub some : (i : ℕ) → i < baseCount job → 1 ≤ getD (job .width) i 0
   pub narrow : (i : ℕ) → i < baseCount job → getD (job .width) i 0 ≤ 4096
   pub narrowRuby : (i : ℕ) → i < rubyCount job → getD (job .rubyWidth) i 0 ≤ 4096
+  pub narrowLeft : (i : ℕ) → i < leftCount job → getD (job .leftWidth) i 0 ≤ 4096
   pub room : size (baseCount job) ≤ length t
+  pub roomLeft : 0 < leftCount job → size (baseCount job) + leftSize (baseCount job) ≤ length t
 
-pub holds : (job : Job) (t : List ℕ) → Ready job t → loop.Holds (elementCount job) (baseCount job) (rubyCount job) job
-holds job t h =
-    let b = base-within job in
-    let r = ruby-within job in
-    let e = element-within job in
+pub clean : {job : Job} {t : List ℕ} → Ready job t → Clean job
+clean y =
     record {
-      most = h .fewElements;
-      kind = e .0;
-      elementBase = e .1;
-      elementRuby = e .2;
-      few = h .few;
-      fewRuby = h .fewRuby;
-      class = b .0;
-      width = b .1;
-      before = b .2;
-      after = b .3;
-      rubyClass = r .0;
-      rubyWidth = r .1;
-      some = h .some;
-      narrow = h .narrow;
-      narrowRuby = h .narrowRuby;
+      few = y .few;
+      fewRuby = y .fewRuby;
+      fewLeft = y .fewLeft;
+      fewElements = y .fewElements;
+      some = y .some;
+      narrow = y .narrow;
+      narrowRuby = y .narrowRuby;
+      narrowLeft = y .narrowLeft;
     }
 
--- the rows of the walk are the job's
-own-rows : (job : Job) (k : ℕ) (es : List Piece) → elementsRows (baseCount job) (rubyCount job) job k es ≡ elementsFaults job k es
-unfolding elementsFaults
-own-rows job k [] = refl
-own-rows job k (e ∷ es) = ap (λ (l : List Refusal). elementFaults job k e ++ l) (own-rows job (suc k) es)
-
-pub own-all : (job : Job) → allRows (baseCount job) (rubyCount job) job (elementCount job) ≡ elementsFaults job 0 (elements job) ++ leftFaults job
-unfolding allRows elements leftFaults
-own-all job = rw (own-rows job 0 (elementsFrom job (elementCount job) 0 0 0 0))
-
 -- the head and the rows of the first k elements are written
-pub record Walking (job : Job) (was t : List ℕ) (k b r u : ℕ) : Type 0 where
+pub record Walking (job : Job) (was t : List ℕ) (k : ℕ) (at : Taken) : Type 0 where
   pub ready : Ready job was
-  pub along : Along (baseCount job) (rubyCount job) job (elementCount job) k b r u
-  pub at : At job k b r u
+  pub along : Along job k at
+  pub place : At job k at
   pub long : length t ≡ length was
   pub head : ratiosAt t ≡ job .ratios
-  pub none : leftsAt t ≡ 0
-  pub rows : All (HasRows job t) (take k (elements job))
+  pub begins : leftsAt t ≡ leftFrom (baseCount job) (leftCount job)
+  pub rows : All (HasRows job t) (each (wordsIn job) (take k (elements job)))
 
-pub walking-first : (job : Job) (was : List ℕ) → Ready job was → let t = headed was (job .ratios) 0 in Walking job t t 0 0 0 0
-walking-first job was ready =
-    let long = length-headed was (job .ratios) 0 in
+again : {job : Job} {was t : List ℕ} → length t ≡ length was → Ready job was → Ready job t
+again e y =
     record {
-      ready =
-          record {
-            house = ready .house;
-            few = ready .few;
-            fewRuby = ready .fewRuby;
-            fewElements = ready .fewElements;
-            some = ready .some;
-            narrow = ready .narrow;
-            narrowRuby = ready .narrowRuby;
-            room = rw long (ready .room);
-          };
-      along = loop.along-first (baseCount job) (rubyCount job) job (elementCount job);
-      at = at-first job;
+      house = y .house;
+      few = y .few;
+      fewRuby = y .fewRuby;
+      fewLeft = y .fewLeft;
+      fewElements = y .fewElements;
+      some = y .some;
+      narrow = y .narrow;
+      narrowRuby = y .narrowRuby;
+      narrowLeft = y .narrowLeft;
+      room = omega (arith, e, y .room);
+      roomLeft = λ h. omega (arith, e, y .roomLeft h);
+    }
+
+pub walking-first : (job : Job) (was : List ℕ) → Ready job was → let t = headed was (job .ratios) (leftFrom (baseCount job) (leftCount job)) in Walking job t t 0 nothing
+walking-first job was ready =
+    let from = leftFrom (baseCount job) (leftCount job) in
+    let w = head-written was (job .ratios) from (omega (arith, ready .room)) in
+    record {
+      ready = again (length-headed was (job .ratios) from) ready;
+      along = loop.along-first job;
+      place = at-first job;
       long = refl;
-      head = head-written was (job .ratios) 0 (omega (arith, ready .room)) .0;
-      none = head-written was (job .ratios) 0 (omega (arith, ready .room)) .1;
+      head = w .0;
+      begins = w .1;
       rows = tt;
     }
 
 -- a walk that goes on from where another stands
-pub walking-here : {job : Job} {was t : List ℕ} {k b r u : ℕ} → Walking job was t k b r u → Walking job t t k b r u
-walking-here {job} {was} {t} q =
-    let y = q .ready in
-    record {
-      ready =
-          record {
-            house = y .house;
-            few = y .few;
-            fewRuby = y .fewRuby;
-            fewElements = y .fewElements;
-            some = y .some;
-            narrow = y .narrow;
-            narrowRuby = y .narrowRuby;
-            room = omega (arith, q .long, y .room);
-          };
-      along = q .along;
-      at = q .at;
-      long = refl;
-      head = q .head;
-      none = q .none;
-      rows = q .rows;
-    }
+pub walking-here : {job : Job} {was t : List ℕ} {k : ℕ} {at : Taken} → Walking job was t k at → Walking job t t k at
+walking-here q =
+    record { ready = again (q .long) (q .ready); along = q .along; place = q .place; long = refl; head = q .head; begins = q .begins; rows = q .rows }
 
-pub walking-from : {job : Job} {was t v : List ℕ} {k b r u l c s w : ℕ} → Walking job was t k b r u → Walking job t v l c s w → Walking job was v l c s w
-walking-from q p = record { ready = q .ready; along = p .along; at = p .at; long = p .long ∙ q .long; head = p .head; none = p .none; rows = p .rows }
+pub walking-from : {job : Job} {was t v : List ℕ} {k l : ℕ} {at on : Taken} → Walking job was t k at → Walking job t v l on → Walking job was v l on
+walking-from q p = record { ready = q .ready; along = p .along; place = p .place; long = p .long ∙ q .long; head = p .head; begins = p .begins; rows = p .rows }
 
-stays : (job : Job) (x : Piece) (was t : List ℕ) → Laid job x was t → (ys : List Piece) → All (HasRows job was) ys → All (λ y. y .base + y .bases ≤ x .base) ys → All (HasRows job t) ys
-stays job x was t l [] a b = tt
-stays job x was t l (y ∷ ys) a b = (λ i h g. l .other i (inl (omega (arith, b .0))) ∙ a .0 i h g, stays job x was t l ys (a .1) (b .1))
+-- the words of an element lie within it
+words-within : (job : Job) (x : Piece) → All (λ y. y .base + y .bases ≤ x .base + x .bases) (wordsIn job x)
+unfolding part
+words-within job x =
+    by-apart job (All (λ y. y .base + y .bases ≤ x .base + x .bases)) x (λ _. all-counted (λ y. y .base + y .bases ≤ x .base + x .bases) (λ i. part job x i 1) 0 (x .bases) (λ j l m. omega arith))
+    (λ _. (omega arith, tt))
 
-module _ (job : Job) (was t : List ℕ) (k b r u : ℕ) (q : Walking job was t k b r u) where
+-- rows that are written stay
+stays : (job : Job) (x : Piece) (was t : List ℕ) → Laid job x was t → ((n : ℕ) → n ≤ x .base → Clear was n) → (ys : List Piece) → All (HasRows job was) ys → All (λ y. y .base + y .bases ≤ x .base) ys →
+    All (HasRows job t) ys
+stays job x was t l c [] a b = tt
+stays job x was t l c (y ∷ ys) a b = (λ i h g. l .other i (inl (omega (arith, b .0))) (c (i + 1) (omega (arith, b .0))) ∙ a .0 i h g, stays job x was t l c ys (a .1) (b .1))
+
+module _ (job : Job) (was t : List ℕ) (k : ℕ) (at : Taken) (q : Walking job was t k at) where
   pub walking-end : elementCount job ≤ k → Holds job t
+  unfolding words
   walking-end h =
       record {
         long = omega (arith, q .long, q .ready .room);
         house = q .head;
-        lefts = q .none;
-        rows = subst (All (HasRows job t)) (take-all k (elements job) (omega (arith, length-elements job))) (q .rows);
+        rows = subst (λ es. All (HasRows job t) (each (wordsIn job) es)) (take-all k (elements job) (omega (arith, length-elements job))) (q .rows);
       }
 
   module _ (h : k < elementCount job) where
     abbrev x : Piece
-    x = element job k b r u
+    x = element job k at
 
-    pub stands : Stands (baseCount job) (rubyCount job) job k b r u
-    stands = loop.stands (baseCount job) (rubyCount job) job (elementCount job) k b r u h (holds job was (q .ready)) (q .along)
+    pub stands : Stands job k at
+    stands = record { clean = clean (q .ready); index = h; within = q .along .within }
 
-    pub standing : (getD (job .kind) k 0 ≡ 80 → ⊥) → Standing (baseCount job) (rubyCount job) job k b r u t
-    standing e = record { stands = stands; house = q .ready .house; flags = base-within job .4; room = omega (arith, q .long, q .ready .room); none = q .none; ruby = e }
+    pub standing : (getD (job .kind) k 0 ≡ 80 → getD (job .leftKind) k 0 ≡ 78 → ⊥) → Standing job k at t
+    standing e =
+        record {
+          stands = stands;
+          house = q .ready .house;
+          room = omega (arith, q .long, q .ready .room);
+          begins = q .begins;
+          leftRoom = λ s. let e = from-some (baseCount job) (leftCount job) s in record { behind = omega (arith, q .begins, e); room = omega (arith, q .begins, e, q .long, q .ready .roomLeft s) };
+          ruby = e;
+        }
 
     -- its rest is the element and the rest after it
-    cons : drop k (elements job) ≡ x ∷ elementsFrom job (elementCount job - (k + 1)) (k + 1) (b + x .bases) (r + x .rubies) (u + takesRuns (x .form) (x .bases))
+    cons : drop k (elements job) ≡ x ∷ elementsFrom job (elementCount job - (k + 1)) (k + 1) (past at x)
     unfolding elementsFrom
-    cons = q .at .rest ∙ go (elementCount job - k) (elementCount job - (k + 1)) (omega arith)
+    cons = q .place .rest ∙ go (elementCount job - k) (elementCount job - (k + 1)) (omega arith)
       where
-        go : (m n : ℕ) → m ≡ suc n → elementsFrom job m k b r u ≡ x ∷ elementsFrom job n (k + 1) (b + x .bases) (r + x .rubies) (u + takesRuns (x .form) (x .bases))
+        go : (m n : ℕ) → m ≡ suc n → elementsFrom job m k at ≡ x ∷ elementsFrom job n (k + 1) (past at x)
         go m n e = rw (e, add-one)
 
-    base-is : element job k b r u .base ≡ b
+    base-is : x .base ≡ at .base
     unfolding element
     base-is = refl
 
     -- one element more
-    pub walking-next : (v : List ℕ) → Laid job (element job k b r u) t v →
-        Along (baseCount job) (rubyCount job) job (elementCount job) (k + 1) (b + x .bases) (r + x .rubies) (u + takesRuns (x .form) (x .bases)) →
-        Walking job was v (k + 1) (b + x .bases) (r + x .rubies) (u + takesRuns (x .form) (x .bases))
+    pub walking-next : (v : List ℕ) → Laid job x t v → Along job (k + 1) (past at x) → Walking job was v (k + 1) (past at x)
     walking-next v l along =
         record {
           ready = q .ready;
           along = along;
-          at = at-next job k b r u h (q .at);
+          place = at-next job k at h (q .place);
           long = l .long ∙ q .long;
           head = l .head ∙ q .head;
-          none = l .lefts ∙ q .none;
-          rows = subst (All (HasRows job v)) (sym more) (all-append (HasRows job v) (take k (elements job)) (x ∷ []) (stays job x t v l (take k (elements job)) (q .rows) ends-before) (l .rows, tt));
+          begins = l .lefts ∙ q .begins;
+          rows =
+              subst (λ es. All (HasRows job v) (each (wordsIn job) es)) (sym more)
+              (subst (All (HasRows job v)) (sym (each-append (wordsIn job) (take k (elements job)) (x ∷ [])))
+              (all-append (HasRows job v) (each (wordsIn job) (take k (elements job))) (wordsIn job x ++ [])
+              (stays job x t v l clear (each (wordsIn job) (take k (elements job))) (q .rows) ends-before) (all-append (HasRows job v) (wordsIn job x) [] (l .rows) tt)));
         }
       where
         more : take (k + 1) (elements job) ≡ take k (elements job) ++ (x ∷ [])
         more = take-add k 1 (elements job) ∙ ap (λ es. take k (elements job) ++ take 1 es) cons
 
-        ends-before : All (λ y. y .base + y .bases ≤ x .base) (take k (elements job))
-        ends-before = rw base-is (tiled-ends (λ p. p .base) (λ p. p .bases) 0 b (take k (elements job)) (q .at .base))
+        clear : (n : ℕ) → n ≤ x .base → Clear t n
+        clear n m = clear-upto (baseCount job) (leftCount job) n t (q .begins) (omega (arith, base-is, q .along .within .base))
 
-    -- a P
-    module _ (plain : getD (job .kind) k 0 ≡ 80) (left : b < baseCount job) where
-      pub plain-ready : PlainReady b r (job .class) (job .width) (job .before) (job .after) (job .flag) t
-      plain-ready =
-          let w = base-within job in
-          let y = q .ready in
+        ends-before : All (λ y. y .base + y .bases ≤ x .base) (each (wordsIn job) (take k (elements job)))
+        ends-before =
+            all-each (λ y. y .base + y .bases ≤ at .base) (λ y. y .base + y .bases ≤ x .base) (wordsIn job) (take k (elements job))
+            (λ y m. all-map (λ z. z .base + z .bases ≤ y .base + y .bases) (λ z. z .base + z .bases ≤ x .base) (wordsIn job y) (λ z n. omega (arith, base-is)) (words-within job y))
+            (tiled-ends (λ p. p .base) (λ p. p .bases) 0 (at .base) (take k (elements job)) (q .place .base))
+
+    -- a P without a left reading: its left row says where the next left characters begin
+    module _ (plain : getD (job .kind) k 0 ≡ 80) (bare : getD (job .leftKind) k 0 ≡ 78) (left : at .base < baseCount job) where
+      pub bare-ready : BareReady (at .left) (at .base) (at .base + 1) (leftCount job) t
+      bare-ready =
+          let c = q .ready in
+          let w = q .along .within in
           record {
-            few = omega (arith, y .few);
-            fewRuby = omega (arith, q .along .takenRuby, y .fewRuby);
-            class = omega (arith, w .0);
-            width = omega (arith, w .1);
-            before = omega (arith, w .2);
-            after = omega (arith, w .3);
-            flag = omega (arith, w .4);
-            narrow = y .narrow b left;
-            held = omega (arith, q .long, y .room);
+            order = omega arith;
+            few = omega (arith, c .few);
+            fewLeft = omega (arith, w .left, c .fewLeft);
+            room =
+                λ s. let e = from-some (baseCount job) (leftCount job) s in
+                record { behind = omega (arith, q .begins, e); room = omega (arith, q .begins, e, q .long, c .roomLeft s) };
+            none = λ z. (q .begins ∙ from-none (baseCount job) (leftCount job) z, omega (arith, w .left));
           }
 
-      abbrev alone : Piece
-      alone = record { form = P; base = b; bases = 1; ruby = r; rubies = 0; run = u }
+      module _ (mid : List ℕ) (b : Bared (at .left) (at .base) (at .base + 1) t mid) where
+        pub plain-ready : PlainReady (at .base) (at .ruby) (job .class) (job .width) (job .before) (job .after) (job .flag) mid
+        plain-ready =
+            let w = base-within job in
+            let c = q .ready in
+            record {
+              few = omega (arith, c .few);
+              fewRuby = omega (arith, q .along .within .ruby, c .fewRuby);
+              class = omega (arith, w .0);
+              width = omega (arith, w .1);
+              before = omega (arith, w .2);
+              after = omega (arith, w .3);
+              flag = omega (arith, w .4);
+              narrow = c .narrow (at .base) left;
+              held = omega (arith, b .long, q .long, c .room);
+            }
 
-      plain-row : plainRow (job .profile) b r (job .em) (job .class) (job .width) (job .before) (job .after) (job .flag) ≡ rowOf job alone b
-      unfolding rowOf word.wordOf
-      plain-row = rw (one b, less b, add-zero (getD (job .width) b 0), add-zero r)
-        where
-          one : (b : ℕ) → b + 1 - b ≡ 1
-          one b = omega arith
+        abbrev row : Cell
+        row = plainRow (job .profile) (at .base) (at .ruby) (job .em) (job .class) (job .width) (job .before) (job .after) (job .flag)
 
-          less : (b : ℕ) → b + 1 - 1 ≡ b
-          less b = omega arith
+        abbrev y : Piece
+        y = alone P 1 0 at
 
-      laid : (v : List ℕ) → Puts t b (plainRow (job .profile) b r (job .em) (job .class) (job .width) (job .before) (job .after) (job .flag)) v → Laid job alone t v
-      laid v p =
-          record {
-            long = p .long;
-            head = p .head;
-            lefts = p .lefts;
-            rows =
-                λ i l m. let e : i ≡ b = omega arith in
-                ap (cellAt v) e ∙ p .here ∙ ap (beside (plainRow (job .profile) b r (job .em) (job .class) (job .width) (job .before) (job .after) (job .flag))) (no-left v b (p .lefts ∙ q .none))
-                ∙ ap (λ c. beside c noLeft) (plain-row ∙ ap (rowOf job alone) (sym e)) ∙ row-alone job alone i;
-            other = λ i z. p .other (none-behind t b (q .none)) i (λ e. not-here i e z);
-          }
-        where
-          not-here : (i : ℕ) → i ≡ b → (i < b) ⊎ (b + 1 ≤ i) → ⊥
-          not-here i e (inl z) = omega arith
-          not-here i e (inr z) = omega arith
+        plain-row : (i : ℕ) → i ≡ at .base → beside row (bareRow (at .left)) ≡ rowOf job y i
+        unfolding rowOf sides.wordOf word.wordOf cuts
+        plain-row i e = rw (e, one (at .base), less (at .base), add-zero (getD (job .width) (at .base) 0), add-zero (at .ruby), add-zero (at .left))
+          where
+            one : (b : ℕ) → b + 1 - b ≡ 1
+            one b = omega arith
 
-      pub walking-plain : (v : List ℕ) → Puts t b (plainRow (job .profile) b r (job .em) (job .class) (job .width) (job .before) (job .after) (job .flag)) v → Walking job was v (k + 1) (b + 1) r u
-      walking-plain v p =
-          let e = loop.piece (baseCount job) (rubyCount job) job k b r u plain in
-          let along = loop.along-plain (baseCount job) (rubyCount job) job k b r u plain (elementCount job) h stands left (q .along) in
-          let bases : x .bases ≡ 1 = ap (λ z. z .bases) e in
-          let rubies : r + x .rubies ≡ r = ap (λ z. r + z .rubies) e ∙ add-zero r in
-          let runs : u + takesRuns (x .form) (x .bases) ≡ u = ap (λ z. u + takesRuns (z .form) (z .bases)) e ∙ add-zero u in
-          let one = ap (λ n. b + n) bases in
-          three (Walking job was v (k + 1)) one rubies runs
-          (walking-next v (subst (λ z. Laid job z t v) (sym e) (laid v p))
-          (three (Along (baseCount job) (rubyCount job) job (elementCount job) (k + 1)) (sym one) (sym rubies) (sym runs) along))
+            less : (b : ℕ) → b + 1 - 1 ≡ b
+            less b = omega arith
+
+        laid : (v : List ℕ) → Puts mid (at .base) row v → Laid job y t v
+        unfolding wordsIn
+        laid v p =
+            let w =
+            over-bared (λ i. row) (at .left) (at .base) (at .base + 1) t mid v (clear-upto (baseCount job) (leftCount job) (at .base + 1) t (q .begins) (omega arith)) b
+            (filled-one row (at .base) (at .base + 1) mid v refl p) in
+            record { long = w .long; head = w .head; lefts = w .lefts; rows = (λ i a b. w .here i a b ∙ plain-row i (omega arith), tt); other = w .other }
+
+        pub walking-plain : (v : List ℕ) → Puts mid (at .base) row v → Walking job was v (k + 1) (pastPlain at)
+        walking-plain v p =
+            let e = loop.piece job k at plain bare in
+            let on = ap (past at) e ∙ loop.past-plain job k at plain bare in
+            subst (Walking job was v (k + 1)) on
+            (walking-next v (subst (λ z. Laid job z t v) (sym e) (laid v p)) (subst (Along job (k + 1)) (sym on) (loop.along-plain job k at plain bare stands left (q .along))))

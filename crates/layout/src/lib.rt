@@ -1,29 +1,34 @@
-// The table of a job's lists: the house ratios at its head, and a row for each base character (`rowOf` of `join`). It goes over the elements once, in the order of the
-// refusal list from number 5 on: an element is counted, its characters have to be there, level one's answer is taken apart, and its rows are written. Behind it nobody
-// sees the lists. It relies on `door` for the counts, on `word` for level one, on `class` for depths and kinds, and on `cells` for rows.
+// The table of a job's lists: the house ratios at its head, a row for each base character, and in a job with left characters a left row for each (`rowOf` of `join`). It goes over
+// the elements once, in the order of the refusal list from number 5 on: an element is counted, its left reading has to be one that it takes, its characters have to be there,
+// level one's answer is taken apart, and its rows are written. Elements without a left reading have ways of their own, which leave left rows as they are (`left.rt` has these and the others).
+// Behind it nobody sees the lists. It relies on `door` for the counts, on `word` for level one, on `class` for depths and kinds, and on `cells` for rows.
 ghost use mathlib.Core.Path.{_≡_};
-ghost use mathlib.Core.Bool.{true, false, _&&_};
-ghost use mathlib.Core.List.{[], _++_};
+ghost use mathlib.Core.Bool.{_&&_};
+ghost use mathlib.Core.List.{[]};
 ghost use Prim.Native.Nat.{_+_, _-_, _*_, _≤_, _<_};
 ghost use Rattle.basics.specs.Lists.{sum};
 ghost use lib.Dec.{ltb, eqb};
 ghost use lib.ListN.{length, getD};
 ghost use Rattle.spread.specs.Ratio.{ratiosOf};
 ghost use Rattle.word.specs.declared.Form.the-variants as Form;
-ghost use Rattle.word.specs.Given.{isJ};
 ghost use Rattle.word.specs.declared.Answer.the-variants.{Refused};
 ghost use Rattle.word.specs.Answer.{answer};
 ghost use Rattle.refusal.specs.declared.Refusal as refusals;
-ghost use Rattle.door.specs.Job.{jobOf, baseCount, rubyCount, elements, entries, given};
-ghost use Rattle.door.specs.Refusals.{elementsFaults, leftFaults};
+ghost use Rattle.door.specs.Job.{jobOf, baseCount, rubyCount, leftCount, entries, given};
+ghost use Rattle.door.specs.Loop.{partFaults};
 ghost use Rattle.door.specs.Verdict.{verdict};
 ghost use Rattle.door.specs.declared.Checked.the-variants.{Passed};
 ghost use Rattle.door.specs.declared.Step.the-variants.{Stop};
 ghost use Rattle.cells.specs.Cells.{size};
 ghost use Rattle.cells.specs.Put.{Puts};
-ghost use Rattle.join.specs.Rows.{none, rowBy, endsBehind, Holds};
-ghost use Rattle.layout.specs.Lay.{wordRow, runRow, singleRow, pastRun, runsOnly, wordsOnly, Filled, HasRuns, WordReady, JukugoReady, Judged, PlainReady, plainRow, Standing, Stepped};
+ghost use Rattle.join.specs.Rows.{none, Holds};
+ghost use Rattle.layout.specs.Table.{Filled};
+ghost use Rattle.layout.specs.Runs.{wordsOnly, runsOnly, HasRuns, jukugoRow, runRow, singleRow, pastRun};
+ghost use Rattle.layout.specs.Lay.{wordRow, WordReady, JukugoReady, AloneReady, aloneRow, flagged, Judged, PlainReady, plainRow, Standing, Stepped};
 ghost use Rattle.layout.specs.Walk.{Ready};
+
+mod left;
+
 use refusal::Refusal;
 
 // No word: a J of two characters or more is measured by its sums, and by parts.
@@ -148,8 +153,8 @@ fn put_runs(
     rwidth: &[u32],
     runs: &[u32],
 )
-    requires { ⌜ (isJ (p .form) ≡ true) × (1 < p .bases) × HasRuns (runsOnly em (now rclass) (now rwidth) (now runs)) p (now t) ⌝ }
-    ensures { λ _. ⌜ Filled (rowBy (runsOnly em (now (rclass .entry)) (now (rwidth .entry)) (now (runs .entry))) p none ends 0 0) (p .base) (p .base + p .bases) (now (t .entry)) (now (t .exit)) ⌝ }
+    requires { ⌜ (1 < p .bases) × HasRuns (runsOnly em (now rclass) (now rwidth) (now runs)) p (now t) ⌝ }
+    ensures { λ _. ⌜ Filled (jukugoRow (runsOnly em (now (rclass .entry)) (now (rwidth .entry)) (now (runs .entry))) p none ends) (p .base) (p .base + p .bases) (now (t .entry)) (now (t .exit)) ⌝ }
 {
     let n = p.base + p.bases;
     let mut at = Cursor {
@@ -212,6 +217,27 @@ fn put_single(
     );
 }
 
+// The rows of a J that is laid by runs.
+fn put_jukugo(
+    t: &mut [u32],
+    p: door::Piece,
+    w: word::Word,
+    ends: bool,
+    em: u32,
+    rclass: &[u32],
+    rwidth: &[u32],
+    runs: &[u32],
+)
+    requires { ⌜ (0 < p .bases) × HasRuns (runsOnly em (now rclass) (now rwidth) (now runs)) p (now t) ⌝ }
+    ensures { λ _. ⌜ Filled (jukugoRow (runsOnly em (now (rclass .entry)) (now (rwidth .entry)) (now (runs .entry))) p w ends) (p .base) (p .base + p .bases) (now (t .entry)) (now (t .exit)) ⌝ }
+{
+    if p.bases == 1 {
+        put_single(t, p, w, ends, rclass, rwidth, runs);
+    } else {
+        put_runs(t, p, ends, em, rclass, rwidth, runs);
+    }
+}
+
 // The row of a P, base character b, before which r ruby characters were taken.
 fn put_plain(
     t: &mut [u32],
@@ -257,13 +283,15 @@ fn put_plain(
     );
 }
 
-// There is an element k of these, and it is a P.
-fn is_plain(k: usize, elements: usize, kind: &[u32]) -> bool
-    requires { ⌜ (k ≤ 4096) × (elements ≤ length (now kind)) ⌝ }
-    ensures { λ t. ⌜ t ≡ (ltb k elements && eqb (getD (now (kind .entry)) k 0) 80) ⌝ }
+// There is an element k of these, and it is a P without a left reading.
+fn is_plain(k: usize, elements: usize, kind: &[u32], lkind: &[u32]) -> bool
+    requires { ⌜ (k ≤ 4096) × (elements ≤ length (now kind)) × (elements ≤ length (now lkind)) ⌝ }
+    ensures { λ t. ⌜ t ≡ (ltb k elements && (eqb (getD (now (kind .entry)) k 0) 80 && eqb (getD (now (lkind .entry)) k 0) 78)) ⌝ }
 {
     if k < elements {
-        return kind[k] == door::PLAIN;
+        if kind[k] == door::PLAIN {
+            return lkind[k] == door::LEFT_NONE;
+        }
     }
     false
 }
@@ -301,7 +329,7 @@ fn lay_mono(
     rwidth: &[u32],
 ) -> door::Step
     requires { let job = wordsOnly (ratiosOf ratios) em [] (now width) (now before) (now after) (now flag) [] (now rwidth) [] in ⌜ (p .bases ≡ 1) × WordReady job p (now t) ⌝ }
-    ensures { λ s. let job = wordsOnly (ratiosOf ratios) em [] (now (width .entry)) (now (before .entry)) (now (after .entry)) (now (flag .entry)) [] (now (rwidth .entry)) [] in ⌜ Judged (answer Form.M place (given job p)) (λ w. wordRow p w (endsBehind job p) 0 0) p (now (t .entry)) (now (t .exit)) s ⌝ }
+    ensures { λ s. let job = wordsOnly (ratiosOf ratios) em [] (now (width .entry)) (now (before .entry)) (now (after .entry)) (now (flag .entry)) [] (now (rwidth .entry)) [] in ⌜ Judged (answer Form.M place (given job p)) (λ w. Filled (wordRow p w (flagged job p) 0 0) (p .base) (p .base + p .bases) (now (t .entry)) (now (t .exit))) p (now (t .entry)) (now (t .exit)) s ⌝ }
 {
     let b = p.base;
     let e = b + 1;
@@ -340,7 +368,7 @@ fn lay_group(
     rwidth: &[u32],
 ) -> door::Step
     requires { let job = wordsOnly (ratiosOf ratios) em (now class) (now width) (now before) (now after) (now flag) (now rclass) (now rwidth) [] in ⌜ (p .base + p .bases ≤ length (now class)) × (p .ruby + p .rubies ≤ length (now rclass)) × WordReady job p (now t) ⌝ }
-    ensures { λ s. let job = wordsOnly (ratiosOf ratios) em (now (class .entry)) (now (width .entry)) (now (before .entry)) (now (after .entry)) (now (flag .entry)) (now (rclass .entry)) (now (rwidth .entry)) [] in ⌜ Judged (answer Form.G place (given job p)) (λ w. wordRow p w (endsBehind job p) 0 0) p (now (t .entry)) (now (t .exit)) s ⌝ }
+    ensures { λ s. let job = wordsOnly (ratiosOf ratios) em (now (class .entry)) (now (width .entry)) (now (before .entry)) (now (after .entry)) (now (flag .entry)) (now (rclass .entry)) (now (rwidth .entry)) [] in ⌜ Judged (answer Form.G place (given job p)) (λ w. Filled (wordRow p w (flagged job p) 0 0) (p .base) (p .base + p .bases) (now (t .entry)) (now (t .exit))) p (now (t .entry)) (now (t .exit)) s ⌝ }
 {
     let b = p.base;
     let e = b + p.bases;
@@ -382,7 +410,7 @@ fn lay_jukugo(
     runs: &[u32],
 ) -> door::Step
     requires { let job = wordsOnly (ratiosOf ratios) em (now class) (now width) (now before) (now after) (now flag) (now rclass) (now rwidth) (now runs) in ⌜ JukugoReady job p (now t) ⌝ }
-    ensures { λ s. let job = wordsOnly (ratiosOf ratios) em (now (class .entry)) (now (width .entry)) (now (before .entry)) (now (after .entry)) (now (flag .entry)) (now (rclass .entry)) (now (rwidth .entry)) (now (runs .entry)) in ⌜ Judged (answer Form.J place (given job p)) (λ w. rowBy (runsOnly em (now (rclass .entry)) (now (rwidth .entry)) (now (runs .entry))) p w (endsBehind job p) 0 0) p (now (t .entry)) (now (t .exit)) s ⌝ }
+    ensures { λ s. let job = wordsOnly (ratiosOf ratios) em (now (class .entry)) (now (width .entry)) (now (before .entry)) (now (after .entry)) (now (flag .entry)) (now (rclass .entry)) (now (rwidth .entry)) (now (runs .entry)) in ⌜ Judged (answer Form.J place (given job p)) (λ w. Filled (jukugoRow (runsOnly em (now (rclass .entry)) (now (rwidth .entry)) (now (runs .entry))) p w (flagged job p)) (p .base) (p .base + p .bases) (now (t .entry)) (now (t .exit))) p (now (t .entry)) (now (t .exit)) s ⌝ }
 {
     let b = p.base;
     let e = b + p.bases;
@@ -406,27 +434,17 @@ fn lay_jukugo(
         return refused(place, answer);
     };
     let ends = ends_behind(p, flag);
-    if p.bases == 1 {
-        put_single(t, p, w, ends, rclass, rwidth, runs);
-    } else {
-        put_runs(t, p, ends, em, rclass, rwidth, runs);
-    }
+    put_jukugo(t, p, w, ends, em, rclass, rwidth, runs);
     door::Step::Next(p)
 }
 
-// Element k, a word with ruby, those before it having taken b base characters, r ruby characters and u runs, of `bases` and `rubies` in all: numbers 5, 6, and 7 to 10 as
-// level one gives them, or its rows.
-fn lay_word(
+// An element without a left reading, a word with ruby whose counts and characters are there: numbers 7 to 10 as level one gives them, or its rows. `place` is its index.
+fn lay_alone(
     t: &mut [u32],
-    k: usize,
-    b: usize,
-    r: usize,
-    u: usize,
-    bases: usize,
-    rubies: usize,
+    place: u32,
+    p: door::Piece,
     em: u32,
     ratios: [[u32; 3]; 2],
-    profile: u32,
     class: &[u32],
     width: &[u32],
     before: &[u32],
@@ -434,22 +452,11 @@ fn lay_word(
     flag: &[u32],
     rclass: &[u32],
     rwidth: &[u32],
-    kind: &[u32],
-    ebase: &[u32],
-    eruby: &[u32],
     runs: &[u32],
 ) -> door::Step
-    requires { let job = jobOf em 0 ratios profile (now class) (now width) (now before) (now after) (now flag) (now rclass) (now rwidth) (now kind) (now ebase) (now eruby) (now runs) in ⌜ Standing bases rubies job k b r u (now t) ⌝ }
-    ensures { λ s. let job = jobOf em 0 ratios profile (now (class .entry)) (now (width .entry)) (now (before .entry)) (now (after .entry)) (now (flag .entry)) (now (rclass .entry)) (now (rwidth .entry)) (now (kind .entry)) (now (ebase .entry)) (now (eruby .entry)) (now (runs .entry)) in ⌜ Stepped bases rubies job k b r u (now (t .entry)) (now (t .exit)) s ⌝ }
+    requires { let job = wordsOnly (ratiosOf ratios) em (now class) (now width) (now before) (now after) (now flag) (now rclass) (now rwidth) (now runs) in ⌜ AloneReady job p (now t) ⌝ }
+    ensures { λ s. let job = wordsOnly (ratiosOf ratios) em (now (class .entry)) (now (width .entry)) (now (before .entry)) (now (after .entry)) (now (flag .entry)) (now (rclass .entry)) (now (rwidth .entry)) (now (runs .entry)) in ⌜ Judged (answer (p .form) place (given job p)) (λ w. Filled (aloneRow job p w (flagged job p)) (p .base) (p .base + p .bases) (now (t .entry)) (now (t .exit))) p (now (t .entry)) (now (t .exit)) s ⌝ }
 {
-    let place = k as u32;
-    let counted = door::count_element(kind[k], ebase[k], eruby[k], b, r, u, runs);
-    let door::Counted::Is(p) = counted else {
-        return door::Step::Stop(Refusal::Element(place));
-    };
-    if door::runs_out(p, bases, rubies) {
-        return door::Step::Stop(Refusal::Supply(place));
-    }
     let form = p.form;
     match form {
         word::Form::P => door::Step::Stop(Refusal::Element(place)), // unreachable: a P is laid by `put_plain`
@@ -486,6 +493,96 @@ fn lay_word(
     }
 }
 
+// Element k, with ruby or with a left kind, behind what those before it have taken, of `bases`, `rubies` and `lefts` in all: numbers 5, 16, 6, and 7 to 10 as level one gives them, or
+// its rows.
+fn lay_word(
+    t: &mut [u32],
+    k: usize,
+    at: door::Taken,
+    bases: usize,
+    rubies: usize,
+    lefts: usize,
+    em: u32,
+    ratios: [[u32; 3]; 2],
+    profile: u32,
+    class: &[u32],
+    width: &[u32],
+    before: &[u32],
+    after: &[u32],
+    flag: &[u32],
+    rclass: &[u32],
+    rwidth: &[u32],
+    lclass: &[u32],
+    lwidth: &[u32],
+    kind: &[u32],
+    ebase: &[u32],
+    eruby: &[u32],
+    lkind: &[u32],
+    eleft: &[u32],
+    runs: &[u32],
+    lruns: &[u32],
+) -> door::Step
+    requires { let job = jobOf em 0 ratios profile (now class) (now width) (now before) (now after) (now flag) (now rclass) (now rwidth) (now lclass) (now lwidth) (now kind) (now ebase) (now eruby) (now lkind) (now eleft) (now runs) (now lruns) in ⌜ (bases ≡ baseCount job) × (rubies ≡ rubyCount job) × (lefts ≡ leftCount job) × Standing job k at (now t) ⌝ }
+    ensures { λ s. let job = jobOf em 0 ratios profile (now (class .entry)) (now (width .entry)) (now (before .entry)) (now (after .entry)) (now (flag .entry)) (now (rclass .entry)) (now (rwidth .entry)) (now (lclass .entry)) (now (lwidth .entry)) (now (kind .entry)) (now (ebase .entry)) (now (eruby .entry)) (now (lkind .entry)) (now (eleft .entry)) (now (runs .entry)) (now (lruns .entry)) in ⌜ Stepped job k at (now (t .entry)) (now (t .exit)) s ⌝ }
+{
+    let place = k as u32;
+    let counted = door::count_element(
+        kind[k],
+        ebase[k],
+        eruby[k],
+        lkind[k],
+        eleft[k],
+        at,
+        runs,
+        lruns,
+    );
+    let door::Counted::Is(p) = counted else {
+        return door::Step::Stop(Refusal::Element(place));
+    };
+    if !door::takes_left(p) {
+        return door::Step::Stop(Refusal::LeftKind(place));
+    }
+    if door::runs_out(p, bases, rubies, lefts) {
+        return door::Step::Stop(Refusal::Supply(place));
+    }
+    if 0 < p.lefts {
+        return left::lay_left(
+            t,
+            place,
+            p,
+            ratios,
+            em,
+            class,
+            width,
+            before,
+            after,
+            flag,
+            rclass,
+            rwidth,
+            runs,
+            lclass,
+            lwidth,
+            lruns,
+        );
+    }
+    left::put_bare(t, p.base, p.base + p.bases, p.left, lefts);
+    lay_alone(
+        t,
+        place,
+        p,
+        em,
+        ratios,
+        class,
+        width,
+        before,
+        after,
+        flag,
+        rclass,
+        rwidth,
+        runs,
+    )
+}
+
 // The head of the table and the rows of a job's elements, or the first of their refusals; characters have passed numbers 3 and 4.
 pub fn layout(
     t: &mut [u32],
@@ -499,31 +596,53 @@ pub fn layout(
     flag: &[u32],
     rclass: &[u32],
     rwidth: &[u32],
+    lclass: &[u32],
+    lwidth: &[u32],
     kind: &[u32],
     ebase: &[u32],
     eruby: &[u32],
+    lkind: &[u32],
+    eleft: &[u32],
     runs: &[u32],
+    lruns: &[u32],
 ) -> door::Checked
-    requires { let job = jobOf em 0 ratios profile (now class) (now width) (now before) (now after) (now flag) (now rclass) (now rwidth) (now kind) (now ebase) (now eruby) (now runs) in ⌜ Ready job (now t) ⌝ }
-    ensures { λ c. let job = jobOf em 0 ratios profile (now (class .entry)) (now (width .entry)) (now (before .entry)) (now (after .entry)) (now (flag .entry)) (now (rclass .entry)) (now (rwidth .entry)) (now (kind .entry)) (now (ebase .entry)) (now (eruby .entry)) (now (runs .entry)) in ⌜ (c ≡ verdict (elementsFaults job 0 (elements job) ++ leftFaults job)) × (c ≡ Passed → Holds job (now (t .exit))) ⌝ }
+    requires { let job = jobOf em 0 ratios profile (now class) (now width) (now before) (now after) (now flag) (now rclass) (now rwidth) (now lclass) (now lwidth) (now kind) (now ebase) (now eruby) (now lkind) (now eleft) (now runs) (now lruns) in ⌜ Ready job (now t) ⌝ }
+    ensures { λ c. let job = jobOf em 0 ratios profile (now (class .entry)) (now (width .entry)) (now (before .entry)) (now (after .entry)) (now (flag .entry)) (now (rclass .entry)) (now (rwidth .entry)) (now (lclass .entry)) (now (lwidth .entry)) (now (kind .entry)) (now (ebase .entry)) (now (eruby .entry)) (now (lkind .entry)) (now (eleft .entry)) (now (runs .entry)) (now (lruns .entry)) in ⌜ (c ≡ verdict (partFaults job)) × (c ≡ Passed → Holds job (now (t .exit))) ⌝ }
 {
-    cells::put_head(t, ratios, 0);
-    let elements = door::element_count(kind, ebase, eruby);
+    let elements = door::element_count(kind, ebase, eruby, lkind, eleft);
     let bases = door::base_count(class, width, before, after, flag);
     let rubies = door::ruby_count(rclass, rwidth);
+    let lefts = door::left_count(lclass, lwidth);
+    cells::put_head(t, ratios, left::left_begins(bases, lefts));
     let mut k: usize = 0;
-    let mut b: usize = 0;
-    let mut r: usize = 0;
-    let mut u: usize = 0;
+    let mut at = door::Taken {
+        base: 0,
+        ruby: 0,
+        run: 0,
+        left: 0,
+        leftrun: 0,
+    };
     while k < elements {
-        if kind[k] == door::PLAIN {
+        if is_plain(k, elements, kind, lkind) {
             // A loop of their own for the P of a text: most have a P next to them, and its lists are then at hand.
-            while is_plain(k, elements, kind) {
-                if bases <= b {
+            while is_plain(k, elements, kind, lkind) {
+                if bases <= at.base {
                     return door::Checked::Refused(Refusal::Supply(k as u32));
                 }
-                put_plain(t, b, r, em, profile, class, width, before, after, flag);
-                b += 1;
+                left::put_bare(t, at.base, at.base + 1, at.left, lefts);
+                put_plain(
+                    t,
+                    at.base,
+                    at.ruby,
+                    em,
+                    profile,
+                    class,
+                    width,
+                    before,
+                    after,
+                    flag,
+                );
+                at.base += 1;
                 k += 1;
             }
             continue;
@@ -531,11 +650,10 @@ pub fn layout(
         match lay_word(
             t,
             k,
-            b,
-            r,
-            u,
+            at,
             bases,
             rubies,
+            lefts,
             em,
             ratios,
             profile,
@@ -546,21 +664,24 @@ pub fn layout(
             flag,
             rclass,
             rwidth,
+            lclass,
+            lwidth,
             kind,
             ebase,
             eruby,
+            lkind,
+            eleft,
             runs,
+            lruns,
         ) {
             door::Step::Stop(why) => return door::Checked::Refused(why),
             door::Step::Next(p) => {
-                b += p.bases;
-                r += p.rubies;
-                u = door::runs_end(p);
+                at = door::past(at, p);
                 k += 1;
             }
         }
     }
-    if door::left_over(b, r, bases, rubies) {
+    if door::left_over(at, bases, rubies, lefts) {
         return door::Checked::Refused(Refusal::Supply(elements as u32));
     }
     door::Checked::Passed

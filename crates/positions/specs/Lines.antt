@@ -1,5 +1,5 @@
 -- All lines, one after the other, and their ends.
-use mathlib.Core.Path.{_≡_, refl, sym, ap, ap₂, _∙_, subst}
+use mathlib.Core.Path.{_≡_, refl, sym, ap, _∙_, subst}
 use mathlib.Core.Bool.{true}
 use mathlib.Core.Logic.{inl, inr}
 use mathlib.Core.List.{List, [], _∷_, _++_}
@@ -10,16 +10,18 @@ use native.Mathlib.Decide.{decLt}
 use lib.ListN.{length, getD, set, take, drop, length-set, length-append, drop-of-length-le}
 use lib.Seq.{sets, length-sets, drop-cons, getD-take, length-take-le}
 use Rattle.basics.specs.Laws.{sets-append}
+use Rattle.line.specs.declared.Side.{Side}
+use Rattle.line.specs.declared.Side.the-variants.{Right, Left}
 use Rattle.line.specs.Setting.{start}
 use Rattle.cells.specs.Cells.{cellAt, mayEnd}
-use Rattle.positions.specs.Positions.{Sheet, over, baseOf, rubyOf, byLine}
+use Rattle.positions.specs.Positions.{Sheet, over, first, baseOf, sideOf, byLine}
 use Rattle.positions.specs.Lists.{sets-over, sets-any}
-use Rattle.positions.specs.Ready.{Begins, Writable, LineReady, Chained, LinesReady}
+use Rattle.positions.specs.Ready.{Begins, pick, Writable, LineReady, Chained, LinesReady}
 use Rattle.positions.specs.Walk.{begins-behind, Counted, counted}
 
 -- What a line adds, and all lines from one on.
-module _ {g : Sheet} {n m : ℕ} (table : Writable g n m) where
-  counted-line : (s e : ℕ) → e ≤ n → mayEnd (g .t) n e ≡ true → Begins (g .t) s → Counted g n m e (e - s) start s
+module _ {g : Sheet} {n m l : ℕ} (table : Writable g n m l) where
+  counted-line : (s e : ℕ) → e ≤ n → mayEnd (g .t) n e ≡ true → Begins (g .t) s → Counted g n m l e (e - s) start s
   counted-line s e within permits begins = counted table e within permits (e - s) start s (omega arith) (λ _. begins)
 
   module _ (s e : ℕ) (ahead : s < e) (within : e ≤ n) (permits : mayEnd (g .t) n e ≡ true) (begins : Begins (g .t) s) where
@@ -27,72 +29,93 @@ module _ {g : Sheet} {n m : ℕ} (table : Writable g n m) where
     unfolding baseOf
     next-base = omega (arith, counted-line s e within permits begins .long)
 
-    pub next-ruby : e < n → cellAt (g .t) s .ruby + length (rubyOf g s e) ≡ cellAt (g .t) e .ruby
-    unfolding rubyOf
-    next-ruby h = counted-line s e within permits begins .place (omega arith) h
+    pub next-side : (side : Side) → e < n → first side (g .t) s + length (sideOf side g s e) ≡ first side (g .t) e
+    unfolding sideOf
+    next-side side h = counted-line s e within permits begins .place side (omega arith) h
 
-    pub room-ruby : cellAt (g .t) s .ruby + length (rubyOf g s e) ≤ m
-    unfolding rubyOf
-    room-ruby = counted-line s e within permits begins .short ahead
+    pub room-side : (side : Side) → first side (g .t) s + length (sideOf side g s e) ≤ pick m l side
+    unfolding sideOf
+    room-side side = counted-line s e within permits begins .short side ahead
 
   pub bases-long : (s : ℕ) (es : List ℕ) → s ≤ n → (s < n → Begins (g .t) s) → Chained (g .t) n s es → s + length (byLine (baseOf g) s es) ≤ n
   bases-long s [] h b c = omega arith
   bases-long s (e ∷ es) h b c =
-      let rest = bases-long e es (c .1) (λ l. begins-behind table e (omega (arith, c .0)) l (c .2)) (c .3) in
+      let rest = bases-long e es (c .1) (λ u. begins-behind table e (omega (arith, c .0)) u (c .2)) (c .3) in
       omega (arith, length-append (baseOf g s e) (byLine (baseOf g) e es), next-base s e (c .0) (c .1) (c .2) (b (omega (arith, c .0, c .1))), rest)
 
-  pub rubies-long : (s : ℕ) (es : List ℕ) → s < n → Begins (g .t) s → Chained (g .t) n s es → cellAt (g .t) s .ruby + length (byLine (rubyOf g) s es) ≤ m
-  rubies-long s [] h b c =
+  pub side-all : (side : Side) (s : ℕ) (es : List ℕ) → s < n → Begins (g .t) s → Chained (g .t) n s es → first side (g .t) s + length (byLine (sideOf side g) s es) ≤ pick m l side
+  side-all side s [] h b c =
       let row = table .sound .row s h in
-      let f = table .fits s (s + cellAt (g .t) s .bases) h (omega (arith, row .some)) (omega arith) b (inr refl) in
+      let f = table .sides side s (s + cellAt (g .t) s .bases) h (omega (arith, row .some)) (omega arith) b (inr refl) in
       omega (arith, f .ahead, f .within)
-  rubies-long s (e ∷ es) h b c = go (decLt e n) es (c .3) (λ l. rubies-long e es l (begins-behind table e (omega (arith, c .0)) l (c .2)) (c .3))
+  side-all side s (e ∷ es) h b c = go (decLt e n) es (c .3) (λ u. side-all side e es u (begins-behind table e (omega (arith, c .0)) u (c .2)) (c .3))
     where
-      go : Dec (e < n) → (xs : List ℕ) → Chained (g .t) n e xs → (e < n → cellAt (g .t) e .ruby + length (byLine (rubyOf g) e xs) ≤ m) →
-          cellAt (g .t) s .ruby + length (rubyOf g s e ++ byLine (rubyOf g) e xs) ≤ m
-      go (yes l) xs d f = omega (arith, length-append (rubyOf g s e) (byLine (rubyOf g) e xs), next-ruby s e (c .0) (c .1) (c .2) b l, f l)
-      go (no l) [] d f = omega (arith, length-append (rubyOf g s e) [], room-ruby s e (c .0) (c .1) (c .2) b)
-      go (no l) (x ∷ xs) d f = absurd (omega (arith, d .0, d .1))
+      go : Dec (e < n) → (xs : List ℕ) → Chained (g .t) n e xs → (e < n → first side (g .t) e + length (byLine (sideOf side g) e xs) ≤ pick m l side) →
+          first side (g .t) s + length (sideOf side g s e ++ byLine (sideOf side g) e xs) ≤ pick m l side
+      go (yes u) xs d f = omega (arith, length-append (sideOf side g s e) (byLine (sideOf side g) e xs), next-side s e (c .0) (c .1) (c .2) b side u, f u)
+      go (no u) [] d f = omega (arith, length-append (sideOf side g s e) [], room-side s e (c .0) (c .1) (c .2) b side)
+      go (no u) (x ∷ xs) d f = absurd (omega (arith, d .0, d .1))
 
--- Before line l, which begins at base character s: what is written and what is to do make up the whole.
-pub record Going (g : Sheet) (k : ℕ) (found was wasRuby : List ℕ) (s l : ℕ) (base ruby : List ℕ) : Type 0 where
-  pub ready : LinesReady g k found was wasRuby
+-- A result list before the line that begins at base character s, of which each line adds what f gives, from `here` on; all lines make up the whole.
+pub record Strand (f : ℕ → ℕ → List ℕ) (s : ℕ) (todo all : List ℕ) (was : List ℕ) (here : ℕ) (out : List ℕ) : Type 0 where
+  pub made : sets out here (byLine f s todo) ≡ sets was 0 (byLine f 0 all)
+  pub long : length out ≡ length was
+
+strand-next : {f : ℕ → ℕ → List ℕ} {s e : ℕ} {todo rest all was : List ℕ} {here : ℕ} {out now : List ℕ} → Strand f s todo all was here out → todo ≡ e ∷ rest →
+    now ≡ sets out here (f s e) → (there : ℕ) → (sets (sets out here (f s e)) there (byLine f e rest) ≡ sets (sets out here (f s e)) (here + length (f s e)) (byLine f e rest)) →
+    Strand f e rest all was there now
+strand-next {f} {s} {e} {todo} {rest} {all} {was} {here} {out} {now} q split w there place =
+    record {
+      made =
+          ap (λ b. sets b there (byLine f e rest)) w ∙ place
+          ∙ sym (sets-append out (f s e) (byLine f e rest) here)
+          ∙ ap (λ xs. sets out here (byLine f s xs)) (sym split)
+          ∙ q .made;
+      long = ap length w ∙ length-sets out here (f s e) ∙ q .long;
+    }
+
+strand-end : {f : ℕ → ℕ → List ℕ} {s : ℕ} {todo all was : List ℕ} {here : ℕ} {out : List ℕ} → Strand f s todo all was here out → todo ≡ [] → length (byLine f 0 all) ≤ length was →
+    out ≡ over (byLine f 0 all) was
+strand-end {f} {s} {todo} {all} {was} {here} {out} q none few = ap (λ xs. sets out here (byLine f s xs)) (sym none) ∙ q .made ∙ sets-over was (byLine f 0 all) few
+
+-- Before line k, which begins at base character s: what is written and what is to do make up the whole.
+pub record Going (g : Sheet) (k : ℕ) (found was wasRuby wasLeft : List ℕ) (s at : ℕ) (base ruby left : List ℕ) : Type 0 where
+  pub ready : LinesReady g k found was wasRuby wasLeft
   pub begins : s < ready .n → Begins (g .t) s
-  pub chained : Chained (g .t) (ready .n) s (drop l (take k found))
-  pub bases : sets base s (byLine (baseOf g) s (drop l (take k found))) ≡ sets was 0 (byLine (baseOf g) 0 (take k found))
-  pub rubies : sets ruby (cellAt (g .t) s .ruby) (byLine (rubyOf g) s (drop l (take k found))) ≡ sets wasRuby 0 (byLine (rubyOf g) 0 (take k found))
-  pub longBase : length base ≡ length was
-  pub longRuby : length ruby ≡ length wasRuby
+  pub chained : Chained (g .t) (ready .n) s (drop at (take k found))
+  pub bases : Strand (baseOf g) s (drop at (take k found)) (take k found) was s base
+  pub rubies : Strand (sideOf Right g) s (drop at (take k found)) (take k found) wasRuby (first Right (g .t) s) ruby
+  pub lefts : Strand (sideOf Left g) s (drop at (take k found)) (take k found) wasLeft (first Left (g .t) s) left
 
 -- a table without rows has no lines
 none-chained : (t : List ℕ) (n s : ℕ) (xs : List ℕ) → n ≤ s → Chained t n s xs → xs ≡ []
 none-chained t n s [] h c = refl
 none-chained t n s (e ∷ es) h c = absurd (omega (arith, c .0, c .1))
 
-module _ {g : Sheet} {k : ℕ} {found was wasRuby : List ℕ} (ready : LinesReady g k found was wasRuby) where
-  pub going-first : Going g k found was wasRuby 0 0 was wasRuby
+module _ {g : Sheet} {k : ℕ} {found was wasRuby wasLeft : List ℕ} (ready : LinesReady g k found was wasRuby wasLeft) where
+  pub going-first : Going g k found was wasRuby wasLeft 0 0 was wasRuby wasLeft
   going-first =
       record {
         ready = ready;
         begins = λ _. inr (inl refl);
         chained = ready .chained;
-        bases = refl;
-        rubies = first (decLt 0 (ready .n));
-        longBase = refl;
-        longRuby = refl;
+        bases = record { made = refl; long = refl };
+        rubies = record { made = front Right wasRuby (decLt 0 (ready .n)); long = refl };
+        lefts = record { made = front Left wasLeft (decLt 0 (ready .n)); long = refl };
       }
     where
-      first : Dec (0 < ready .n) → sets wasRuby (cellAt (g .t) 0 .ruby) (byLine (rubyOf g) 0 (take k found)) ≡ sets wasRuby 0 (byLine (rubyOf g) 0 (take k found))
-      first (yes h) = ap (λ z. sets wasRuby z (byLine (rubyOf g) 0 (take k found))) (ready .first h)
-      first (no h) =
-          sets-any wasRuby (byLine (rubyOf g) 0 (take k found)) (cellAt (g .t) 0 .ruby) 0
-          (ap (byLine (rubyOf g) 0) (none-chained (g .t) (ready .n) 0 (take k found) (omega arith) (ready .chained)))
+      front : (side : Side) (out : List ℕ) → Dec (0 < ready .n) →
+          sets out (first side (g .t) 0) (byLine (sideOf side g) 0 (take k found)) ≡ sets out 0 (byLine (sideOf side g) 0 (take k found))
+      front side out (yes h) = ap (λ z. sets out z (byLine (sideOf side g) 0 (take k found))) (ready .start h side)
+      front side out (no h) =
+          sets-any out (byLine (sideOf side g) 0 (take k found)) (first side (g .t) 0) 0
+          (ap (byLine (sideOf side g) 0) (none-chained (g .t) (ready .n) 0 (take k found) (omega arith) (ready .chained)))
 
-module _ {g : Sheet} {k : ℕ} {found was wasRuby : List ℕ} {s l : ℕ} {base ruby : List ℕ} (going : Going g k found was wasRuby s l base ruby) where
+module _ {g : Sheet} {k : ℕ} {found was wasRuby wasLeft : List ℕ} {s l : ℕ} {base ruby left : List ℕ} (going : Going g k found was wasRuby wasLeft s l base ruby left) where
   abbrev es : List ℕ
   es = take k found
 
-  abbrev ready : LinesReady g k found was wasRuby
+  abbrev ready : LinesReady g k found was wasRuby wasLeft
   ready = going .ready
 
   many : length (take k found) ≡ k
@@ -111,68 +134,60 @@ module _ {g : Sheet} {k : ℕ} {found was wasRuby : List ℕ} {s l : ℕ} {base 
     begins : Begins (g .t) s
     begins = going .begins (omega (arith, chained .0, chained .1))
 
-    pub line-ready : LineReady g s e base ruby
+    pub line-ready : LineReady g s e base ruby left
     line-ready =
         record {
           n = ready .n;
           m = ready .m;
+          l = ready .l;
           table = ready .table;
-          room = omega (arith, ready .room, going .longBase);
-          roomRuby = omega (arith, ready .roomRuby, going .longRuby);
+          room = omega (arith, ready .room, going .bases .long);
+          roomRuby = omega (arith, ready .roomRuby, going .rubies .long);
+          roomLeft = omega (arith, ready .roomLeft, going .lefts .long);
           ahead = chained .0;
           within = chained .1;
           begins = begins;
           permits = chained .2;
         }
 
-    pub going-next : {base2 ruby2 : List ℕ} → (base2 ≡ sets base s (baseOf g s e)) × (ruby2 ≡ sets ruby (cellAt (g .t) s .ruby) (rubyOf g s e)) →
-        Going g k found was wasRuby e (l + 1) base2 ruby2
-    going-next {base2} {ruby2} w =
+    pub going-next : {base2 ruby2 left2 : List ℕ} →
+        (base2 ≡ sets base s (baseOf g s e)) × (ruby2 ≡ sets ruby (first Right (g .t) s) (sideOf Right g s e)) × (left2 ≡ sets left (first Left (g .t) s) (sideOf Left g s e)) →
+        Going g k found was wasRuby wasLeft e (l + 1) base2 ruby2 left2
+    going-next {base2} {ruby2} {left2} w =
         rw (add-one l) (record {
           ready = ready;
-          begins = λ m. begins-behind (ready .table) e (omega (arith, chained .0)) m (chained .2);
+          begins = λ u. begins-behind (ready .table) e (omega (arith, chained .0)) u (chained .2);
           chained = chained .3;
           bases =
-              ap₂ (λ b z. sets b z (byLine (baseOf g) e (drop (suc l) es))) (w .0) (sym (next-base (ready .table) s e (chained .0) (chained .1) (chained .2) begins))
-              ∙ sym (sets-append base (baseOf g s e) (byLine (baseOf g) e (drop (suc l) es)) s)
-              ∙ ap (λ xs. sets base s (byLine (baseOf g) s xs)) (sym split)
-              ∙ going .bases;
-          rubies =
-              ap (λ b. sets b (cellAt (g .t) e .ruby) (byLine (rubyOf g) e (drop (suc l) es))) (w .1)
-              ∙ place (decLt e (ready .n))
-              ∙ sym (sets-append ruby (rubyOf g s e) (byLine (rubyOf g) e (drop (suc l) es)) (cellAt (g .t) s .ruby))
-              ∙ ap (λ xs. sets ruby (cellAt (g .t) s .ruby) (byLine (rubyOf g) s xs)) (sym split)
-              ∙ going .rubies;
-          longBase = ap length (w .0) ∙ length-sets base s (baseOf g s e) ∙ going .longBase;
-          longRuby = ap length (w .1) ∙ length-sets ruby (cellAt (g .t) s .ruby) (rubyOf g s e) ∙ going .longRuby;
+              strand-next (going .bases) split (w .0) e
+              (ap (λ z. sets (sets base s (baseOf g s e)) z (byLine (baseOf g) e (drop (suc l) es))) (sym (next-base (ready .table) s e (chained .0) (chained .1) (chained .2) begins)));
+          rubies = strand-next (going .rubies) split (w .1) (first Right (g .t) e) (place Right ruby (decLt e (ready .n)));
+          lefts = strand-next (going .lefts) split (w .2) (first Left (g .t) e) (place Left left (decLt e (ready .n)));
         })
       where
-        now : List ℕ
-        now = sets ruby (cellAt (g .t) s .ruby) (rubyOf g s e)
-
-        rest : List ℕ
-        rest = byLine (rubyOf g) e (drop (suc l) es)
-
-        place : Dec (e < ready .n) → sets now (cellAt (g .t) e .ruby) rest ≡ sets now (cellAt (g .t) s .ruby + length (rubyOf g s e)) rest
-        place (yes z) = ap (λ a. sets now a rest) (sym (next-ruby (ready .table) s e (chained .0) (chained .1) (chained .2) begins z))
-        place (no z) =
-            sets-any now rest (cellAt (g .t) e .ruby) (cellAt (g .t) s .ruby + length (rubyOf g s e))
-            (ap (byLine (rubyOf g) e) (none-chained (g .t) (ready .n) e (drop (suc l) es) (omega arith) (chained .3)))
+        place : (side : Side) (out : List ℕ) → Dec (e < ready .n) →
+            sets (sets out (first side (g .t) s) (sideOf side g s e)) (first side (g .t) e) (byLine (sideOf side g) e (drop (suc l) es))
+            ≡ sets (sets out (first side (g .t) s) (sideOf side g s e)) (first side (g .t) s + length (sideOf side g s e)) (byLine (sideOf side g) e (drop (suc l) es))
+        place side out (yes z) =
+            ap (λ a. sets (sets out (first side (g .t) s) (sideOf side g s e)) a (byLine (sideOf side g) e (drop (suc l) es)))
+            (sym (next-side (ready .table) s e (chained .0) (chained .1) (chained .2) begins side z))
+        place side out (no z) =
+            sets-any (sets out (first side (g .t) s) (sideOf side g s e)) (byLine (sideOf side g) e (drop (suc l) es)) (first side (g .t) e) (first side (g .t) s + length (sideOf side g s e))
+            (ap (byLine (sideOf side g) e) (none-chained (g .t) (ready .n) e (drop (suc l) es) (omega arith) (chained .3)))
 
   -- after the last line all is written
-  pub going-end : k ≤ l → (base ≡ over (byLine (baseOf g) 0 es) was) × (ruby ≡ over (byLine (rubyOf g) 0 es) wasRuby)
+  pub going-end : k ≤ l → (base ≡ over (byLine (baseOf g) 0 es) was) × (ruby ≡ over (byLine (sideOf Right g) 0 es) wasRuby) × (left ≡ over (byLine (sideOf Left g) 0 es) wasLeft)
   going-end h =
       let past : length es ≤ l = omega (arith, many) in
       let none : drop l es ≡ [] = drop-of-length-le es past in (
-        ap (λ xs. sets base s (byLine (baseOf g) s xs)) (sym none) ∙ going .bases
-            ∙ sets-over was (byLine (baseOf g) 0 es) (omega (arith, bases-long (ready .table) 0 es zero-le (λ _. inr (inl refl)) (ready .chained), ready .room)),
-        ap (λ xs. sets ruby (cellAt (g .t) s .ruby) (byLine (rubyOf g) s xs)) (sym none) ∙ going .rubies
-            ∙ sets-over wasRuby (byLine (rubyOf g) 0 es) (omega (arith, few (decLt 0 (ready .n)), ready .roomRuby)),
+        strand-end (going .bases) none (omega (arith, bases-long (ready .table) 0 es zero-le (λ _. inr (inl refl)) (ready .chained), ready .room)),
+        strand-end (going .rubies) none (omega (arith, few Right (decLt 0 (ready .n)), ready .roomRuby)),
+        strand-end (going .lefts) none (omega (arith, few Left (decLt 0 (ready .n)), ready .roomLeft)),
       )
     where
-      few : Dec (0 < ready .n) → length (byLine (rubyOf g) 0 (take k found)) ≤ ready .m
-      few (yes z) = omega (arith, rubies-long (ready .table) 0 (take k found) z (inr (inl refl)) (ready .chained))
-      few (no z) = rw (none-chained (g .t) (ready .n) 0 (take k found) (omega arith) (ready .chained)) zero-le
+      few : (side : Side) → Dec (0 < ready .n) → length (byLine (sideOf side g) 0 (take k found)) ≤ pick (ready .m) (ready .l) side
+      few side (yes z) = omega (arith, side-all (ready .table) side 0 (take k found) z (inr (inl refl)) (ready .chained))
+      few side (no z) = rw (none-chained (g .t) (ready .n) 0 (take k found) (omega arith) (ready .chained)) zero-le
 
 -- The ends: what is copied and what is left to copy make up the whole.
 pub record Ending (n : ℕ) (ends was : List ℕ) (l : ℕ) (lines : List ℕ) : Type 0 where

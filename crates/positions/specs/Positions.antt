@@ -5,22 +5,30 @@ use Prim.Native.Nat.{ℕ, zero, suc, _+_, _-_, _*_}
 use lib.Dec.{ltb}
 use lib.ListN.{take, drop, length}
 use Rattle.spread.specs.Gap.{starts}
+use Rattle.word.specs.declared.Reading.{Reading}
 use Rattle.word.specs.declared.Word.{Word}
 use Rattle.word.specs.Word.{baseStarts}
 use Rattle.line.specs.declared.Element.{Element}
+use Rattle.line.specs.declared.Side.{Side}
+use Rattle.line.specs.declared.Side.the-variants.{Right, Left}
 use Rattle.line.specs.declared.State.{State}
 use Rattle.line.specs.Setting.{start, origin}
-use Rattle.cells.specs.Cells.{cellAt, wordAt, piece, next, stop}
+use Rattle.cells.specs.Cells.{cellAt, shareOf, wordAt, piece, next, stop}
 
--- a table, and the two lists that are read beside it: the widths of base and ruby characters
+-- a table, and the lists that are read beside it: the widths of base characters, and of those of either side
 pub record Sheet : Type 0 where
   pub em : ℕ
   pub t : List ℕ
   pub width : List ℕ
   pub rubyWidth : List ℕ
+  pub leftWidth : List ℕ
 
-abbrev pub sheet : ℕ → List ℕ → List ℕ → List ℕ → Sheet
-sheet em t width rubyWidth = record { em = em; t = t; width = width; rubyWidth = rubyWidth }
+abbrev pub sheet : ℕ → List ℕ → List ℕ → List ℕ → List ℕ → Sheet
+sheet em t width rubyWidth leftWidth = record { em = em; t = t; width = width; rubyWidth = rubyWidth; leftWidth = leftWidth }
+
+abbrev pub widthsOf : Side → Sheet → List ℕ
+widthsOf Right g = g .rubyWidth
+widthsOf Left g = g .leftWidth
 
 -- a list from a up to b
 abbrev pub lent : List ℕ → ℕ → ℕ → List ℕ
@@ -30,30 +38,36 @@ lent xs a b = take (b - a) (drop a xs)
 abbrev pub over : List ℕ → List ℕ → List ℕ
 over new was = new ++ drop (length new) was
 
--- where the ruby of row i ends; and that of the piece from i up to c, which is its last row's where its element may be cut
-abbrev pub runEnd : List ℕ → ℕ → ℕ
-runEnd t i = cellAt t i .ruby + cellAt t i .rubies
+-- Of one side: the first character of row i and the end of its share; and the end of the piece from i up to c, which is its last row's where its element may be cut.
+abbrev pub first : Side → List ℕ → ℕ → ℕ
+first side t i = shareOf side (cellAt t i) .first
 
-abbrev pub rubyEnd : List ℕ → ℕ → ℕ → ℕ
-rubyEnd t i c = cond (cellAt t i .cut) (runEnd t (c - 1)) (runEnd t i)
+abbrev pub own : Side → List ℕ → ℕ → ℕ
+own side t i = shareOf side (cellAt t i) .own
 
--- the widths of a row's ruby, and of a piece's
-abbrev pub runLent : List ℕ → List ℕ → ℕ → List ℕ
-runLent t ws i = lent ws (cellAt t i .ruby) (runEnd t i)
+abbrev pub runEnd : Side → List ℕ → ℕ → ℕ
+runEnd side t i = first side t i + shareOf side (cellAt t i) .many
 
-abbrev pub rubyLent : List ℕ → List ℕ → ℕ → ℕ → List ℕ
-rubyLent t ws i c = lent ws (cellAt t i .ruby) (rubyEnd t i c)
+abbrev pub readingEnd : Side → List ℕ → ℕ → ℕ → ℕ
+readingEnd side t i c = cond (cellAt t i .cut) (runEnd side t (c - 1)) (runEnd side t i)
+
+-- the widths of a row's share, and of a piece's
+abbrev pub runLent : Side → List ℕ → List ℕ → ℕ → List ℕ
+runLent side t ws i = lent ws (first side t i) (runEnd side t i)
+
+abbrev pub readingLent : Side → List ℕ → List ℕ → ℕ → ℕ → List ℕ
+readingLent side t ws i c = lent ws (first side t i) (readingEnd side t i c)
 
 -- the runs of k rows from i on, each solid over its own character of one em, the first of which starts at x
-unfoldable pub runsPut : ℕ → List ℕ → List ℕ → ℕ → ℕ → ℕ → List ℕ
+unfoldable pub runsPut : Side → ℕ → List ℕ → List ℕ → ℕ → ℕ → ℕ → List ℕ
 unfolding starts
-runsPut em t ws zero i x = []
-runsPut em t ws (suc k) i x = starts 0 (x + (em - cellAt t i .own)) (runLent t ws i) ++ runsPut em t ws k (i + 1) (x + 2 * em)
+runsPut side em t ws zero i x = []
+runsPut side em t ws (suc k) i x = starts 0 (x + (em - own side t i)) (runLent side t ws i) ++ runsPut side em t ws k (i + 1) (x + 2 * em)
 
--- the ruby of the piece from i up to c of which w is the word, its origin at x: run by run, or as one string
-unfoldable pub rubyBy : ℕ → List ℕ → List ℕ → Word → ℕ → ℕ → ℕ → List ℕ
+-- the reading v of the piece from i up to c, the origin of its word at x: run by run, or as one string
+unfoldable pub readingBy : Side → ℕ → List ℕ → List ℕ → Reading → ℕ → ℕ → ℕ → List ℕ
 unfolding starts runsPut
-rubyBy em t ws w i c x = cond (w .right .runs) (runsPut em t ws (c - i) i x) (starts (w .right .within) (x + w .right .from) (rubyLent t ws i c))
+readingBy side em t ws v i c x = cond (v .there) (cond (v .runs) (runsPut side em t ws (c - i) i x) (starts (v .within) (x + v .from) (readingLent side t ws i c))) []
 
 abbrev pub wordOf : Sheet → ℕ → ℕ → Word
 wordOf g i c = wordAt (g .em) (g .t) i c
@@ -62,14 +76,19 @@ wordOf g i c = wordAt (g .em) (g .t) i c
 abbrev pub pieceOf : Sheet → ℕ → ℕ → Element
 pieceOf g i c = piece (g .em) (g .t) i c
 
+-- its reading on one side
+abbrev pub readingOf : Side → Sheet → ℕ → ℕ → Reading
+readingOf Right g i c = wordOf g i c .right
+readingOf Left g i c = wordOf g i c .left
+
 -- where the characters of the piece from i up to c stand, its origin at x; one without ruby is a P, one character at its origin
 unfoldable pub basePut : Sheet → ℕ → ℕ → ℕ → List ℕ
 unfolding baseStarts wordAt
 basePut g i c x = let w = wordOf g i c in cond (w .right .there) (baseStarts w x (lent (g .width) i c)) (x ∷ [])
 
-unfoldable pub rubyPut : Sheet → ℕ → ℕ → ℕ → List ℕ
-unfolding rubyBy wordAt
-rubyPut g i c x = let w = wordOf g i c in cond (w .right .there) (rubyBy (g .em) (g .t) (g .rubyWidth) w i c x) []
+unfoldable pub sidePut : Side → Sheet → ℕ → ℕ → ℕ → List ℕ
+unfolding readingBy wordAt
+sidePut side g i c x = readingBy side (g .em) (g .t) (widthsOf side g) (readingOf side g i c) i c x
 
 -- what f gives for each piece and its origin, of at most k pieces from i on up to e
 unfoldable pub putFrom : (ℕ → ℕ → ℕ → List ℕ) → Sheet → ℕ → State → ℕ → ℕ → List ℕ
@@ -85,9 +104,15 @@ unfoldable pub baseOf : Sheet → ℕ → ℕ → List ℕ
 unfolding putFrom basePut
 baseOf g s e = putFrom (basePut g) g (e - s) start s e
 
-unfoldable pub rubyOf : Sheet → ℕ → ℕ → List ℕ
-unfolding putFrom rubyPut
-rubyOf g s e = putFrom (rubyPut g) g (e - s) start s e
+unfoldable pub sideOf : Side → Sheet → ℕ → ℕ → List ℕ
+unfolding putFrom sidePut
+sideOf side g s e = putFrom (sidePut side g) g (e - s) start s e
+
+abbrev pub rubyOf : Sheet → ℕ → ℕ → List ℕ
+rubyOf = sideOf Right
+
+abbrev pub leftOf : Sheet → ℕ → ℕ → List ℕ
+leftOf = sideOf Left
 
 -- line by line, from s on
 abbrev pub byLine : (ℕ → ℕ → List ℕ) → ℕ → List ℕ → List ℕ

@@ -10,13 +10,14 @@ use native.Mathlib.Decide.{decLt}
 use borrow.Author.Tests.{lt-ltb, le-ltb, ne-eqb, eqb-true, eqb-false}
 use lib.Dec.{eqb}
 use lib.ListN.{length, length-append}
+use Rattle.line.specs.declared.Side.{Side}
 use Rattle.line.specs.declared.State.{State}
 use Rattle.line.specs.Setting.{origin}
 use Rattle.cells.specs.Cells.{cellAt, next, stop, mayEnd}
 use Rattle.cells.specs.Walk.{along, may-within, stop-whole, stop-within}
-use Rattle.positions.specs.Positions.{Sheet, rubyEnd, pieceOf, basePut, rubyPut, putFrom}
-use Rattle.positions.specs.Ready.{Fits, Begins, Stops, Writable}
-use Rattle.positions.specs.Piece.{base-long, ruby-long}
+use Rattle.positions.specs.Positions.{Sheet, first, readingEnd, pieceOf, basePut, sidePut, putFrom}
+use Rattle.positions.specs.Ready.{Fits, SideFits, Begins, Stops, pick, Writable}
+use Rattle.positions.specs.Piece.{base-long, side-long}
 
 -- no piece more
 pub none-from : (f : ℕ → ℕ → ℕ → List ℕ) (g : Sheet) (k : ℕ) (st : State) (i e : ℕ) → e ≤ i → putFrom f g k st i e ≡ []
@@ -24,13 +25,13 @@ unfolding putFrom
 none-from f g zero st i e h = refl
 none-from f g (suc k) st i e h = rw (le-ltb i e h)
 
--- The line from i up to e has a position for each base character, and its ruby ends where that of the row e begins.
-pub record Counted (g : Sheet) (n m e k : ℕ) (st : State) (i : ℕ) : Type 0 where
+-- The line from i up to e has a position for each base character, and its characters of one side end where those of the row e begin.
+pub record Counted (g : Sheet) (n m l e k : ℕ) (st : State) (i : ℕ) : Type 0 where
   pub long : length (putFrom (basePut g) g k st i e) ≡ e - i
-  pub place : i ≤ e → e < n → cellAt (g .t) i .ruby + length (putFrom (rubyPut g) g k st i e) ≡ cellAt (g .t) e .ruby
-  pub short : i < e → cellAt (g .t) i .ruby + length (putFrom (rubyPut g) g k st i e) ≤ m
+  pub place : (side : Side) → i ≤ e → e < n → first side (g .t) i + length (putFrom (sidePut side g) g k st i e) ≡ first side (g .t) e
+  pub short : (side : Side) → i < e → first side (g .t) i + length (putFrom (sidePut side g) g k st i e) ≤ pick m l side
 
-module _ {g : Sheet} {n m : ℕ} (table : Writable g n m) where
+module _ {g : Sheet} {n m l : ℕ} (table : Writable g n m l) where
   -- an element begins where another one ends
   pub begins-next : (i : ℕ) → i < n → Begins (g .t) (i + cellAt (g .t) i .bases)
   begins-next i h = inr (inr (subst (λ (z : ℕ). cellAt (g .t) z .bases ≡ 1) (back i (cellAt (g .t) i .bases) some) (omega (arith, some, last))))
@@ -68,29 +69,35 @@ module _ {g : Sheet} {n m : ℕ} (table : Writable g n m) where
       pub stop-ahead : (i < stop (g .t) i e) × (stop (g .t) i e ≤ i + cellAt (g .t) i .bases)
       stop-ahead = let some = table .sound .row i (omega arith) .some in (omega arith, omega arith)
 
-      pub fits-here : Begins (g .t) i → Fits g n m i (stop (g .t) i e)
-      fits-here b = table .fits i (stop (g .t) i e) (omega arith) (stop-ahead .0) (stop-ahead .1) b (go (decLt e (i + cellAt (g .t) i .bases)))
+      stops : Stops (g .t) i (stop (g .t) i e)
+      stops = go (decLt e (i + cellAt (g .t) i .bases))
         where
           go : Dec (e < i + cellAt (g .t) i .bases) → Stops (g .t) i (stop (g .t) i e)
-          go (yes l) = inl (sym (may-within (g .em) (g .t) n (table .sound) i (omega arith) e h l) ∙ permits)
-          go (no l) = inr (omega arith)
+          go (yes u) = inl (sym (may-within (g .em) (g .t) n (table .sound) i (omega arith) e h u) ∙ permits)
+          go (no u) = inr (omega arith)
 
-    done : (k : ℕ) (st : State) (i : ℕ) → e ≤ i → Counted g n m e k st i
+      pub fits-here : Begins (g .t) i → Fits g i (stop (g .t) i e)
+      fits-here b = table .fits i (stop (g .t) i e) (omega arith) (stop-ahead .0) (stop-ahead .1) b stops
+
+      pub side-here : (side : Side) → Begins (g .t) i → SideFits side g n (pick m l side) i (stop (g .t) i e)
+      side-here side b = table .sides side i (stop (g .t) i e) (omega arith) (stop-ahead .0) (stop-ahead .1) b stops
+
+    done : (k : ℕ) (st : State) (i : ℕ) → e ≤ i → Counted g n m l e k st i
     done k st i h =
         record {
           long = ap length (none-from (basePut g) g k st i e h) ∙ omega arith;
-          place = λ l u. ap (λ z. cellAt (g .t) i .ruby + length z) (none-from (rubyPut g) g k st i e h) ∙ add-zero _ ∙ ap (λ (z : ℕ). cellAt (g .t) z .ruby) (omega arith);
-          short = λ l. absurd (omega arith);
+          place = λ side u v. ap (λ z. first side (g .t) i + length z) (none-from (sidePut side g) g k st i e h) ∙ add-zero _ ∙ ap (first side (g .t)) (omega arith);
+          short = λ side u. absurd (omega arith);
         }
 
     one-more : (k : ℕ) (st : State) (i : ℕ) → i < e → Begins (g .t) i →
-        Counted g n m e k (next st (pieceOf g i (stop (g .t) i e))) (i + cellAt (g .t) i .bases) → Counted g n m e (suc k) st i
+        Counted g n m l e k (next st (pieceOf g i (stop (g .t) i e))) (i + cellAt (g .t) i .bases) → Counted g n m l e (suc k) st i
     unfolding putFrom
     one-more k st i h b rest =
         record {
-          long = ap length (step (basePut g)) ∙ length-append here more ∙ adds (length here) (length more) (cellAt (g .t) i .bases) (base-long table (a .0) (a .1) l f o) (rest .long);
-          place = λ _ u. ap (λ z. cellAt (g .t) i .ruby + length z) (step (rubyPut g)) ∙ sum ∙ place u (decLt (i + cellAt (g .t) i .bases) e);
-          short = λ _. omega (arith, ap (λ z. cellAt (g .t) i .ruby + length z) (step (rubyPut g)) ∙ sum, short (decLt (i + cellAt (g .t) i .bases) e));
+          long = ap length (step (basePut g)) ∙ length-append here more ∙ adds (length here) (length more) (cellAt (g .t) i .bases) (base-long table (a .0) (a .1) u (fits-here i h b) o) (rest .long);
+          place = λ side _ v. ap (λ z. first side (g .t) i + length z) (step (sidePut side g)) ∙ sum side ∙ place side v (decLt (i + cellAt (g .t) i .bases) e);
+          short = λ side _. omega (arith, ap (λ z. first side (g .t) i + length z) (step (sidePut side g)) ∙ sum side, short side (decLt (i + cellAt (g .t) i .bases) e));
         }
       where
         c : ℕ
@@ -99,11 +106,8 @@ module _ {g : Sheet} {n m : ℕ} (table : Writable g n m) where
         a : (i < stop (g .t) i e) × (stop (g .t) i e ≤ i + cellAt (g .t) i .bases)
         a = stop-ahead i h
 
-        l : i < n
-        l = omega arith
-
-        f : Fits g n m i (stop (g .t) i e)
-        f = fits-here i h b
+        u : i < n
+        u = omega arith
 
         o : ℕ
         o = origin st (pieceOf g i (stop (g .t) i e))
@@ -111,14 +115,14 @@ module _ {g : Sheet} {n m : ℕ} (table : Writable g n m) where
         here : List ℕ
         here = basePut g i (stop (g .t) i e) (origin st (pieceOf g i (stop (g .t) i e)))
 
-        hereRuby : List ℕ
-        hereRuby = rubyPut g i (stop (g .t) i e) (origin st (pieceOf g i (stop (g .t) i e)))
-
         more : List ℕ
         more = putFrom (basePut g) g k (next st (pieceOf g i (stop (g .t) i e))) (i + cellAt (g .t) i .bases) e
 
-        moreRuby : List ℕ
-        moreRuby = putFrom (rubyPut g) g k (next st (pieceOf g i (stop (g .t) i e))) (i + cellAt (g .t) i .bases) e
+        hereOf : Side → List ℕ
+        hereOf side = sidePut side g i (stop (g .t) i e) (origin st (pieceOf g i (stop (g .t) i e)))
+
+        moreOf : Side → List ℕ
+        moreOf side = putFrom (sidePut side g) g k (next st (pieceOf g i (stop (g .t) i e))) (i + cellAt (g .t) i .bases) e
 
         step : (f : ℕ → ℕ → ℕ → List ℕ) → putFrom f g (suc k) st i e
             ≡ f i (stop (g .t) i e) (origin st (pieceOf g i (stop (g .t) i e))) ++ putFrom f g k (next st (pieceOf g i (stop (g .t) i e))) (i + cellAt (g .t) i .bases) e
@@ -127,32 +131,31 @@ module _ {g : Sheet} {n m : ℕ} (table : Writable g n m) where
         adds : (p q b : ℕ) → p ≡ min e (i + b) - i → q ≡ e - (i + b) → p + q ≡ e - i
         adds p q b x y = omega arith
 
-        sum : cellAt (g .t) i .ruby + length (hereRuby ++ moreRuby) ≡ rubyEnd (g .t) i (stop (g .t) i e) + length moreRuby
-        sum = omega (arith, length-append hereRuby moreRuby, ruby-long table (a .0) (a .1) l f o)
+        sum : (side : Side) → first side (g .t) i + length (hereOf side ++ moreOf side) ≡ readingEnd side (g .t) i (stop (g .t) i e) + length (moreOf side)
+        sum side = omega (arith, length-append (hereOf side) (moreOf side), side-long table (a .0) (a .1) u side (side-here i h side b) o)
 
-        -- past the line's end nothing more, else the next piece's ruby follows
-        nothing : e ≤ i + cellAt (g .t) i .bases → length moreRuby ≡ 0
-        nothing u = ap length (none-from (rubyPut g) g k (next st (pieceOf g i (stop (g .t) i e))) (i + cellAt (g .t) i .bases) e u)
+        -- past the line's end nothing more, else the next piece's characters follow
+        nothing : (side : Side) → e ≤ i + cellAt (g .t) i .bases → length (moreOf side) ≡ 0
+        nothing side v = ap length (none-from (sidePut side g) g k (next st (pieceOf g i (stop (g .t) i e))) (i + cellAt (g .t) i .bases) e v)
 
-        goes-on : i + cellAt (g .t) i .bases < e → rubyEnd (g .t) i (stop (g .t) i e) ≡ cellAt (g .t) (i + cellAt (g .t) i .bases) .ruby
-        goes-on u =
-            sym (f .follows (omega arith)) ∙ ap (λ (z : ℕ). cellAt (g .t) z .ruby) (stop-whole (g .t) i e (omega arith))
+        goes-on : (side : Side) → i + cellAt (g .t) i .bases < e → readingEnd side (g .t) i (stop (g .t) i e) ≡ first side (g .t) (i + cellAt (g .t) i .bases)
+        goes-on side v = sym (side-here i h side b .follows (omega arith)) ∙ ap (first side (g .t)) (stop-whole (g .t) i e (omega arith))
 
-        place : e < n → Dec (i + cellAt (g .t) i .bases < e) → rubyEnd (g .t) i (stop (g .t) i e) + length moreRuby ≡ cellAt (g .t) e .ruby
-        place u (yes y) = ap (λ z. z + length moreRuby) (goes-on y) ∙ rest .place (omega arith) u
-        place u (no y) =
-            ap (λ z. rubyEnd (g .t) i (stop (g .t) i e) + z) (nothing (omega arith)) ∙ add-zero _ ∙ sym (f .follows (omega arith))
-            ∙ ap (λ (z : ℕ). cellAt (g .t) z .ruby) (stop-within (g .t) i e (omega arith))
+        place : (side : Side) → e < n → Dec (i + cellAt (g .t) i .bases < e) → readingEnd side (g .t) i (stop (g .t) i e) + length (moreOf side) ≡ first side (g .t) e
+        place side v (yes y) = ap (λ z. z + length (moreOf side)) (goes-on side y) ∙ rest .place side (omega arith) v
+        place side v (no y) =
+            ap (λ z. readingEnd side (g .t) i (stop (g .t) i e) + z) (nothing side (omega arith)) ∙ add-zero _ ∙ sym (side-here i h side b .follows (omega arith))
+            ∙ ap (first side (g .t)) (stop-within (g .t) i e (omega arith))
 
-        short : Dec (i + cellAt (g .t) i .bases < e) → rubyEnd (g .t) i (stop (g .t) i e) + length moreRuby ≤ m
-        short (yes y) = omega (arith, goes-on y, rest .short y)
-        short (no y) = omega (arith, nothing (omega arith), f .within)
+        short : (side : Side) → Dec (i + cellAt (g .t) i .bases < e) → readingEnd side (g .t) i (stop (g .t) i e) + length (moreOf side) ≤ pick m l side
+        short side (yes y) = omega (arith, goes-on side y, rest .short side y)
+        short side (no y) = omega (arith, nothing side (omega arith), side-here i h side b .within)
 
-    pub counted : (k : ℕ) (st : State) (i : ℕ) → e ≤ i + k → (i < e → Begins (g .t) i) → Counted g n m e k st i
+    pub counted : (k : ℕ) (st : State) (i : ℕ) → e ≤ i + k → (i < e → Begins (g .t) i) → Counted g n m l e k st i
     counted zero st i room b = done zero st i (omega arith)
-    counted (suc k) st i room b = go (decLt i e) (λ l. counted k (next st (pieceOf g i (stop (g .t) i e))) (i + cellAt (g .t) i .bases)
+    counted (suc k) st i room b = go (decLt i e) (λ u. counted k (next st (pieceOf g i (stop (g .t) i e))) (i + cellAt (g .t) i .bases)
         (let some = table .sound .row i (omega arith) .some in omega arith) (λ _. begins-next i (omega arith)))
       where
-        go : Dec (i < e) → (i < e → Counted g n m e k (next st (pieceOf g i (stop (g .t) i e))) (i + cellAt (g .t) i .bases)) → Counted g n m e (suc k) st i
-        go (yes l) f = one-more k st i l (b l) (f l)
-        go (no l) f = done (suc k) st i (omega arith)
+        go : Dec (i < e) → (i < e → Counted g n m l e k (next st (pieceOf g i (stop (g .t) i e))) (i + cellAt (g .t) i .bases)) → Counted g n m l e (suc k) st i
+        go (yes u) f = one-more k st i u (b u) (f u)
+        go (no u) f = done (suc k) st i (omega arith)

@@ -1,18 +1,19 @@
 // Where the characters of the lines stand (document 01, "Refusal list": "a position for each base character, one for each ruby character, and for each line
-// the count of base characters up to its end"), by the rows of the job's table: piece by piece its place in the line, and its characters from there on. Beside the
-// table only the widths of the characters are read. It relies on `cells` for rows and pieces, on `spread` for the characters of a string, and on `line`.
+// the count of base characters up to its end"; of R-5 one for each left character too), by the rows of the job's table: piece by piece its place in the line, and its
+// characters from there on. The readings of both sides are written by one function. Beside the table only the widths of the characters are read. It relies on `cells`
+// for rows and pieces, on `spread` for the characters of a string, and on `line`.
 ghost use mathlib.Core.Path.{_≡_};
-ghost use mathlib.Core.Bool.{true};
 ghost use Prim.Native.Nat.{_+_, _-_, _*_, _≤_, _<_, min};
 ghost use lib.ListN.{length, take};
 ghost use lib.Seq.{sets};
 ghost use Rattle.spread.specs.Gap.{starts};
 ghost use Rattle.word.specs.Word.{baseStarts};
-ghost use Rattle.cells.specs.Cells.{size, cellAt};
-ghost use Rattle.positions.specs.Positions.{sheet, lent, over, rubyEnd, runsPut, rubyBy, baseOf, rubyOf, byLine};
+ghost use Rattle.line.specs.declared.Side.the-variants.{Right, Left};
+ghost use Rattle.cells.specs.Cells.{size};
+ghost use Rattle.positions.specs.Positions.{sheet, lent, over, first, readingEnd, runsPut, readingBy, baseOf, rubyOf, leftOf, byLine};
 ghost use Rattle.positions.specs.Ready.{StringReady, LineReady, LinesReady};
 ghost use Rattle.positions.specs.Runs.{RunsReady};
-ghost use Rattle.positions.specs.Piece.{RubyReady};
+ghost use Rattle.positions.specs.Piece.{ReadingReady};
 
 // The starts of the characters a up to e, the first of them at `at`, with `within` half units of space within the string.
 fn put_string(at: u32, within: u32, a: usize, e: usize, ws: &[u32], out: &mut [u32])
@@ -30,58 +31,71 @@ fn put_base(w: word::Word, at: u32, i: usize, c: usize, width: &[u32], base: &mu
     put_string(at + w.front, w.inbase, i, c, width, base);
 }
 
-// The runs of a J from i up to c, each solid over its own character of one em, the first of which starts at `at`.
-fn put_runs(t: &[u32], i: usize, c: usize, em: u32, at: u32, rwidth: &[u32], ruby: &mut [u32])
-    requires { ⌜ RunsReady em (now t) i c at (now rwidth) (now ruby) ⌝ }
-    ensures { λ _. let u = now (t .entry) in ⌜ now (ruby .exit) ≡ sets (now (ruby .entry)) (cellAt u i .ruby) (runsPut em u (now (rwidth .entry)) (c - i) i at) ⌝ }
+// One side's runs of a J from i up to c, each solid over its own character of one em, the first of which starts at `at`.
+fn put_runs(
+    t: &[u32],
+    i: usize,
+    c: usize,
+    side: line::Side,
+    em: u32,
+    at: u32,
+    ws: &[u32],
+    out: &mut [u32],
+)
+    requires { ⌜ RunsReady side em (now t) i c at (now ws) (now out) ⌝ }
+    ensures { λ _. let u = now (t .entry) in ⌜ now (out .exit) ≡ sets (now (out .entry)) (first side u i) (runsPut side em u (now (ws .entry)) (c - i) i at) ⌝ }
 {
     let mut x = at;
     let mut k = i;
     while k < c {
-        let a = cells::cell_at(t, k);
-        let r = a.ruby as usize;
-        let e = r + a.rubies as usize;
-        put_string(x + (em - a.own), 0, r, e, rwidth, ruby);
+        let own = cells::share_at(t, k, side);
+        let r = own.first as usize;
+        let e = r + own.many as usize;
+        put_string(x + (em - own.own), 0, r, e, ws, out);
         x += 2 * em;
         k += 1;
     }
 }
 
-// Where the ruby of the piece from i up to c ends.
-pub fn rubies_upto(t: &[u32], i: usize, c: usize) -> usize
+// Where the characters of one side of the piece from i up to c end.
+pub fn reading_upto(t: &[u32], i: usize, c: usize, side: line::Side) -> usize
     requires { ⌜ (i < c) × (c ≤ 1024) × (size c ≤ length (now t)) ⌝ }
-    ensures { λ r. ⌜ r ≡ rubyEnd (now (t .entry)) i c ⌝ }
+    ensures { λ r. ⌜ r ≡ readingEnd side (now (t .entry)) i c ⌝ }
 {
     let a = cells::cell_at(t, i);
     if a.cut {
-        let z = cells::cell_at(t, c - 1);
-        return z.ruby as usize + z.rubies as usize;
+        let z = cells::share_at(t, c - 1, side);
+        return z.first as usize + z.many as usize;
     }
-    a.ruby as usize + a.rubies as usize
+    let s = cells::share_at(t, i, side);
+    s.first as usize + s.many as usize
 }
 
-// The ruby of the piece from i up to c, the origin of its word w at `at`.
-fn put_ruby(
+// The reading v on one side of the piece from i up to c, where it has one, the origin of its word at `at`.
+fn put_reading(
     t: &[u32],
     i: usize,
     c: usize,
+    side: line::Side,
     em: u32,
-    w: word::Word,
+    v: word::Reading,
     at: u32,
-    rwidth: &[u32],
-    ruby: &mut [u32],
+    ws: &[u32],
+    out: &mut [u32],
 )
-    requires { ⌜ RubyReady em (now t) i c w at (now rwidth) (now ruby) ⌝ }
-    ensures { λ _. let u = now (t .entry) in ⌜ now (ruby .exit) ≡ sets (now (ruby .entry)) (cellAt u i .ruby) (rubyBy em u (now (rwidth .entry)) w i c at) ⌝ }
+    requires { ⌜ ReadingReady side em (now t) i c v at (now ws) (now out) ⌝ }
+    ensures { λ _. let u = now (t .entry) in ⌜ now (out .exit) ≡ sets (now (out .entry)) (first side u i) (readingBy side em u (now (ws .entry)) v i c at) ⌝ }
 {
-    if w.right.runs {
-        put_runs(t, i, c, em, at, rwidth, ruby);
-        return;
+    if v.there {
+        if v.runs {
+            put_runs(t, i, c, side, em, at, ws, out);
+            return;
+        }
+        let s = cells::share_at(t, i, side);
+        let r = s.first as usize;
+        let e = reading_upto(t, i, c, side);
+        put_string(at + v.from, v.within, r, e, ws, out);
     }
-    let a = cells::cell_at(t, i);
-    let r = a.ruby as usize;
-    let e = rubies_upto(t, i, c);
-    put_string(at + w.right.from, w.right.within, r, e, rwidth, ruby);
 }
 
 fn fewer(a: usize, b: usize) -> usize
@@ -90,7 +104,7 @@ fn fewer(a: usize, b: usize) -> usize
     if a <= b { a } else { b }
 }
 
-// The line from s up to e. A piece without ruby is a P, one character at its origin; a J has a copy of the line's state, as in the filling.
+// The line from s up to e. A piece without ruby is a P, one character at its origin.
 fn put_line(
     t: &[u32],
     s: usize,
@@ -98,11 +112,13 @@ fn put_line(
     em: u32,
     width: &[u32],
     rwidth: &[u32],
+    lwidth: &[u32],
     base: &mut [u32],
     ruby: &mut [u32],
+    left: &mut [u32],
 )
-    requires { ⌜ LineReady (sheet em (now t) (now width) (now rwidth)) s e (now base) (now ruby) ⌝ }
-    ensures { λ _. let u = now (t .entry) in let g = sheet em u (now (width .entry)) (now (rwidth .entry)) in ⌜ (now (base .exit) ≡ sets (now (base .entry)) s (baseOf g s e)) × (now (ruby .exit) ≡ sets (now (ruby .entry)) (cellAt u s .ruby) (rubyOf g s e)) ⌝ }
+    requires { ⌜ LineReady (sheet em (now t) (now width) (now rwidth) (now lwidth)) s e (now base) (now ruby) (now left) ⌝ }
+    ensures { λ _. let u = now (t .entry) in let g = sheet em u (now (width .entry)) (now (rwidth .entry)) (now (lwidth .entry)) in ⌜ (now (base .exit) ≡ sets (now (base .entry)) s (baseOf g s e)) × (now (ruby .exit) ≡ sets (now (ruby .entry)) (first Right u s) (rubyOf g s e)) × (now (left .exit) ≡ sets (now (left .entry)) (first Left u s) (leftOf g s e)) ⌝ }
 {
     let mut i = s;
     let mut st = line::START;
@@ -110,24 +126,18 @@ fn put_line(
         let a = cells::cell_at(t, i);
         let end = i + a.bases as usize;
         let c = fewer(e, end);
-        if a.cut {
-            let here = st;
-            let step = cells::advance_cut(t, i, c, em, here);
-            let w = step.word;
+        let step = cells::advance(t, i, c, em, st);
+        let w = step.word;
+        let over = w.right;
+        if over.there {
             put_base(w, step.at, i, c, width, base);
-            put_ruby(t, i, c, em, w, step.at, rwidth, ruby);
-            st = step.st;
+            let under = w.left;
+            put_reading(t, i, c, line::Side::Right, em, over, step.at, rwidth, ruby);
+            put_reading(t, i, c, line::Side::Left, em, under, step.at, lwidth, left);
         } else {
-            let step = cells::advance(t, i, c, em, st);
-            let w = step.word;
-            if w.right.there {
-                put_base(w, step.at, i, c, width, base);
-                put_ruby(t, i, c, em, w, step.at, rwidth, ruby);
-            } else {
-                base[i] = step.at;
-            }
-            st = step.st;
+            base[i] = step.at;
         }
+        st = step.st;
         i = end;
     }
 }
@@ -140,17 +150,19 @@ pub fn put_lines(
     em: u32,
     width: &[u32],
     rwidth: &[u32],
+    lwidth: &[u32],
     base: &mut [u32],
     ruby: &mut [u32],
+    left: &mut [u32],
 )
-    requires { ⌜ LinesReady (sheet em (now t) (now width) (now rwidth)) n (now ends) (now base) (now ruby) ⌝ }
-    ensures { λ _. let g = sheet em (now (t .entry)) (now (width .entry)) (now (rwidth .entry)) in let es = take n (now (ends .entry)) in ⌜ (now (base .exit) ≡ over (byLine (baseOf g) 0 es) (now (base .entry))) × (now (ruby .exit) ≡ over (byLine (rubyOf g) 0 es) (now (ruby .entry))) ⌝ }
+    requires { ⌜ LinesReady (sheet em (now t) (now width) (now rwidth) (now lwidth)) n (now ends) (now base) (now ruby) (now left) ⌝ }
+    ensures { λ _. let g = sheet em (now (t .entry)) (now (width .entry)) (now (rwidth .entry)) (now (lwidth .entry)) in let es = take n (now (ends .entry)) in ⌜ (now (base .exit) ≡ over (byLine (baseOf g) 0 es) (now (base .entry))) × (now (ruby .exit) ≡ over (byLine (rubyOf g) 0 es) (now (ruby .entry))) × (now (left .exit) ≡ over (byLine (leftOf g) 0 es) (now (left .entry))) ⌝ }
 {
     let mut s: usize = 0;
     let mut l: usize = 0;
     while l < n {
         let e = ends[l] as usize;
-        put_line(t, s, e, em, width, rwidth, base, ruby);
+        put_line(t, s, e, em, width, rwidth, lwidth, base, ruby, left);
         s = e;
         l += 1;
     }

@@ -1,4 +1,4 @@
--- The positions of a line by rows are those of the job's line, element by element: what stands before an element and what is put from it on make up the whole.
+-- The positions of a line by rows are those of the job's line, word by word: what stands before a word and what is put from it on make up the whole.
 use mathlib.Core.Path.{_≡_, refl, sym, ap, ap₂, _∙_, subst}
 use mathlib.Core.Bool.{Bool, true, false, _&&_, true≢false}
 use mathlib.Core.Logic.{_⊎_, inl, inr}
@@ -9,43 +9,52 @@ use native.Mathlib.Decide.{decLt}
 use borrow.Author.Tests.{lt-ltb, ltb-false}
 use lib.Dec.{ltb}
 use lib.Seq.{append-snoc}
-use Rattle.word.specs.Given.{isJ}
+use Rattle.line.specs.declared.Side.{Side}
 use Rattle.line.specs.declared.State.{State}
 use Rattle.line.specs.Setting.{start, origin}
 use Rattle.cells.specs.Cells.{cellAt, next, stop}
 use Rattle.door.specs.declared.Piece.{Piece}
-use Rattle.door.specs.Job.{Job, baseCount, elements}
+use Rattle.door.specs.Job.{Job, baseCount}
 use Rattle.door.specs.Passed.{Passed, BaseTiled}
-use Rattle.job.specs.Line.{pieces, seen, permitted, baseAt, rubyAt, baseIn, rubyIn}
+use Rattle.job.specs.Line.{words, cuts, pieces, seen, permitted, baseAt, readingAt, baseIn, readingIn}
 use Rattle.job.specs.Line as line
-use Rattle.job.specs.Pieces.{IsElement, is-element, into, none-before}
-use Rattle.job.specs.Walk.{stateOf, state-none, base-more, ruby-more, base-none, ruby-none, permitted-within}
+use Rattle.job.specs.Pieces.{IsWord, is-word, into, none-before}
+use Rattle.job.specs.Walk.{stateOf, state-none, base-more, reading-more, base-none, reading-none, permitted-within}
 use Rattle.job.specs.Promise.{Chain}
 use Rattle.join.specs.Rows.{isCut, upto, Holds}
 use Rattle.join.specs.Join as join
-use Rattle.positions.specs.Positions.{Sheet, pieceOf, putFrom, basePut, rubyPut, baseOf, rubyOf, byLine}
+use Rattle.positions.specs.Positions.{Sheet, pieceOf, putFrom, basePut, sidePut, baseOf, sideOf, byLine}
 use Rattle.positions.specs.Walk.{none-from}
-use Rattle.posjoin.specs.Piece.{sheetOf, Same, same, base-put, ruby-put}
+use Rattle.posjoin.specs.Piece.{sheetOf, Same, same, base-put, side-put}
 
 -- a line of the job may begin here
 abbrev pub Begins : Job → ℕ → Type 0
 Begins job s = (s ≡ 0) ⊎ (permitted job s ≡ true)
 
--- no line begins or ends within an element that may not be cut
-uncut : (job : Job) (x : Piece) → IsElement job x → isCut x ≡ false → (e : ℕ) → permitted job e ≡ true → x .base < e → e < x .base + x .bases → ⊥
-uncut job x at f e p h l = go (isJ (x .form)) refl f
+-- no line begins or ends within a word that may not be cut
+uncut : (job : Job) (x : Piece) → IsWord job x → isCut job x ≡ false → (e : ℕ) → permitted job e ≡ true → x .base < e → e < x .base + x .bases → ⊥
+uncut job x at f e p h l = go (cuts job x) refl f
   where
-    go : (b : Bool) → isJ (x .form) ≡ b → (b && ltb 1 (x .bases)) ≡ false → ⊥
+    go : (b : Bool) → cuts job x ≡ b → (b && ltb 1 (x .bases)) ≡ false → ⊥
     go true j z = omega (arith, ltb-false 1 (x .bases) z)
     go false j z = true≢false (sym p ∙ permitted-within job x at e h l ∙ j)
+
+-- so a line that begins in one begins with it
+pub opens : (job : Job) (x : Piece) → IsWord job x → (s : ℕ) → Begins job s → s < x .base + x .bases → isCut job x ≡ false → s ≤ x .base
+opens job x at s (inl z) k j = omega arith
+opens job x at s (inr z) k j = by (decLt (x .base) s)
+  where
+    by : Dec (x .base < s) → s ≤ x .base
+    by (yes m) = absurd (uncut job x at j s z m k)
+    by (no m) = omega arith
 
 module _ (job : Job) (passed : Passed job) (t : List ℕ) (table : Holds job t) where
   abbrev g : Sheet
   g = sheetOf job t
 
-  -- the piece of an element in the line from s up to e
-  module _ (x : Piece) (at : IsElement job x) (s i e : ℕ) (from : max s (x .base) ≡ i) (before : i < x .base + x .bases) (ahead : i < e)
-      (opens : isCut x ≡ false → s ≤ x .base) (permits : permitted job e ≡ true) where
+  -- the piece of a word in the line from s up to e
+  module _ (x : Piece) (at : IsWord job x) (s i e : ℕ) (from : max s (x .base) ≡ i) (before : i < x .base + x .bases) (ahead : i < e)
+      (first : isCut job x ≡ false → s ≤ x .base) (permits : permitted job e ≡ true) where
     abbrev d : ℕ
     d = min e (x .base + x .bases)
 
@@ -61,23 +70,23 @@ module _ (job : Job) (passed : Passed job) (t : List ℕ) (table : Holds job t) 
         most : (e z : ℕ) → min e z ≤ z
         most e z = omega arith
 
-    same-piece : Same job t i d (upto job x i d)
-    same-piece = same job passed t table x at i d (lies .0) (lies .1) (lies .2) (λ f. (first s (x .base) from (opens f), last (x .base + x .bases) (closes f (decLt e (x .base + x .bases)))))
+    pub same-piece : Same job t i d (upto job x i d)
+    same-piece = same job passed t table x at i d (lies .0) (lies .1) (lies .2) (λ f. (start s (x .base) from (first f), last (x .base + x .bases) (closes f (decLt e (x .base + x .bases)))))
       where
-        first : (s b : ℕ) → max s b ≡ i → s ≤ b → i ≡ b
-        first s b e h = omega arith
+        start : (s b : ℕ) → max s b ≡ i → s ≤ b → i ≡ b
+        start s b e h = omega arith
 
         last : (z : ℕ) → z ≤ e → min e z ≡ z
         last z h = omega arith
 
-        closes : isCut x ≡ false → Dec (e < x .base + x .bases) → x .base + x .bases ≤ e
+        closes : isCut job x ≡ false → Dec (e < x .base + x .bases) → x .base + x .bases ≤ e
         closes f (yes l) = absurd (uncut job x at f e permits (omega (arith, lies .0)) l)
         closes f (no l) = omega arith
 
     row-end : i + cellAt t i .bases ≡ x .base + x .bases
     row-end = omega (arith, join.bases-at job passed t table x at i (lies .0) before)
 
-    stop-is : stop t i e ≡ d
+    pub stop-is : stop t i e ≡ d
     stop-is = ap (min e) row-end
 
     -- one piece more
@@ -132,16 +141,16 @@ module _ (job : Job) (passed : Passed job) (t : List ℕ) (table : Holds job t) 
     most : (s b i : ℕ) → b ≡ i → s ≤ i → max s b ≡ i
     most s b i z l = omega arith
 
-    -- on from an element's end
-    walks : (front xs : List Piece) → elements job ≡ front ++ xs → (i : ℕ) → BaseTiled i xs (baseCount job) → (s e : ℕ) → s ≤ i → i ≤ e → e ≤ baseCount job → permitted job e ≡ true →
+    -- on from a word's end
+    walks : (front xs : List Piece) → words job ≡ front ++ xs → (i : ℕ) → BaseTiled i xs (baseCount job) → (s e : ℕ) → s ≤ i → i ≤ e → e ≤ baseCount job → permitted job e ≡ true →
         (k : ℕ) → e ≤ i + k → has s i ++ putFrom f g k (stateOf job s i) i e ≡ has s e
     walks front [] q i b s e l u n permits k room = ap (λ z. has s i ++ z) (none-from f g k (stateOf job s i) i e (omega arith)) ∙ append-nil (has s i) ∙ ap (has s) (omega arith)
     walks front (x ∷ xs) q i b s e l u n permits k room =
-        let at = is-element job passed front xs x q in
+        let at = is-word job passed front xs x q in
         go (decLt i e) at k room (λ m j v. walks (front ++ (x ∷ [])) xs (q ∙ sym (append-snoc front x xs)) (x .base + x .bases)
         (subst (λ z. BaseTiled (z + x .bases) xs (baseCount job)) (sym (b .0)) (b .1)) s e (omega (arith, b .0)) j n permits m v)
       where
-        go : Dec (i < e) → IsElement job x → (k : ℕ) → e ≤ i + k →
+        go : Dec (i < e) → IsWord job x → (k : ℕ) → e ≤ i + k →
             ((m : ℕ) → x .base + x .bases ≤ e → e ≤ x .base + x .bases + m → has s (x .base + x .bases) ++ putFrom f g m (stateOf job s (x .base + x .bases)) (x .base + x .bases) e ≡ has s e) →
             has s i ++ putFrom f g k (stateOf job s i) i e ≡ has s e
         go (no m) at k r w = ap (λ z. has s i ++ z) (none-from f g k (stateOf job s i) i e (omega arith)) ∙ append-nil (has s i) ∙ ap (has s) (omega arith)
@@ -156,12 +165,12 @@ module _ (job : Job) (passed : Passed job) (t : List ℕ) (table : Holds job t) 
     line-join s e begins l u permits =
         let v = join.covers job passed t table s (omega arith) in
         let x = v .x in
-        let at = is-element job passed (v .front) (v .rest) x (v .split) in
+        let at = is-word job passed (v .front) (v .rest) x (v .split) in
         let empty = none-before job x at s (v .from) in
         ap (λ (z : ℕ). putFrom f g z start s e) (one s e l)
         ∙ subst (λ z. z ++ putFrom f g (suc (e - s - 1)) start s e ≡ has s e) (none s (x .base) empty)
         (subst (λ z. has s (x .base) ++ putFrom f g (suc (e - s - 1)) z s e ≡ has s e) (state-none job s (x .base) empty)
-        (on x at s s e (over s (x .base) (v .from)) (v .ahead) l (first x at (v .from) (v .ahead) begins) permits f h has puts adds (e - s - 1)
+        (on x at s s e (over s (x .base) (v .from)) (v .ahead) l (opens job x at s begins (v .ahead)) permits f h has puts adds (e - s - 1)
         (λ k. walks (v .front ++ (x ∷ [])) (v .rest) (v .split ∙ sym (append-snoc (v .front) x (v .rest))) (x .base + x .bases) (v .tiled) s e
         (omega (arith, v .ahead)) k u permits (e - s - 1) (omega (arith, v .ahead)))))
       where
@@ -171,22 +180,15 @@ module _ (job : Job) (passed : Passed job) (t : List ℕ) (table : Holds job t) 
         over : (s b : ℕ) → b ≤ s → max s b ≡ s
         over s b h = omega arith
 
-        first : (x : Piece) → IsElement job x → x .base ≤ s → s < x .base + x .bases → Begins job s → isCut x ≡ false → s ≤ x .base
-        first x at h k (inl z) j = omega arith
-        first x at h k (inr z) j = by (decLt (x .base) s)
-          where
-            by : Dec (x .base < s) → s ≤ x .base
-            by (yes m) = absurd (uncut job x at j s z m k)
-            by (no m) = omega arith
-
   -- THE JOIN: where the characters of a line stand by rows is where the job has them
   pub base-join : (s e : ℕ) → Begins job s → s < e → e ≤ baseCount job → permitted job e ≡ true → baseOf g s e ≡ baseIn job s e
   unfolding baseOf
   base-join s e b l u p = line-join (basePut g) (baseAt job) (baseIn job) (λ i c q w o. base-put w o) (base-more job) (base-none job) s e b l u p
 
-  pub ruby-join : (s e : ℕ) → Begins job s → s < e → e ≤ baseCount job → permitted job e ≡ true → rubyOf g s e ≡ rubyIn job s e
-  unfolding rubyOf
-  ruby-join s e b l u p = line-join (rubyPut g) (rubyAt job) (rubyIn job) (λ i c q w o. ruby-put w o) (ruby-more job) (ruby-none job) s e b l u p
+  pub reading-join : (side : Side) (s e : ℕ) → Begins job s → s < e → e ≤ baseCount job → permitted job e ≡ true → sideOf side g s e ≡ readingIn side job s e
+  unfolding sideOf
+  reading-join side s e b l u p =
+      line-join (sidePut side g) (readingAt side job) (readingIn side job) (λ i c q w o. side-put w side o) (λ s d e p more. reading-more job s d e p more side) (λ s e none. reading-none job s e none side) s e b l u p
 
   -- line by line
   by-lines : (f h : ℕ → ℕ → List ℕ) → ((s e : ℕ) → Begins job s → s < e → e ≤ baseCount job → permitted job e ≡ true → f s e ≡ h s e) →
@@ -199,5 +201,5 @@ module _ (job : Job) (passed : Passed job) (t : List ℕ) (table : Holds job t) 
   pub bases-join : (es : List ℕ) (d : ℕ) → Chain job 0 es d → byLine (baseOf g) 0 es ≡ line.byLine (baseIn job) 0 es
   bases-join es d c = by-lines (baseOf g) (baseIn job) base-join 0 es d (inl refl) c
 
-  pub rubies-join : (es : List ℕ) (d : ℕ) → Chain job 0 es d → byLine (rubyOf g) 0 es ≡ line.byLine (rubyIn job) 0 es
-  rubies-join es d c = by-lines (rubyOf g) (rubyIn job) ruby-join 0 es d (inl refl) c
+  pub readings-join : (side : Side) (es : List ℕ) (d : ℕ) → Chain job 0 es d → byLine (sideOf side g) 0 es ≡ line.byLine (readingIn side job) 0 es
+  readings-join side es d c = by-lines (sideOf side g) (readingIn side job) (reading-join side) 0 es d (inl refl) c

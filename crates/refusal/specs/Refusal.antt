@@ -5,7 +5,7 @@ use Prim.Native.Nat.{ℕ, _≤_}
 use native.Mathlib.Omega.{arith}
 use lib.Dec.{eqb}
 use Rattle.refusal.specs.declared.Refusal.{Refusal}
-use Rattle.refusal.specs.declared.Refusal.the-variants.{Range, Ratio, Profile, Count, Short, Character, Blanks, Element, Supply, BlankInside, JukugoBase, Mixed, WesternOver, NoBreak, Form}
+use Rattle.refusal.specs.declared.Refusal.the-variants.{Range, Ratio, Profile, Count, Short, Character, Blanks, Element, LeftKind, Supply, BlankInside, JukugoBase, Mixed, WesternOver, NoBreak, Form}
 
 abbrev pub numberOf : Refusal → ℕ
 numberOf (Range p) = 1
@@ -16,6 +16,7 @@ numberOf Short = 12
 numberOf (Character p) = 3
 numberOf (Blanks p) = 4
 numberOf (Element p) = 5
+numberOf (LeftKind p) = 16
 numberOf (Supply p) = 6
 numberOf (BlankInside p) = 7
 numberOf (JukugoBase p) = 8
@@ -34,6 +35,7 @@ placeOf Short = 0
 placeOf (Character p) = p
 placeOf (Blanks p) = p
 placeOf (Element p) = p
+placeOf (LeftKind p) = p
 placeOf (Supply p) = p
 placeOf (BlankInside p) = p
 placeOf (JukugoBase p) = p
@@ -52,6 +54,7 @@ two-digits Short = omega arith
 two-digits (Character p) = omega arith
 two-digits (Blanks p) = omega arith
 two-digits (Element p) = omega arith
+two-digits (LeftKind p) = omega arith
 two-digits (Supply p) = omega arith
 two-digits (BlankInside p) = omega arith
 two-digits (JukugoBase p) = omega arith
@@ -70,13 +73,14 @@ byPaper n p =
     (cond (eqb n 3) (Character p)
     (cond (eqb n 4) (Blanks p)
     (cond (eqb n 5) (Element p)
+    (cond (eqb n 16) (LeftKind p)
     (cond (eqb n 6) (Supply p)
     (cond (eqb n 7) (BlankInside p)
     (cond (eqb n 8) (JukugoBase p)
     (cond (eqb n 9) (Mixed p)
     (cond (eqb n 10) (WesternOver p)
     (cond (eqb n 11) (NoBreak p)
-    (cond (eqb n 13) (Form p) Short)))))))))))))
+    (cond (eqb n 13) (Form p) Short))))))))))))))
 
 back : (r : Refusal) → byPaper (numberOf r) (placeOf r) ≡ r
 unfolding byPaper
@@ -88,6 +92,7 @@ back Short = refl
 back (Character p) = refl
 back (Blanks p) = refl
 back (Element p) = refl
+back (LeftKind p) = refl
 back (Supply p) = refl
 back (BlankInside p) = refl
 back (JukugoBase p) = refl

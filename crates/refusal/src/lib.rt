@@ -11,16 +11,18 @@ pub enum Refusal {
     Ratio(u32),
     // 20: a profile over 1. Its place is always 0.
     Profile,
-    // 2: a count over its maximum; 0 base, 1 ruby, 2 elements.
+    // 2: a count over its maximum; 0 base, 1 ruby, 2 elements, 3 left characters.
     Count(u32),
     // 12: a result list too short. Its place is always 0.
     Short,
-    // 3: class, width or flag not accepted; the character, ruby ones 1,024 + index.
+    // 3: class, width or flag not accepted; the character, ruby ones 1,024 + index, left ones 3,072 + index.
     Character(u32),
     // 4: blanks against the class or over the width; the character.
     Blanks(u32),
     // 5: unknown kind, or element counts out of range; the element.
     Element(u32),
+    // 16: a left kind that its element does not take; the element.
+    LeftKind(u32),
     // 6: characters run out, or some are left over; the element, or the element count.
     Supply(u32),
     // 7: a blank field not 0 inside M, G or J; the element.
@@ -50,6 +52,7 @@ pub fn number(r: Refusal) -> u32
         Refusal::Character(_) => 3,
         Refusal::Blanks(_) => 4,
         Refusal::Element(_) => 5,
+        Refusal::LeftKind(_) => 16,
         Refusal::Supply(_) => 6,
         Refusal::BlankInside(_) => 7,
         Refusal::JukugoBase(_) => 8,
@@ -73,6 +76,7 @@ pub fn place(r: Refusal) -> u32
         Refusal::Character(p) => p,
         Refusal::Blanks(p) => p,
         Refusal::Element(p) => p,
+        Refusal::LeftKind(p) => p,
         Refusal::Supply(p) => p,
         Refusal::BlankInside(p) => p,
         Refusal::JukugoBase(p) => p,

@@ -10,8 +10,9 @@ use Rattle.door.specs.Job.{Job}
 use Rattle.result.specs.Text.{resultText, refusalText}
 
 -- `write_result`
-pub result-unique : (job : Job) (base ruby out : List ℕ) (p q : ℕ) (u v : List ℕ) → Wrote out 0 (resultText job base ruby) p u → Wrote out 0 (resultText job base ruby) q v → (p ≡ q) × (u ≡ v)
-result-unique job base ruby out p q u v = wrote-unique
+pub result-unique : (job : Job) (base ruby left out : List ℕ) (p q : ℕ) (u v : List ℕ) →
+    Wrote out 0 (resultText job base ruby left) p u → Wrote out 0 (resultText job base ruby left) q v → (p ≡ q) × (u ≡ v)
+result-unique job base ruby left out p q u v = wrote-unique
 
 -- `write_refusal`
 pub refusal-unique : (why : Refusal) (out : List ℕ) (p q : ℕ) (u v : List ℕ) → Wrote out 0 (refusalText why) p u → Wrote out 0 (refusalText why) q v → (p ≡ q) × (u ≡ v)

@@ -3,7 +3,11 @@ pub mod Example
 pub mod Left
 pub mod Rows
 pub mod ByRows
+pub mod Element
+pub mod Line
 pub mod Lines
+pub mod Shown
+pub mod Printed
 pub mod Short
 pub mod Set
 pub mod Accepted

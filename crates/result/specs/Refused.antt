@@ -48,6 +48,6 @@ refused-begins r more n p h e =
     same-number (numberOf r) n (rest ++ more) (decimal p ++ (10 ∷ [])) (omega (arith, two-digits r)) h f .0
 
 -- a result begins with `lines`
-pub no-refusal : (job : Job) (base ruby : List ℕ) (n p : ℕ) → resultText job base ruby ≡ lineTwo (bytes "refused") n p → ⊥
+pub no-refusal : (job : Job) (base ruby left : List ℕ) (n p : ℕ) → resultText job base ruby left ≡ lineTwo (bytes "refused") n p → ⊥
 unfolding resultText lineOne lineTwo
-no-refusal job base ruby n p e = omega (arith, ap (λ l. getD l 0 0) e)
+no-refusal job base ruby left n p e = omega (arith, ap (λ l. getD l 0 0) e)

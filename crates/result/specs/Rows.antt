@@ -1,14 +1,13 @@
--- The rows of a piece: how long they are, and the loop over its characters.
-use mathlib.Core.Path.{_≡_, refl, subst}
+-- Rows of characters: how long they are, and the loop over the characters.
+use mathlib.Core.Path.{_≡_, subst}
 use mathlib.Core.List.{List, [], _∷_, _++_}
 use Prim.Native.Nat.{ℕ, zero, suc, _+_, _-_, _*_, _≤_, _<_, zero-le}
 use native.Mathlib.Numerals.{add-one}
 use native.Mathlib.Omega.{arith}
 use lib.ListN.{length, getD, length-append}
 use Rattle.text.specs.Print.{decimal, Wrote}
-use Rattle.text.specs.Written.{decimal-le, then}
-use Rattle.door.specs.declared.Piece.{Piece}
-use Rattle.result.specs.Text.{bytes, lineOne, lineTwo, rows, ofPiece}
+use Rattle.text.specs.Written.{decimal-le, decimal-below}
+use Rattle.result.specs.Text.{lineOne, lineTwo, rows}
 use Rattle.result.specs.Left.{Left, left-first, fits, left-next, left-end}
 
 -- a line's parts
@@ -65,48 +64,17 @@ module _ {t : List ℕ} {from : ℕ} {all word positions : List ℕ} {end : ℕ}
       none : (e k : ℕ) → e ≤ k → e - k ≡ 0
       none e k h = omega arith
 
--- a piece's characters have positions, and there is room for its rows
-pub record PieceReady (out : List ℕ) (from : ℕ) (p : Piece) (base ruby : List ℕ) : Type 0 where
-  pub within : p .base + p .bases ≤ length base
-  pub reads : p .ruby + p .rubies ≤ length ruby
-  pub small : p .base + p .bases ≤ 4096
-  pub few : p .ruby + p .rubies ≤ 4096
-  pub room : from + length (ofPiece base ruby p) ≤ length out
-
-module _ {t : List ℕ} {from : ℕ} {p : Piece} {base ruby : List ℕ} (ready : PieceReady t from p base ruby) where
-  abbrev ofBase : List ℕ
-  ofBase = rows (bytes "b") base (p .base) (p .bases)
-
-  abbrev ofRuby : List ℕ
-  ofRuby = rows (bytes "r") ruby (p .ruby) (p .rubies)
-
-  whole : Left t from (ofPiece base ruby p) t from (ofBase ++ ofRuby)
-  unfolding ofPiece
-  whole = left-first (ready .room)
-
-  pub base-ready : RowsReady t from (bytes "b") (p .base) (p .bases) base
-  base-ready = record { within = ready .within; small = ready .small; room = fits ofBase ofRuby whole }
-
-  module _ {r : ℕ} {u : List ℕ} (w : Wrote t from ofBase r u) where
-    pub ruby-ready : RowsReady u r (bytes "r") (p .ruby) (p .rubies) ruby
-    ruby-ready = let l = left-next ofBase ofRuby whole w in record { within = ready .reads; small = ready .few; room = omega (arith, l .room, l .long, l .next) }
-
-    pub piece-written : {q : ℕ} {v : List ℕ} → Wrote u r ofRuby q v → Wrote t from (ofPiece base ruby p) q v
-    unfolding ofPiece
-    piece-written y = then w y
-
--- How long the rows are: a number takes at most ten digits.
-
-rows-short : (word positions : List ℕ) (i n : ℕ) → length word ≡ 1 → length (rows word positions i n) ≤ 24 * n
+-- How long rows are: an index below 10,000 takes at most four digits, any other number ten.
+pub rows-short : (word positions : List ℕ) (i n : ℕ) → length word ≡ 1 → i + n ≤ 10000 → length (rows word positions i n) ≤ 18 * n
 unfolding rows
-rows-short word positions i zero e = zero-le
-rows-short word positions i (suc n) e =
+rows-short word positions i zero e h = zero-le
+rows-short word positions i (suc n) e h =
     let p = getD positions i 0 in
-    omega (arith, length-append (lineTwo word i p) (rows word positions (suc i) n), length-two word i p, decimal-le i, decimal-le p, rows-short word positions (suc i) n e)
-
-pub piece-short : (base ruby : List ℕ) (p : Piece) → length (ofPiece base ruby p) ≤ 24 * (p .bases + p .rubies)
-unfolding ofPiece
-piece-short base ruby p =
-    let a = rows (bytes "b") base (p .base) (p .bases) in
-    let b = rows (bytes "r") ruby (p .ruby) (p .rubies) in
-    omega (arith, length-append a b, rows-short (bytes "b") base (p .base) (p .bases) refl, rows-short (bytes "r") ruby (p .ruby) (p .rubies) refl)
+    omega (
+      arith,
+      length-append (lineTwo word i p) (rows word positions (suc i) n),
+      length-two word i p,
+      decimal-below 4 i (omega arith) (omega arith),
+      decimal-le p,
+      rows-short word positions (suc i) n e (omega arith),
+    )

@@ -10,12 +10,12 @@ use Rattle.job.specs.Line.{ends}
 use Rattle.job.specs.Outcome.{outcome}
 use Rattle.job.specs.Demands.{Accepted, set-accepted, filled-exactly, lines-told}
 
-module _ (job : Job) (base ruby lines : List ℕ) {n : ℕ} (set : outcome job base ruby lines .answer ≡ Set n) where
-  pub accepted : Accepted job base ruby lines
-  accepted = set-accepted job base ruby lines n set
+module _ (job : Job) (base ruby left lines : List ℕ) {n : ℕ} (set : outcome job base ruby left lines .answer ≡ Set n) where
+  pub accepted : Accepted job base ruby left lines
+  accepted = set-accepted job base ruby left lines n set
 
   pub many : n ≡ length (ends job)
-  many = let e = sym set ∙ lines-told job base ruby lines accepted .0 in cc
+  many = let e = sym set ∙ lines-told job base ruby left lines accepted .0 in cc
 
   pub door : Passed job
-  door = passed job (length base) (length ruby) (length lines) (filled-exactly job base ruby lines .0 accepted .0)
+  door = passed job (length base) (length ruby) (length left) (length lines) (filled-exactly job base ruby left lines .0 accepted .0)

@@ -1,12 +1,16 @@
 // The text of what the setting program writes (document 01, "The job sheet": "writes `refused N P`, or a result"). A result is printed line by line: its extent as the filling
-// found it, then its pieces' characters, which the rows of the job's table tell, with their positions as the result lists have them. It relies on `text` for words
+// found it, then element by element the characters, which the rows of the job's table tell, with their positions as the result lists have them. It relies on `text` for words
 // and numbers, on `cells` and `positions` for rows and pieces, and on `job` for what the text tells.
-ghost use Prim.Native.Nat.{_+_, _-_, _≤_};
+ghost use mathlib.Core.Path.{_≡_};
+ghost use Prim.Native.Nat.{_+_, _-_, _≤_, _<_};
 ghost use lib.ListN.{length};
 ghost use Rattle.text.specs.Print.{Wrote};
-ghost use Rattle.result.specs.Text.{lineOne, lineTwo, rows, ofPiece, refusalText};
-ghost use Rattle.result.specs.Rows.{RowsReady, PieceReady};
-ghost use Rattle.result.specs.ByRows.{span, piecesText, rowsText, LineReady};
+ghost use Rattle.cells.specs.Cells.{size, stop};
+ghost use Rattle.result.specs.Text.{lineOne, lineTwo, rows, refusalText};
+ghost use Rattle.result.specs.Rows.{RowsReady};
+ghost use Rattle.result.specs.ByRows.{behind, lastPiece, sideRows, elementsText, rowsText};
+ghost use Rattle.result.specs.Element.{Table, SideReady};
+ghost use Rattle.result.specs.Line.{LineReady};
 ghost use Rattle.result.specs.Lines.{TextReady};
 
 // A word and its number, on a line.
@@ -55,53 +59,93 @@ fn put_rows(
     at
 }
 
-// The rows of a piece, "base before ruby": n base characters from the i-th on, m ruby characters from the r-th on.
-fn put_piece(
-    out: &mut [u8],
-    from: usize,
-    i: usize,
-    n: usize,
-    r: usize,
-    m: usize,
-    base: &[u32],
-    ruby: &[u32],
-) -> usize
-    requires { ⌜ PieceReady (now out) from (span i n r m) (now base) (now ruby) ⌝ }
-    ensures { λ p. ⌜ Wrote (now (out .entry)) from (ofPiece (now (base .entry)) (now (ruby .entry)) (span i n r m)) p (now (out .exit)) ⌝ }
+// Where the element of row i goes on behind the piece there, or e where it does not.
+fn behind(t: &[u32], i: usize, e: usize) -> usize
+    requires { ⌜ (i ≤ 1024) × (size (i + 1) ≤ length (now t)) ⌝ }
+    ensures { λ r. ⌜ r ≡ behind (now (t .entry)) i e ⌝ }
 {
-    let a = put_rows(out, from, b"b", i, n, base);
-    put_rows(out, a, b"r", r, m, ruby)
+    let a = cells::cell_at(t, i);
+    if a.more { i + a.bases as usize } else { e }
 }
 
-// The pieces of the line from s up to e.
+// Where the last piece begins that the element of row i has in the line up to e. Only a J with a mono left reading has more than one.
+fn last_piece(t: &[u32], i: usize, e: usize) -> usize
+    requires { ⌜ (i < e) × (Table (now t) e) ⌝ }
+    ensures { λ r. ⌜ r ≡ lastPiece (now (t .entry)) i e ⌝ }
+{
+    let mut z = i;
+    let mut next = behind(t, i, e);
+    while next < e {
+        z = next;
+        next = behind(t, next, e);
+    }
+    z
+}
+
+// Where the piece from i ends in the line up to e.
+fn piece_end(t: &[u32], i: usize, e: usize) -> usize
+    requires { ⌜ (i ≤ 1024) × (size (i + 1) ≤ length (now t)) ⌝ }
+    ensures { λ r. ⌜ r ≡ stop (now (t .entry)) i e ⌝ }
+{
+    let a = cells::cell_at(t, i);
+    door::fewer(e, i + a.bases as usize)
+}
+
+// The rows of one side of an element from i up to c, whose last piece begins at z. Of one piece without characters there are none.
+fn put_side(
+    t: &[u32],
+    i: usize,
+    z: usize,
+    c: usize,
+    side: line::Side,
+    positions: &[u32],
+    out: &mut [u8],
+    from: usize,
+) -> usize
+    requires { ⌜ SideReady side (now t) i z c (now positions) (now out) from ⌝ }
+    ensures { λ r. ⌜ Wrote (now (out .entry)) from (sideRows side (now (t .entry)) (now (positions .entry)) i z c) r (now (out .exit)) ⌝ }
+{
+    let own = cells::share_at(t, i, side);
+    if z == i && own.many == 0 {
+        return from;
+    }
+    let r = own.first as usize;
+    let n = positions::reading_upto(t, z, c, side) - r;
+    match side {
+        line::Side::Right => put_rows(out, from, b"r", r, n, positions),
+        line::Side::Left => put_rows(out, from, b"l", r, n, positions),
+    }
+}
+
+// The line from s up to e, element by element, "base before ruby", and the left rows last.
 fn put_line(
     t: &[u32],
     s: usize,
     e: usize,
     base: &[u32],
     ruby: &[u32],
+    left: &[u32],
     out: &mut [u8],
     from: usize,
 ) -> usize
-    requires { ⌜ LineReady (now t) s e (now base) (now ruby) (now out) from ⌝ }
-    ensures { λ r. let u = now (t .entry) in ⌜ Wrote (now (out .entry)) from (piecesText u (now (base .entry)) (now (ruby .entry)) (e - s) s e) r (now (out .exit)) ⌝ }
+    requires { ⌜ LineReady (now t) s e (now base) (now ruby) (now left) (now out) from ⌝ }
+    ensures { λ r. let u = now (t .entry) in ⌜ Wrote (now (out .entry)) from (elementsText u (now (base .entry)) (now (ruby .entry)) (now (left .entry)) (e - s) s e) r (now (out .exit)) ⌝ }
 {
     let mut at = from;
     let mut i = s;
     while i < e {
-        let a = cells::cell_at(t, i);
-        let end = i + a.bases as usize;
-        let c = door::fewer(e, end);
-        let r = a.ruby as usize;
-        let q = positions::rubies_upto(t, i, c);
-        at = put_piece(out, at, i, c - i, r, q - r, base, ruby);
-        i = end;
+        let z = last_piece(t, i, e);
+        let c = piece_end(t, z, e);
+        let over = put_rows(out, at, b"b", i, c - i, base);
+        let beside = put_side(t, i, z, c, line::Side::Right, ruby, out, over);
+        at = put_side(t, i, z, c, line::Side::Left, left, out, beside);
+        i = c;
     }
     at
 }
 
-// The result of an accepted job whose n lines end where the front of `ends` says and have the extents that the front of `extents` has; `base` and `ruby` have its
-// characters' positions, and `t` its rows. The answer is the text's length.
+// The result of an accepted job whose n lines end where the front of `ends` says and have the extents that the front of `extents` has; `base`, `ruby` and `left` have
+// its characters' positions, and `t` its rows. The answer is the text's length.
 pub fn write_result(
     t: &[u32],
     n: usize,
@@ -109,10 +153,11 @@ pub fn write_result(
     extents: &[u32],
     base: &[u32],
     ruby: &[u32],
+    left: &[u32],
     out: &mut [u8],
 ) -> usize
-    requires { ⌜ TextReady (now t) n (now ends) (now extents) (now base) (now ruby) (now out) ⌝ }
-    ensures { λ r. ⌜ Wrote (now (out .entry)) 0 (rowsText (now (t .entry)) n (now (ends .entry)) (now (extents .entry)) (now (base .entry)) (now (ruby .entry))) r (now (out .exit)) ⌝ }
+    requires { ⌜ TextReady (now t) n (now ends) (now extents) (now base) (now ruby) (now left) (now out) ⌝ }
+    ensures { λ r. ⌜ Wrote (now (out .entry)) 0 (rowsText (now (t .entry)) n (now (ends .entry)) (now (extents .entry)) (now (base .entry)) (now (ruby .entry)) (now (left .entry))) r (now (out .exit)) ⌝ }
 {
     let mut at = put_one(out, 0, b"lines", n as u32);
     let mut s: usize = 0;
@@ -120,7 +165,7 @@ pub fn write_result(
     while l < n {
         let e = ends[l] as usize;
         let told = put_one(out, at, b"line", extents[l]);
-        at = put_line(t, s, e, base, ruby, out, told);
+        at = put_line(t, s, e, base, ruby, left, out, told);
         s = e;
         l += 1;
     }

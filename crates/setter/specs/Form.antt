@@ -14,8 +14,9 @@ use Rattle.sheet.specs.declared.Reading.the-variants.{Sound, Refused}
 use Rattle.sheet.specs.Sheet.{reading}
 use Rattle.sheet.specs.Form.{Over}
 use Rattle.sheet.specs.Place.{Breaks}
+use Rattle.line.specs.declared.Side.the-variants.{Right, Left}
 use Rattle.door.specs.Job.{Job}
-use Rattle.job.specs.Line.{ends, baseIn, rubyIn, byLine}
+use Rattle.job.specs.Line.{ends, baseIn, readingIn, byLine}
 use Rattle.job.specs.Refusals.{fault}
 use Rattle.job.specs.Order.{given-first}
 use Rattle.result.specs.Text.{lineTwo, refusalText}
@@ -25,19 +26,19 @@ use Rattle.setter.specs.Given.{Given, by-sheet, by-job, thirteen-by, two
 
 set-other : (job : Job) (n p : ℕ) → setText job ≡ lineTwo (bytes "refused") n p → ⊥
 unfolding setText
-set-other job n p e = no-refusal job (byLine (baseIn job) 0 (ends job)) (byLine (rubyIn job) 0 (ends job)) n p e
+set-other job n p e = no-refusal job (byLine (baseIn job) 0 (ends job)) (byLine (readingIn Right job) 0 (ends job)) (byLine (readingIn Left job) 0 (ends job)) n p e
 
 module _ (s : List ℕ) where
-  job-gives : (n p : ℕ) → n ≤ most → (c : Counts) → reading s .end ≡ Sound c → (f : Option Refusal) → fault (sheetJob (reading s)) 1024 2048 1024 ≡ f →
+  job-gives : (n p : ℕ) → n ≤ most → (c : Counts) → reading s .end ≡ Sound c → (f : Option Refusal) → fault (sheetJob (reading s)) 1024 2048 2048 1024 ≡ f →
       textBy (sheetJob (reading s)) f ≡ lineTwo (bytes "refused") n p → Given s n p
   unfolding textBy
   job-gives n p small c is none g e = absurd (set-other (sheetJob (reading s)) n p e)
-  job-gives n p small c is (some r) g e = by-job c r (refused-is r n p small e .0) is (given-first (sheetJob (reading s)) 1024 2048 1024 r g)
+  job-gives n p small c is (some r) g e = by-job c r (refused-is r n p small e .0) is (given-first (sheetJob (reading s)) 1024 2048 2048 1024 r g)
 
   sheet-gives : (n p : ℕ) → n ≤ most → (x : Reading) → reading s .end ≡ x → answerBy (reading s) x ≡ lineTwo (bytes "refused") n p → Given s n p
   unfolding answerBy jobText
   sheet-gives n p small (Refused r) is e = let x = refused-is r n p small e in by-sheet r (x .0) (x .1) is
-  sheet-gives n p small (Sound c) is e = job-gives n p small c is (fault (sheetJob (reading s)) 1024 2048 1024) refl e
+  sheet-gives n p small (Sound c) is e = job-gives n p small c is (fault (sheetJob (reading s)) 1024 2048 2048 1024) refl e
 
   gives : (n p : ℕ) → n ≤ most → answerText s ≡ lineTwo (bytes "refused") n p → Given s n p
   unfolding answerText

@@ -30,7 +30,7 @@ use Rattle.setter.specs.Sheet.{no-count, no-short}
 -- why a sheet gets the number n and a place that is written as p is
 pub data Given (s : List ℕ) (n p : ℕ) : Type 0 where
   by-sheet : (r : Refusal) → numberOf r ≡ n → decimal (placeOf r) ≡ decimal p → reading s .end ≡ Refused r → Given s n p
-  by-job : (c : Counts) (r : Refusal) → numberOf r ≡ n → reading s .end ≡ Sound c → First (sheetJob (reading s)) 1024 2048 1024 r → Given s n p
+  by-job : (c : Counts) (r : Refusal) → numberOf r ≡ n → reading s .end ≡ Sound c → First (sheetJob (reading s)) 1024 2048 2048 1024 r → Given s n p
 
 -- the number gives the case
 is-form : (r : Refusal) → numberOf r ≡ 13 → r ≡ Form (placeOf r)
@@ -79,18 +79,18 @@ module _ (s : List ℕ) where
   breaks-given l (by-sheet r n p e) =
       let b = place-exactly s (placeOf r) .0 (e ∙ ap Refused (is-form r n)) in
       subst (Breaks s) (sym (decimal-one l (placeOf r) (omega (arith, place-most b)) (sym p))) b
-  breaks-given l (by-job c r n is first) = absurd (subst (First job 1024 2048 1024) (is-form r n) first .holds)
+  breaks-given l (by-job c r n is first) = absurd (subst (First job 1024 2048 2048 1024) (is-form r n) first .holds)
 
   over-given : (which : ℕ) → Given s 2 which → Over s which
   over-given which (by-sheet r n p e) =
       let b = two-exactly s (placeOf r) .0 (e ∙ ap Refused (is-count r n)) in
       subst (Over s) (sym (decimal-one which (placeOf r) (omega (arith, over-most b)) (sym p))) b
-  over-given which (by-job c r n is first) = absurd (no-count s c is 1024 2048 1024 (placeOf r) (subst (First job 1024 2048 1024) (is-count r n) first .holds))
+  over-given which (by-job c r n is first) = absurd (no-count s c is 1024 2048 2048 1024 (placeOf r) (subst (First job 1024 2048 2048 1024) (is-count r n) first .holds))
 
   twelve-given : (p : ℕ) → Given s 12 p → ⊥
   twelve-given p (by-sheet r n q e) = let g = not-read r Short (is-short r n) e in let z : _≡_ {A = ℕ} 0 1 = cc in omega arith
   twelve-given p (by-job c r n is first) =
-      no-short s c is 1024 2048 1024 (omega arith) (omega arith) (omega arith) (subst (First job 1024 2048 1024) (is-short r n) first .holds)
+      no-short s c is 1024 2048 2048 1024 (omega arith) (omega arith) (omega arith) (subst (First job 1024 2048 2048 1024) (is-short r n) first .holds)
 
   -- an answer that is the reading's refusal where there is one, and `refused N P` for no other cause
   module _ (answer : List ℕ) (read : (r : Refusal) → reading s .end ≡ Refused r → answer ≡ refusalText r)

@@ -19,17 +19,17 @@ use Rattle.sheet.specs.Sheet.{Sheet, reading}
 use Rattle.sheet.specs.Form.{Written, InForm, sheetText, sheetOf}
 use Rattle.sheet.specs.Exact.{sound-exactly}
 use Rattle.sheet.specs.Sound.{sound}
-use Rattle.door.specs.Job.{Job, baseCount, rubyCount, elementCount}
+use Rattle.door.specs.Job.{Job, baseCount, rubyCount, leftCount, elementCount}
 use Rattle.job.specs.declared.Answer.the-variants.{Set, Refused}
 use Rattle.job.specs.Table.{Row}
-use Rattle.job.specs.Outcome.{outcome}
+use Rattle.job.specs.Outcome.{Outcome, outcome}
 use Rattle.job.specs.Demands.{refused-exactly}
 use Rattle.result.specs.Text.{resultText, refusalText}
 use Rattle.setter.specs.Answer.{jobText, sheetJob, answerBy, answerText}
 use Rattle.setter.specs.Tell.{refused-text, set-text}
 
 -- what is written of the sheet of some numbers is the text of their job
-pub sheet-answered : (r : Written) → InForm r → answerText (sheetText r) ≡ jobText (sheetJob (sheetOf r)) 1024 2048 1024
+pub sheet-answered : (r : Written) → InForm r → answerText (sheetText r) ≡ jobText (sheetJob (sheetOf r)) 1024 2048 2048 1024
 unfolding answerText answerBy sheetOf
 sheet-answered r form = ap (λ (t : Sheet). answerBy t (t .end)) (sound-exactly (sheetText r) r .1 (form, refl))
 
@@ -54,44 +54,55 @@ module _ (s : List ℕ) (c : Counts) (is : reading s .end ≡ Sound c) where
   unfolding elementCount sheetJob
   elements-few = le-trans (min-le-left _ _) (omega (arith, long 0 (reading s .elem), sound s c is .elem .count, sound s c is .elem .few))
 
+  pub lefts-none : leftCount job ≡ 0
+  unfolding leftCount sheetJob
+  lefts-none = refl
+
   -- so the refusal list gives it no 2, and no 12 where the result lists have the maximum lengths; 13 is the sheet's own
-  pub no-count : (base ruby lines p : ℕ) → Row job base ruby lines (Count p) → ⊥
-  no-count base ruby lines p (inl x) = omega (arith, x .1, bases-few)
-  no-count base ruby lines p (inr (inl x)) = omega (arith, x .1, rubies-few)
-  no-count base ruby lines p (inr (inr x)) = omega (arith, x .1, elements-few)
+  module _ (base ruby left lines : ℕ) where
+    pub no-count : (p : ℕ) → Row job base ruby left lines (Count p) → ⊥
+    no-count p (inl x) = omega (arith, x .1, bases-few)
+    no-count p (inr (inl x)) = omega (arith, x .1, rubies-few)
+    no-count p (inr (inr (inl x))) = omega (arith, x .1, elements-few)
+    no-count p (inr (inr (inr x))) = omega (arith, x .1, lefts-none)
 
-  short-by : (base ruby lines n m : ℕ) (a b c : Bool) → n ≤ base → n ≤ lines → m ≤ ruby → ltb base n ≡ a → ltb lines n ≡ b → ltb ruby m ≡ c → (a || (b || c)) ≡ true → ⊥
-  short-by base ruby lines n m true b c g h i e f j k = omega (arith, ltb-true base n e)
-  short-by base ruby lines n m false true c g h i e f j k = omega (arith, ltb-true lines n f)
-  short-by base ruby lines n m false false true g h i e f j k = omega (arith, ltb-true ruby m j)
-  short-by base ruby lines n m false false false g h i e f j k = absurd (let z : _≡_ {A = ℕ} 0 1 = cc in omega arith)
+    short-by : (n m k : ℕ) (a b c d : Bool) → n ≤ base → n ≤ lines → m ≤ ruby → k ≤ left → ltb base n ≡ a → ltb lines n ≡ b → ltb ruby m ≡ c → ltb left k ≡ d → (a || (b || (c || d))) ≡ true → ⊥
+    short-by n m k true b c d g h i j ea eb ec ed e = omega (arith, ltb-true base n ea)
+    short-by n m k false true c d g h i j ea eb ec ed e = omega (arith, ltb-true lines n eb)
+    short-by n m k false false true d g h i j ea eb ec ed e = omega (arith, ltb-true ruby m ec)
+    short-by n m k false false false true g h i j ea eb ec ed e = omega (arith, ltb-true left k ed)
+    short-by n m k false false false false g h i j ea eb ec ed e = absurd (let z : _≡_ {A = ℕ} 0 1 = cc in omega arith)
 
-  pub no-short : (base ruby lines : ℕ) → 1024 ≤ base → 2048 ≤ ruby → 1024 ≤ lines → Row job base ruby lines Short → ⊥
-  no-short base ruby lines g h i e =
-      short-by base ruby lines (baseCount job) (rubyCount job) (ltb base (baseCount job)) (ltb lines (baseCount job)) (ltb ruby (rubyCount job))
-      (omega (arith, bases-few)) (omega (arith, bases-few)) (omega (arith, rubies-few)) refl refl refl e
+    pub no-short : 1024 ≤ base → 2048 ≤ ruby → 1024 ≤ lines → Row job base ruby left lines Short → ⊥
+    no-short g h i e =
+        short-by (baseCount job) (rubyCount job) (leftCount job) (ltb base (baseCount job)) (ltb lines (baseCount job)) (ltb ruby (rubyCount job)) (ltb left (leftCount job))
+        (omega (arith, bases-few)) (omega (arith, bases-few)) (omega (arith, rubies-few)) (omega (arith, lefts-none)) refl refl refl refl e
 
   -- The same of the answer.
-  module _ (base ruby lines : List ℕ) where
-    pub never-count : (p : ℕ) → outcome job base ruby lines .answer ≡ Refused (Count p) → ⊥
-    never-count p e = no-count (length base) (length ruby) (length lines) p (refused-exactly job base ruby lines (Count p) .0 e .holds)
+  module _ (base ruby left lines : List ℕ) where
+    abbrev result : Outcome
+    result = outcome job base ruby left lines
 
-    pub never-form : (p : ℕ) → outcome job base ruby lines .answer ≡ Refused (Form p) → ⊥
-    never-form p e = refused-exactly job base ruby lines (Form p) .0 e .holds
+    pub never-count : (p : ℕ) → result .answer ≡ Refused (Count p) → ⊥
+    never-count p e = no-count (length base) (length ruby) (length left) (length lines) p (refused-exactly job base ruby left lines (Count p) .0 e .holds)
 
-    module _ (bases : length base ≡ 1024) (rubies : length ruby ≡ 2048) (ends : length lines ≡ 1024) where
+    pub never-form : (p : ℕ) → result .answer ≡ Refused (Form p) → ⊥
+    never-form p e = refused-exactly job base ruby left lines (Form p) .0 e .holds
+
+    module _ (bases : length base ≡ 1024) (rubies : length ruby ≡ 2048) (lefts : length left ≡ 2048) (ends : length lines ≡ 1024) where
       -- "12: a result list too short": of no sheet
-      pub never-short : outcome job base ruby lines .answer ≡ Refused Short → ⊥
+      pub never-short : result .answer ≡ Refused Short → ⊥
       never-short e =
-          no-short (length base) (length ruby) (length lines) (omega (arith, bases)) (omega (arith, rubies)) (omega (arith, ends)) (refused-exactly job base ruby lines Short .0 e .holds)
+          no-short (length base) (length ruby) (length left) (length lines) (omega (arith, bases)) (omega (arith, rubies)) (omega (arith, ends))
+          (refused-exactly job base ruby left lines Short .0 e .holds)
 
-      job-written : answerText s ≡ jobText job (length base) (length ruby) (length lines)
+      job-written : answerText s ≡ jobText job (length base) (length ruby) (length left) (length lines)
       unfolding answerText answerBy
-      job-written = ap (answerBy (reading s)) is ∙ rw (bases, rubies, ends)
+      job-written = ap (answerBy (reading s)) is ∙ rw (bases, rubies, lefts, ends)
 
       -- "writes `refused N P`, or a result": the refusal that the outcome of the job has, or its lines and positions
-      pub refused-written : {r : Refusal} → outcome job base ruby lines .answer ≡ Refused r → answerText s ≡ refusalText r
-      refused-written e = job-written ∙ refused-text job base ruby lines e
+      pub refused-written : {r : Refusal} → result .answer ≡ Refused r → answerText s ≡ refusalText r
+      refused-written e = job-written ∙ refused-text job base ruby left lines e
 
-      pub set-written : {n : ℕ} → outcome job base ruby lines .answer ≡ Set n → answerText s ≡ resultText job (outcome job base ruby lines .base) (outcome job base ruby lines .ruby)
-      set-written e = job-written ∙ set-text job base ruby lines e
+      pub set-written : {n : ℕ} → result .answer ≡ Set n → answerText s ≡ resultText job (result .base) (result .ruby) (result .left)
+      set-written e = job-written ∙ set-text job base ruby left lines e

@@ -1,9 +1,10 @@
 -- From the reading to the answer: a sheet that breaks its form is refused, and the tables of a sound one hold its job.
-use mathlib.Core.List.{List}
+use mathlib.Core.List.{List, _∷_}
 use mathlib.Core.Path.{_≡_, refl, sym, ap, subst, _∙_}
-use Prim.Native.Nat.{ℕ, _+_, _-_, _*_, _≤_}
+use Prim.Native.Nat.{ℕ, zero, suc, _+_, _-_, _*_, _≤_}
+use native.Mathlib.Nat.{sub-zero}
 use native.Mathlib.Omega.{arith}
-use lib.ListN.{length}
+use lib.ListN.{length, take, replicate}
 use lib.Seq.{length-sets, length-take-le}
 use Rattle.text.specs.Print.{Wrote}
 use Rattle.refusal.specs.declared.Refusal.{Refusal}
@@ -13,9 +14,10 @@ use Rattle.sheet.specs.declared.Reading.{Reading}
 use Rattle.sheet.specs.declared.Reading.the-variants.{Sound, Refused}
 use Rattle.sheet.specs.Sheet.{reading, Into}
 use Rattle.sheet.specs.Lent.{base-long, ruby-long, elem-long, runs-long, sound, base-part, ruby-part, elem-part, runs-part, em-part, measure-part}
+use Rattle.door.specs.Job.{Job}
 use Rattle.result.specs.Text.{refusalText}
 use Rattle.result.specs.Short.{longest, refusal-short}
-use Rattle.setter.specs.Answer.{sheetJob, answerBy, answerText, listsBy, Told, part, tablesJob, Fits, TablesReady, Answered}
+use Rattle.setter.specs.Answer.{sheetJob, answerBy, answerText, spare, listsBy, Told, part, tablesJob, Fits, TablesReady, Answered}
 
 module _ {s set base ruby elem runs : List ℕ} {a : Reading} {set' base' ruby' elem' runs' : List ℕ} (into : Into s set base ruby elem runs a set' base' ruby' elem' runs')
     {bases rubies lines out bases' rubies' lines' out' : List ℕ} {r : ℕ} where
@@ -33,6 +35,23 @@ module _ {s set base ruby elem runs : List ℕ} {a : Reading} {set' base' ruby' 
         elemHolds = into .elemHolds;
         runsHold = into .runsHold;
       }
+
+-- as many equal entries as there are elements, taken of the most that there can be
+take-same : (v n m : ℕ) → n ≤ m → take n (replicate m v) ≡ replicate n v
+take-same v zero m h = refl
+take-same v (suc n) zero h = absurd (omega arith)
+take-same v (suc n) (suc m) h = ap (λ (l : List ℕ). v ∷ l) (take-same v n m (omega arith))
+
+pub first-same : (v e : ℕ) → e ≤ 1024 → part 0 e (replicate 1024 v) ≡ replicate e v
+first-same v e h = ap (λ k. take k (replicate 1024 v)) (sub-zero e) ∙ take-same v e 1024 h
+
+-- what is told of a job by its elements' left kinds and counts, where none has a left reading
+pub none-left : (job : List ℕ → List ℕ → Job) {base ruby lines out : List ℕ} {r : ℕ} {base' ruby' lines' out' : List ℕ} (e : ℕ) → e ≤ 1024 →
+    Told (job (part 0 e (replicate 1024 78)) (part 0 e (replicate 1024 0))) base ruby spare lines out r base' ruby' lines' out' →
+    Told (job (replicate e 78) (replicate e 0)) base ruby spare lines out r base' ruby' lines' out'
+none-left job {base} {ruby} {lines} {out} {r} {base'} {ruby'} {lines'} {out'} e h told =
+    subst (λ x. Told (job x (replicate e 0)) base ruby spare lines out r base' ruby' lines' out') (first-same 78 e h)
+    (subst (λ x. Told (job (part 0 e (replicate 1024 78)) x) base ruby spare lines out r base' ruby' lines' out') (first-same 0 e h) told)
 
 -- the bytes of an answer stand within their list
 pub fits : {s set base ruby elem runs bases rubies lines out : List ℕ} {r : ℕ} {set' base' ruby' elem' runs' bases' rubies' lines' out' : List ℕ} →
@@ -80,6 +99,10 @@ module _ {s set base ruby elem runs : List ℕ} {a : Reading} {n : Counts} {set'
   all-runs : part 0 (n .runs) runs' ≡ reading s .runs
   all-runs = runs-part into e (sym (runs-long into) ∙ longRuns) (n .runs - 0) (omega arith)
 
+  -- as many left kinds as elements
+  many : n .elements ≡ length (reading s .elem)
+  many = sym (sound into e .elem .count)
+
   was-two : length set ≡ 2
   was-two = sym (length-laid set 0 2 (reading s .set)) ∙ ap length (sym (into .setHolds)) ∙ two
 
@@ -98,16 +121,18 @@ module _ {s set base ruby elem runs : List ℕ} {a : Reading} {n : Counts} {set'
         elem-column 1 1024 (1024 + n .elements) (omega arith) (omega arith) refl,
         elem-column 2 2048 (2048 + n .elements) (omega arith) (omega arith) refl,
         all-runs,
+        ap (λ k. replicate {A = ℕ} k 78) many,
+        ap (λ k. replicate {A = ℕ} k 0) many,
         em-part into e was-two,
         measure-part into e was-two,
       )
 
   pub answered-sound : {bases rubies lines out bases' rubies' lines' out' : List ℕ} {r : ℕ} → length bases ≡ 1024 → length rubies ≡ 2048 → length lines ≡ 1024 →
-      Told (tablesJob n set' base' ruby' elem' runs') bases rubies lines out r bases' rubies' lines' out' →
+      Told (tablesJob n set' base' ruby' elem' runs') bases rubies spare lines out r bases' rubies' lines' out' →
       Answered s set base ruby elem runs bases rubies lines out r set' base' ruby' elem' runs' bases' rubies' lines' out'
   unfolding answerText answerBy listsBy
   answered-sound {bases} {rubies} {lines} {out} {bases'} {rubies'} {lines'} {out'} {r} lb lr ll told =
-      let t : Told (sheetJob (reading s)) bases rubies lines out r bases' rubies' lines' out' = subst (λ job. Told job bases rubies lines out r bases' rubies' lines' out') same-job told in
+      let t : Told (sheetJob (reading s)) bases rubies spare lines out r bases' rubies' lines' out' = subst (λ job. Told job bases rubies spare lines out r bases' rubies' lines' out') same-job told in
       answered into
       (subst (λ xs. Wrote out 0 xs r out') (rw (lb, lr, ll) (sym (ap (answerBy (reading s)) is))) (t .text))
       (t .short)

@@ -2,13 +2,14 @@
 // tables are lent, so that a program says once how large they are; what each holds afterwards is part of the contract. It relies on `sheet` for the reading, on
 // `engine` for the job and on `result` for the text.
 ghost use Prim.Native.Nat.{_+_, _≤_};
-ghost use lib.ListN.{length};
+ghost use mathlib.Core.List.{[]};
+ghost use lib.ListN.{length, replicate};
 ghost use Rattle.spread.specs.Ratio.{usualLists};
 ghost use Rattle.door.specs.Job.{jobOf};
 ghost use Rattle.result.specs.Short.{longest};
-ghost use Rattle.setter.specs.Answer.{part, Told, ElementsReady, TablesReady, tablesJob, Fits, Answered};
+ghost use Rattle.setter.specs.Answer.{part, spare, Told, ElementsReady, TablesReady, tablesJob, Fits, Answered};
 
-// Sets a job in lists and writes its text. A sheet has no ratios and no profile: it means 1:2:1 and 0.
+// Sets a job in lists and writes its text. A sheet has no ratios and no profile: it means 1:2:1 and 0. It has no left reading.
 fn set_lists(
     em: u32,
     measure: u32,
@@ -22,6 +23,8 @@ fn set_lists(
     kind: &[u32],
     ebase: &[u32],
     eruby: &[u32],
+    lkind: &[u32],
+    eleft: &[u32],
     runs: &[u32],
     base: &mut [u32],
     ruby: &mut [u32],
@@ -29,11 +32,12 @@ fn set_lists(
     out: &mut [u8],
 ) -> usize
     requires { ⌜ longest ≤ length (now out) ⌝ }
-    ensures { λ r. ⌜ Told (jobOf em measure usualLists 0 (now (class .entry)) (now (width .entry)) (now (before .entry)) (now (after .entry)) (now (flag .entry)) (now (rclass .entry)) (now (rwidth .entry)) (now (kind .entry)) (now (ebase .entry)) (now (eruby .entry)) (now (runs .entry))) (now (base .entry)) (now (ruby .entry)) (now (lines .entry)) (now (out .entry)) r (now (base .exit)) (now (ruby .exit)) (now (lines .exit)) (now (out .exit)) ⌝ }
+    ensures { λ r. ⌜ Told (jobOf em measure usualLists 0 (now (class .entry)) (now (width .entry)) (now (before .entry)) (now (after .entry)) (now (flag .entry)) (now (rclass .entry)) (now (rwidth .entry)) [] [] (now (kind .entry)) (now (ebase .entry)) (now (eruby .entry)) (now (lkind .entry)) (now (eleft .entry)) (now (runs .entry)) []) (now (base .entry)) (now (ruby .entry)) spare (now (lines .entry)) (now (out .entry)) r (now (base .exit)) (now (ruby .exit)) (now (lines .exit)) (now (out .exit)) ⌝ }
 {
-    let mut t = [0; 19463];
+    let mut t = [0; 27655];
     let mut ends = [0; 1024];
     let mut extents = [0; 1024];
+    let mut left = [0; 2048];
     match engine::set_table(
         &mut t,
         &mut ends,
@@ -49,16 +53,22 @@ fn set_lists(
         flag,
         rclass,
         rwidth,
+        &eleft[0..0],
+        &eleft[0..0],
         kind,
         ebase,
         eruby,
+        lkind,
+        eleft,
         runs,
+        &eleft[0..0],
         base,
         ruby,
+        &mut left,
         lines,
     ) {
         job::Answer::Refused(why) => result::write_refusal(why, out),
-        job::Answer::Set(n) => result::write_result(&t, n, &ends, &extents, base, ruby, out),
+        job::Answer::Set(n) => result::write_result(&t, n, &ends, &extents, base, ruby, &left, out),
     }
 }
 
@@ -83,10 +93,12 @@ fn set_elements(
     out: &mut [u8],
 ) -> usize
     requires { ⌜ ElementsReady e u (now elem) (now runs) (now out) ⌝ }
-    ensures { λ r. ⌜ Told (jobOf em measure usualLists 0 (now (class .entry)) (now (width .entry)) (now (before .entry)) (now (after .entry)) (now (flag .entry)) (now (rclass .entry)) (now (rwidth .entry)) (part 0 e (now (elem .entry))) (part 1024 (1024 + e) (now (elem .entry))) (part 2048 (2048 + e) (now (elem .entry))) (part 0 u (now (runs .entry)))) (now (base .entry)) (now (ruby .entry)) (now (lines .entry)) (now (out .entry)) r (now (base .exit)) (now (ruby .exit)) (now (lines .exit)) (now (out .exit)) ⌝ }
+    ensures { λ r. ⌜ Told (jobOf em measure usualLists 0 (now (class .entry)) (now (width .entry)) (now (before .entry)) (now (after .entry)) (now (flag .entry)) (now (rclass .entry)) (now (rwidth .entry)) [] [] (part 0 e (now (elem .entry))) (part 1024 (1024 + e) (now (elem .entry))) (part 2048 (2048 + e) (now (elem .entry))) (replicate e 78) (replicate e 0) (part 0 u (now (runs .entry))) []) (now (base .entry)) (now (ruby .entry)) spare (now (lines .entry)) (now (out .entry)) r (now (base .exit)) (now (ruby .exit)) (now (lines .exit)) (now (out .exit)) ⌝ }
 {
     let e1 = 1024 + e;
     let e2 = 2048 + e;
+    let lkind = [door::LEFT_NONE; 1024];
+    let eleft = [0; 1024];
     set_lists(
         em,
         measure,
@@ -100,6 +112,8 @@ fn set_elements(
         &elem[0..e],
         &elem[1024..e1],
         &elem[2048..e2],
+        &lkind[0..e],
+        &eleft[0..e],
         &runs[0..u],
         base,
         ruby,
@@ -122,7 +136,7 @@ fn set_tables(
     out: &mut [u8],
 ) -> usize
     requires { ⌜ TablesReady n (now set) (now base) (now ruby) (now elem) (now runs) (now out) ⌝ }
-    ensures { λ r. ⌜ Told (tablesJob n (now (set .entry)) (now (base .entry)) (now (ruby .entry)) (now (elem .entry)) (now (runs .entry))) (now (bases .entry)) (now (rubies .entry)) (now (lines .entry)) (now (out .entry)) r (now (bases .exit)) (now (rubies .exit)) (now (lines .exit)) (now (out .exit)) ⌝ }
+    ensures { λ r. ⌜ Told (tablesJob n (now (set .entry)) (now (base .entry)) (now (ruby .entry)) (now (elem .entry)) (now (runs .entry))) (now (bases .entry)) (now (rubies .entry)) spare (now (lines .entry)) (now (out .entry)) r (now (bases .exit)) (now (rubies .exit)) (now (lines .exit)) (now (out .exit)) ⌝ }
 {
     let b = n.bases;
     let b1 = 1024 + b;

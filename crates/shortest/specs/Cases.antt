@@ -24,22 +24,27 @@ example measure flag =
       flag = flag;
       rubyClass = 15 ∷ 15 ∷ 15 ∷ 15 ∷ 15 ∷ 15 ∷ [];
       rubyWidth = 5 ∷ 5 ∷ 5 ∷ 5 ∷ 5 ∷ 5 ∷ [];
+      leftClass = [];
+      leftWidth = [];
       kind = 77 ∷ 80 ∷ 74 ∷ [];
       elementBase = 1 ∷ 1 ∷ 2 ∷ [];
       elementRuby = 3 ∷ 0 ∷ 0 ∷ [];
+      leftKind = 78 ∷ 78 ∷ 78 ∷ [];
+      elementLeft = 0 ∷ 0 ∷ 0 ∷ [];
       run = 1 ∷ 2 ∷ [];
+      leftRun = [];
     }
 
 abbrev lent : List ℕ
 lent = 0 ∷ 0 ∷ 0 ∷ 0 ∷ 0 ∷ 0 ∷ []
 
 -- The measure of 14 units falls short of the first word's three ruby characters, 30 half units.
-pub short-of-word : (outcome (example 14 (1 ∷ 1 ∷ 1 ∷ 1 ∷ [])) lent lent lent .answer ≡ Refused (NoBreak 0)) × (needed (example 14 (1 ∷ 1 ∷ 1 ∷ 1 ∷ [])) 0 ≡ 30)
+pub short-of-word : (outcome (example 14 (1 ∷ 1 ∷ 1 ∷ 1 ∷ [])) lent lent lent lent .answer ≡ Refused (NoBreak 0)) × (needed (example 14 (1 ∷ 1 ∷ 1 ∷ 1 ∷ [])) 0 ≡ 30)
 unfolding outcome needed
 short-of-word = (refl, refl)
 
 -- Where no line may end before the J, the shortest ends inside it, between its two base characters: 70 half units.
-pub short-of-part : (outcome (example 34 (0 ∷ 0 ∷ 0 ∷ 0 ∷ [])) lent lent lent .answer ≡ Refused (NoBreak 0)) × (needed (example 34 (0 ∷ 0 ∷ 0 ∷ 0 ∷ [])) 0 ≡ 70)
+pub short-of-part : (outcome (example 34 (0 ∷ 0 ∷ 0 ∷ 0 ∷ [])) lent lent lent lent .answer ≡ Refused (NoBreak 0)) × (needed (example 34 (0 ∷ 0 ∷ 0 ∷ 0 ∷ [])) 0 ≡ 70)
 unfolding outcome needed
 short-of-part = (refl, refl)
 

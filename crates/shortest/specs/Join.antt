@@ -62,9 +62,9 @@ module _ (job : Job) (passed : Passed job) (t : List ℕ) (table : Holds job t) 
       ∙ least-listed (permitted job) (extentOf job s) (extentOf job s (baseCount job)) s (baseCount job - s)
 
 -- Of a job that is refused with number 11 at s and a table that holds it, `needed_extent` tells what is needed there: all that it asks holds.
-module _ (job : Job) (base ruby line : List ℕ) (s : ℕ) (refused : outcome job base ruby line .answer ≡ Refused (NoBreak s)) (t : List ℕ) (table : Holds job t) where
+module _ (job : Job) (base ruby left line : List ℕ) (s : ℕ) (refused : outcome job base ruby left line .answer ≡ Refused (NoBreak s)) (t : List ℕ) (table : Holds job t) where
   pub refused-ready : (Sound (job .em) t (baseCount job)) × (s < baseCount job) × (neededOf (job .em) t (baseCount job) s ≡ needed job s)
   refused-ready =
-      let good = entered job base ruby line s refused in
-      let h = refused-ahead job base ruby line s refused in
+      let good = entered job base ruby left line s refused in
+      let h = refused-ahead job base ruby left line s refused in
       (sound job good t table, h, needed-join job good t table s h)

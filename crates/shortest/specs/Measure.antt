@@ -6,19 +6,18 @@ use mathlib.Core.Logic.{_↔_}
 use Prim.Native.Nat.{ℕ, zero, suc, _+_, _*_, _≤_, _<_}
 use borrow.Author.Tests.{le-leb, leb-true}
 use Rattle.door.specs.declared.Piece.{Piece}
-use Rattle.door.specs.Job.{Job, withMeasure, baseCount, elementCount, takesRuns, element, elementsFrom, elements}
-use Rattle.job.specs.Line.{part, inLine, pieces, seen, lineOf, origins, extentOf, canSet, permitted}
+use Rattle.door.specs.declared.Taken.{Taken}
+use Rattle.door.specs.Job.{Job, withMeasure, baseCount, elementCount, nothing, past, element, elementsFrom, elements}
+use Rattle.job.specs.Line.{part, wordsIn, words, cuts, inLine, pieces, seen, lineOf, origins, extentOf, canSet, permitted}
 use Rattle.job.specs.Promise.{Break}
 use Rattle.shortest.specs.Needed.{needed}
 use Rattle.shortest.specs.Theorems.{exactly}
 
 module _ (m : ℕ) (job : Job) where
-  same-from : (n k b r u : ℕ) → elementsFrom (withMeasure m job) n k b r u ≡ elementsFrom job n k b r u
+  same-from : (n k : ℕ) (at : Taken) → elementsFrom (withMeasure m job) n k at ≡ elementsFrom job n k at
   unfolding elementsFrom element
-  same-from zero k b r u = refl
-  same-from (suc n) k b r u =
-      let x = element job k b r u in
-      ap {B = List Piece} (λ xs. x ∷ xs) (same-from n (suc k) (b + x .bases) (r + x .rubies) (u + takesRuns (x .form) (x .bases)))
+  same-from zero k at = refl
+  same-from (suc n) k at = let x = element job k at in ap {B = List Piece} (λ xs. x ∷ xs) (same-from n (suc k) (past at x))
 
   same-count : baseCount (withMeasure m job) ≡ baseCount job
   unfolding baseCount
@@ -26,14 +25,14 @@ module _ (m : ℕ) (job : Job) where
 
   same-elements : elements (withMeasure m job) ≡ elements job
   unfolding elements elementCount
-  same-elements = same-from (elementCount job) 0 0 0 0
+  same-elements = same-from (elementCount job) 0 nothing
 
   same-permitted : (e : ℕ) → permitted (withMeasure m job) e ≡ permitted job e
-  unfolding permitted baseCount
+  unfolding permitted baseCount cuts
   same-permitted e = rw same-elements
 
   same-pieces : (s e : ℕ) → pieces (withMeasure m job) s e ≡ pieces job s e
-  unfolding pieces inLine part
+  unfolding pieces inLine part cuts words wordsIn
   same-pieces s e = rw same-elements
 
   same-line : (s e : ℕ) → lineOf (withMeasure m job) s e ≡ lineOf job s e

@@ -150,14 +150,14 @@ module _ (job : Job) (good : Passed job) (s : ℕ) where
   stuck-needs = (λ k. (k .sofar, k .lines, k .more, stuck-long k), λ (es, c, h, l). long-stuck es c h l)
 
 -- Of a job that is refused with number 11 at s,
-module _ (job : Job) (base ruby line : List ℕ) (s : ℕ) (refused : outcome job base ruby line .answer ≡ Refused (NoBreak s)) where
+module _ (job : Job) (base ruby left line : List ℕ) (s : ℕ) (refused : outcome job base ruby left line .answer ≡ Refused (NoBreak s)) where
   pub entered : Passed job
-  entered = passed job (length base) (length ruby) (length line) (stuck-exactly job base ruby line s .0 refused .0)
+  entered = passed job (length base) (length ruby) (length left) (length line) (stuck-exactly job base ruby left line s .0 refused .0)
 
   -- the extent that is needed there passes the measure,
   pub too-long : 2 * job .measure < needed job s
-  too-long = stuck-long job entered s (stuck-exactly job base ruby line s .0 refused .1)
+  too-long = stuck-long job entered s (stuck-exactly job base ruby left line s .0 refused .1)
 
   -- and there is a line from there.
   pub refused-ahead : s < baseCount job
-  refused-ahead = stuck-exactly job base ruby line s .0 refused .1 .more
+  refused-ahead = stuck-exactly job base ruby left line s .0 refused .1 .more

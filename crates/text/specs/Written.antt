@@ -3,7 +3,7 @@ use Prim.Native.Nat.{ℕ, zero, suc, _+_, _-_, _/_, _%_, _^_, _<_, _≤_}
 use mathlib.Core.Path.{_≡_, refl, _∙_, sym, ap}
 use mathlib.Core.List.{List, _++_}
 use native.Mathlib.Omega.{arith}
-use borrow.Author.Tests.{le-leb, lt-leb}
+use borrow.Author.Tests.{le-leb, lt-leb, leb-true}
 use mathlib.Core.Bool.{Bool, true, false, cond}
 use lib.Dec.{leb}
 use lib.ListN.{length, set, length-append}
@@ -86,3 +86,20 @@ width-le n = widthFrom-le 9 1 n
 -- a number takes at most ten digits
 pub decimal-le : (n : ℕ) → length (decimal n) ≤ 10
 decimal-le n = omega (arith, length-decimal n, width-le n)
+
+-- and one below 10 ^ m at most m
+width-below : (m fuel k n : ℕ) → k ≤ m → n < 10 ^ m → widthFrom fuel k n ≤ m
+unfolding widthFrom
+width-below m zero k n h l = h
+width-below m (suc fuel) k n h l = go (leb (10 ^ k) n) refl (λ q. width-below m fuel (k + 1) n q l)
+  where
+    short : 10 ^ k ≤ n → k ≡ m → ⊥
+    short q e = let f : 10 ^ m ≤ n = rw e at q in omega arith
+
+    go : (b : Bool) → leb (10 ^ k) n ≡ b → (k + 1 ≤ m → widthFrom fuel (k + 1) n ≤ m) → cond b (widthFrom fuel (k + 1) n) k ≤ m
+    go true e f = f (omega (arith, short (leb-true _ _ e)))
+    go false e f = h
+
+pub decimal-below : (m n : ℕ) → 0 < m → n < 10 ^ m → length (decimal n) ≤ m
+unfolding width
+decimal-below m n h l = omega (arith, length-decimal n, width-below m 9 1 n h l)

@@ -56,10 +56,10 @@ abbrev pub formOfPart : ℕ → Form
 formOfPart n = cond (eqb n 1) M J
 
 -- what no entry is, no entry of a part is
-any-within : (p : ℕ → Bool) (i n : ℕ) (xs : List ℕ) → any p xs ≡ false → any p (within i n xs) ≡ false
+pub any-within : (p : ℕ → Bool) (i n : ℕ) (xs : List ℕ) → any p xs ≡ false → any p (within i n xs) ≡ false
 any-within p i n xs e = none-any p (within i n xs) (all-take _ n (drop i xs) (all-drop _ i xs (any-none p xs e)))
 
-mixed-within : (i n : ℕ) (cs : List ℕ) → mixed cs ≡ false → mixed (within i n cs) ≡ false
+pub mixed-within : (i n : ℕ) (cs : List ℕ) → mixed cs ≡ false → mixed (within i n cs) ≡ false
 mixed-within i n cs e =
     let q = or-none (any (eqb 26) cs) (any western cs && any kanaLike cs) e in
     rw (any-within (eqb 26) i n cs (q .0)) (go (any western cs) (any kanaLike cs) refl refl (q .1))
@@ -92,7 +92,7 @@ part-set place w e i n =
     go false seven eight nine = set J place (part w i n) seven eight nine refl
 
 -- a part keeps the limits: it has a character of one em, and each of its runs at least one ruby character
-runs-some : (runs : List ℕ) → 0 < length runs → All (λ r. 0 < r) runs → 0 < sum runs
+pub runs-some : (runs : List ℕ) → 0 < length runs → All (λ r. 0 < r) runs → 0 < sum runs
 runs-some [] h a = h
 runs-some (r ∷ rs) h a = omega (arith, a .0)
 

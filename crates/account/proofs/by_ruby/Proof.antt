@@ -1,23 +1,24 @@
--- Rules 3 and 4 by the calls, at the start of e's ruby; nothing where e has none.
+-- Rules 3 and 4 by the calls, from the last reason to the first.
 use borrow.Author.Needs.{needs}
 use Rattle.account.proofs.by_ruby.Statement.{statement}
 use Rattle.account.proofs.by_ruby.Tie as tie
 
-ruby-start-requires : tie.Need-ruby-start-requires
-ruby-start-requires c κs = search needs
-
 at-edge-requires : tie.Need-at-edge-requires
 at-edge-requires c κs = search needs
+
+at-edge-requires-2 : tie.Need-at-edge-requires-2
+at-edge-requires-2 c κs = search needs
 
 touching-requires : tie.Need-touching-requires
 touching-requires c κs = search needs
 
-returns : tie.Need-returns
-returns c = rw (c .before .before .before .if1 .taken, c .touching .ensures, c .before .at-edge .ensures, c .before .before .ruby-start .ensures .0)
+touching-requires-2 : tie.Need-touching-requires-2
+touching-requires-2 c κs = search needs
 
-returns-2 : tie.Need-returns-2
-returns-2 c = rw (c .if1 .left)
+returns : tie.Need-returns
+returns c = rw (c .touching2 .ensures, c .before .touching .ensures, c .before .before .at-edge2 .ensures, c .before .before .before .at-edge .ensures)
 
 pub by-ruby-spec : {M : Type 1} → statement M
 by-ruby-spec =
-    tie.close (tie.spec ruby-start-requires at-edge-requires touching-requires returns returns-2)
+    tie.close
+    (tie.spec at-edge-requires at-edge-requires-2 touching-requires touching-requires-2 returns)

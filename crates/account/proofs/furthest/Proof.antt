@@ -16,23 +16,23 @@ enum-known-far c = search needs
 returns : tie.Need-returns
 returns c =
     let d = c .before .before in
-    let a = d .before .before .before .args in
-    further-first (a .far) (a .e) (a .x) _ _ (d .before .if1 .taken) (d .ruby-end .ensures) (c .enum-told .given .1)
+    let a = d .before .before .args in
+    further-first (a .far) (a .r) (a .x) _ _ (d .before .if1 .taken) (d .ruby-end .ensures) (c .enum-told .given .1)
 
 returns-2 : tie.Need-returns-2
 returns-2 c =
     let d = c .before .before .before .before in
-    let a = d .before .before .before .args in
-    further-more (a .far) (a .e) (a .x) _ _ (d .before .if1 .taken) (d .ruby-end .ensures) _ _ (c .before .before .far .given .1) (c .if2 .taken)
+    let a = d .before .before .args in
+    further-more (a .far) (a .r) (a .x) _ _ (d .before .if1 .taken) (d .ruby-end .ensures) _ _ (c .before .before .far .given .1) (c .if2 .taken)
 
 returns-3 : tie.Need-returns-3
 returns-3 c =
     let d = c .before .before .before .before in
-    let a = d .before .before .before .args in
-    further-less (a .far) (a .e) (a .x) (a .i) _ (d .before .if1 .taken) (d .ruby-end .ensures) _ _ (c .before .before .far .given .1) (c .if2 .left)
+    let a = d .before .before .args in
+    further-less (a .far) (a .r) (a .x) (a .i) _ (d .before .if1 .taken) (d .ruby-end .ensures) _ _ (c .before .before .far .given .1) (c .if2 .left)
 
 returns-4 : tie.Need-returns-4
-returns-4 c = let a = c .before .before .args in further-plain (a .far) (a .e) (a .x) (a .i) (c .if1 .left)
+returns-4 c = let a = c .before .args in further-plain (a .far) (a .r) (a .x) (a .i) (c .if1 .left)
 
 pub furthest-spec : {M : Type 1} → statement M
 furthest-spec =

@@ -1,4 +1,4 @@
--- The tests are the definition's, in its order; what rules 3 and 4 give is found before rules 1 and 2 are asked.
+-- The tests are the definition's, in its order.
 use borrow.Author.Needs.{needs}
 use borrow.Author.Tests.{eq-eqb}
 use mathlib.Core.Path.{sym, _∙_}
@@ -17,7 +17,9 @@ by-ruby-requires : tie.Need-by-ruby-requires
 by-ruby-requires c κs = search needs
 
 returns-2 : tie.Need-returns-2
-returns-2 c = let d = c .before .before in reason-first _ _ _ _ _ (λ h. d .if1 .left (d .before .block-start .ensures .0 ∙ h)) (c .before .by-ruby .ensures) (c .if2 .taken)
+returns-2 c =
+    let d = c .before .before in
+    reason-first _ _ _ _ _ (λ h. d .if1 .left (d .before .block-start .ensures .0 ∙ h)) (c .before .if2 .taken) (c .by-ruby .ensures)
 
 sub-by-neighbour : tie.Need-sub-by-neighbour
 sub-by-neighbour c = search needs
@@ -26,7 +28,9 @@ by-neighbour-requires : tie.Need-by-neighbour-requires
 by-neighbour-requires c κs = search needs
 
 returns-3 : tie.Need-returns-3
-returns-3 c = let f = c .before .before .before in let d = f .before in reason-next _ _ _ _ _ _ (λ h. d .if1 .left (d .before .block-start .ensures .0 ∙ h)) (f .by-ruby .ensures) (c .before .before .if2 .left) (c .by-neighbour .ensures)
+returns-3 c =
+    let d = c .before .before in
+    reason-next _ _ _ _ _ (λ h. d .if1 .left (d .before .block-start .ensures .0 ∙ h)) (c .before .if2 .left) (c .by-neighbour .ensures)
 
 pub reason-of-spec : {M : Type 1} → statement M
 reason-of-spec =

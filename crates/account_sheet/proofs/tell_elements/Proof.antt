@@ -1,7 +1,23 @@
--- The parts that are lent lie within their tables, and what the job in lists is told is what is told here.
+-- The parts that are lent lie within their tables. What is told of the job in lists is what is told here, where each element's left kind is none.
+use mathlib.Core.List.{List, []}
+use Prim.Native.Nat.{ℕ, _+_}
 use borrow.Author.Needs.{needs}
+use Rattle.spread.specs.Ratio.{usualLists}
+use Rattle.door.specs.Job.{Job, jobOf}
+use Rattle.setter.specs.Answer.{part}
+use Rattle.account_sheet.specs.Whole.{none-left}
 use Rattle.account_sheet.proofs.tell_elements.Statement.{statement}
 use Rattle.account_sheet.proofs.tell_elements.Tie as tie
+
+abbrev start : tie.After-tell-lists → tie.Start
+start f = f .before .before .before .before .before .before .before .before .before .before .before .before .before .before .before .before .before .before .before .before .before .before .before .before .before .before
+
+-- the job, by the left kinds and counts of its elements
+abbrev job : tie.Start → List ℕ → List ℕ → Job
+job a lkind eleft =
+    let x = a .args in
+    jobOf (x .em) (x .measure) usualLists 0 (x .class .now) (x .width .now) (x .before .now) (x .after .now) (x .flag .now) (x .rclass .now) (x .rwidth .now) [] []
+    (part 0 (x .e) (x .elem .now)) (part 1024 (1024 + x .e) (x .elem .now)) (part 2048 (2048 + x .e) (x .elem .now)) lkind eleft (part 0 (x .u) (x .runs .now)) []
 
 add-e1 : tie.Need-add-e1
 add-e1 c = search needs
@@ -45,6 +61,24 @@ part-tell-lists-start-4 c = search needs
 part-tell-lists-end-4 : tie.Need-part-tell-lists-end-4
 part-tell-lists-end-4 c = search needs
 
+sub-tell-lists-5 : tie.Need-sub-tell-lists-5
+sub-tell-lists-5 c = search needs
+
+part-tell-lists-start-5 : tie.Need-part-tell-lists-start-5
+part-tell-lists-start-5 c = search needs
+
+part-tell-lists-end-5 : tie.Need-part-tell-lists-end-5
+part-tell-lists-end-5 c = search needs
+
+sub-tell-lists-6 : tie.Need-sub-tell-lists-6
+sub-tell-lists-6 c = search needs
+
+part-tell-lists-start-6 : tie.Need-part-tell-lists-start-6
+part-tell-lists-start-6 c = search needs
+
+part-tell-lists-end-6 : tie.Need-part-tell-lists-end-6
+part-tell-lists-end-6 c = search needs
+
 tell-lists-requires : tie.Need-tell-lists-requires
 tell-lists-requires c κs = search needs
 
@@ -61,7 +95,10 @@ same-length-4 : tie.Need-same-length-4
 same-length-4 c = search needs
 
 returns : tie.Need-returns
-returns c = c .before .before .before .before .before .before .before .before .tell-lists .ensures
+returns c =
+    let f = c .before .before .before .before .before .before .before .before in
+    let a = start f in
+    none-left (job a) (a .args .e) (a .pre .0 .elements) (f .tell-lists .ensures)
 
 pub tell-elements-spec : {M : Type 1} → statement M
 tell-elements-spec =
@@ -81,6 +118,12 @@ tell-elements-spec =
     sub-tell-lists-4
     part-tell-lists-start-4
     part-tell-lists-end-4
+    sub-tell-lists-5
+    part-tell-lists-start-5
+    part-tell-lists-end-5
+    sub-tell-lists-6
+    part-tell-lists-start-6
+    part-tell-lists-end-6
     tell-lists-requires
     same-length
     same-length-2

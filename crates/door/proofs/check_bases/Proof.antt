@@ -1,7 +1,9 @@
 -- What is left to look at decides the whole. A character that is refused ends the walk, and past the last there is nothing to refuse.
 use mathlib.Core.Path.{_≡_, sym, _∙_}
-use Prim.Native.Nat.{_≤_, _-_}
+use mathlib.Core.List.{List}
+use Prim.Native.Nat.{ℕ, _≤_, _-_}
 use Rattle.basics.specs.Lists.{each, count}
+use Rattle.refusal.specs.declared.Refusal.{Refusal}
 use Rattle.door.specs.Refusals.{baseFaults}
 use Rattle.door.specs.Verdict.{verdict, turn-refused, turn-passed, walk-starts, walk-ends}
 use Rattle.door.specs.Values.{basesOnly}
@@ -11,13 +13,18 @@ use Rattle.door.proofs.check_bases.Statement.{statement}
 use Rattle.door.proofs.check_bases.Tie as tie
 
 abbrev Inv-loop : tie.InvT-loop
-Inv-loop n class width before after flag i₀ i = (i ≤ n) × (verdict (each (baseFaults (basesOnly class width before after flag)) (count i (n - i))) ≡ verdict (each (baseFaults (basesOnly class width before after flag)) (count 0 n)))
+Inv-loop n class width before after flag i₀ i =
+    let faults = baseFaults (basesOnly class width before after flag) in (i ≤ n) × (verdict (each faults (count i (n - i))) ≡ verdict (each faults (count 0 n)))
 
 abbrev μ-loop : tie.MeasureT-loop
 μ-loop n class width before after flag i₀ i = n - i
 
+-- what is looked for in a turn
+abbrev faults : tie.Start Inv-loop μ-loop → ℕ → List Refusal
+faults a = let x = a .args in baseFaults (basesOnly (x .class .now) (x .width .now) (x .before .now) (x .after .now) (x .flag .now))
+
 loop-holds : tie.Need-loop-holds Inv-loop μ-loop
-loop-holds c = (omega arith, walk-starts (baseFaults (basesOnly (c .before .before .before .before .before .args .class .now) (c .before .before .before .before .before .args .width .now) (c .before .before .before .before .before .args .before .now) (c .before .before .before .before .before .args .after .now) (c .before .before .before .before .before .args .flag .now))) (c .before .before .before .before .before .args .n))
+loop-holds c = let a = c .before .before .before .before .before in (omega arith, walk-starts (faults a) (a .args .n))
 
 cast-check-character : tie.Need-cast-check-character Inv-loop μ-loop
 cast-check-character c = search needs
@@ -63,9 +70,11 @@ enum-told-2 c = search needs
 
 returns : tie.Need-returns Inv-loop μ-loop
 returns c =
-    c .enum-told2 .given .1
-    ∙ sym (turn-refused (baseFaults (basesOnly (c .before .before .before .before .before .before .before .before .before .before .before .before .before .before .before .args .class .now) (c .before .before .before .before .before .before .before .before .before .before .before .before .before .before .before .args .width .now) (c .before .before .before .before .before .before .before .before .before .before .before .before .before .before .before .args .before .now) (c .before .before .before .before .before .before .before .before .before .before .before .before .before .before .before .args .after .now) (c .before .before .before .before .before .before .before .before .before .before .before .before .before .before .before .args .flag .now))) (c .before .before .before .before .before .before .before .before .before .before .before .before .before .before .before .args .n) (c .before .before .before .before .before .before .before .before .before .loop .i) (c .before .before .before .before .before .before .before .before .loop-test .taken) (sym (c .before .before .check-character .ensures) ∙ c .enum-told2 .given .1))
-    ∙ c .before .before .before .before .before .before .before .before .before .loop .inv .1
+    let t = c .before .before .before .before .before .before .before .before in
+    let l = t .before in
+    let a = l .before .before .before .before .before .before in
+    let told = c .enum-told2 .given .1 in
+    told ∙ sym (turn-refused (faults a) (a .args .n) (l .loop .i) (t .loop-test .taken) (sym (c .before .before .check-character .ensures) ∙ told)) ∙ l .loop .inv .1
 
 add-i : tie.Need-add-i Inv-loop μ-loop
 add-i c = search needs
@@ -74,13 +83,18 @@ loop-less : tie.Need-loop-less Inv-loop μ-loop
 loop-less c = search needs
 
 loop-again : tie.Need-loop-again Inv-loop μ-loop
-loop-again c = (
-  omega arith,
-  sym (turn-passed (baseFaults (basesOnly (c .before .before .before .before .before .before .before .before .before .before .before .before .before .before .before .args .class .now) (c .before .before .before .before .before .before .before .before .before .before .before .before .before .before .before .args .width .now) (c .before .before .before .before .before .before .before .before .before .before .before .before .before .before .before .args .before .now) (c .before .before .before .before .before .before .before .before .before .before .before .before .before .before .before .args .after .now) (c .before .before .before .before .before .before .before .before .before .before .before .before .before .before .before .args .flag .now))) (c .before .before .before .before .before .before .before .before .before .before .before .before .before .before .before .args .n) (c .before .before .before .before .before .before .before .before .before .loop .i) (c .before .before .before .before .before .before .before .before .loop-test .taken) (sym (c .before .before .check-character .ensures) ∙ c .enum-told .given .1)) ∙ c .before .before .before .before .before .before .before .before .before .loop .inv .1,
-)
+loop-again c =
+    let t = c .before .before .before .before .before .before .before .before in
+    let l = t .before in
+    let a = l .before .before .before .before .before .before in
+    let told = c .enum-told .given .1 in
+    (omega arith, sym (turn-passed (faults a) (a .args .n) (l .loop .i) (t .loop-test .taken) (sym (c .before .before .check-character .ensures) ∙ told)) ∙ l .loop .inv .1)
 
 returns-2 : tie.Need-returns-2 Inv-loop μ-loop
-returns-2 c = walk-ends (baseFaults (basesOnly (c .before .before .before .before .before .before .before .args .class .now) (c .before .before .before .before .before .before .before .args .width .now) (c .before .before .before .before .before .before .before .args .before .now) (c .before .before .before .before .before .before .before .args .after .now) (c .before .before .before .before .before .before .before .args .flag .now))) (c .before .before .before .before .before .before .before .args .n) (c .before .loop .i) (c .loop-test .left) ∙ c .before .loop .inv .1
+returns-2 c =
+    let l = c .before in
+    let a = l .before .before .before .before .before .before in
+    walk-ends (faults a) (a .args .n) (l .loop .i) (c .loop-test .left) ∙ l .loop .inv .1
 
 pub check-bases-spec : {M : Type 1} → statement M
 check-bases-spec =

@@ -38,7 +38,16 @@ returns-4 c =
     let r = c .before .before .before in
     let e = r .before .before .before in
     let o = e .before in
-    rw (← o .before .before .em-wrong .ensures, o .before .if1 .left, ← o .is-outside .ensures, e .if2 .left, ← r .before .ratio-wrong .ensures, r .if3 .left, ← c .before .ratio-wrong2 .ensures, c .if4 .taken)
+    rw (
+      ← o .before .before .em-wrong .ensures,
+      o .before .if1 .left,
+      ← o .is-outside .ensures,
+      e .if2 .left,
+      ← r .before .ratio-wrong .ensures,
+      r .if3 .left,
+      ← c .before .ratio-wrong2 .ensures,
+      c .if4 .taken,
+    )
 
 returns-5 : tie.Need-returns-5
 returns-5 c =

@@ -1,4 +1,4 @@
--- The row of a ruby character, which has no flag. With the flag 0 its part of the test is empty.
+-- The row of a character of a reading, which has no flag. With the flag 0 its part of the test is empty.
 use mathlib.Core.Bool.{or-false}
 use Rattle.door.specs.Refusals.{outside}
 use borrow.Author.Needs.{needs}
@@ -8,9 +8,6 @@ use Rattle.door.proofs.check_reading.Tie as tie
 character-wrong-requires : tie.Need-character-wrong-requires
 character-wrong-requires c κs = search needs
 
-add-t5 : tie.Need-add-t5
-add-t5 c = search needs
-
 returns : tie.Need-returns
 returns c = rw (← or-false (outside 1 4096 (c .before .before .args .width)), ← c .before .character-wrong .ensures, c .if1 .taken)
 
@@ -18,4 +15,4 @@ returns-2 : tie.Need-returns-2
 returns-2 c = rw (← or-false (outside 1 4096 (c .before .before .args .width)), ← c .before .character-wrong .ensures, c .if1 .left)
 
 pub check-reading-spec : {M : Type 1} → statement M
-check-reading-spec = tie.close (tie.spec character-wrong-requires add-t5 returns returns-2)
+check-reading-spec = tie.close (tie.spec character-wrong-requires returns returns-2)

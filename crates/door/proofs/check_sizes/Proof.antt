@@ -13,21 +13,43 @@ returns-2 c = rw (le-ltb 1024 (c .before .before .args .bases) (c .before .if1 .
 returns-3 : tie.Need-returns-3
 returns-3 c = let x = c .before .before .before .args in rw (le-ltb 1024 (x .bases) (c .before .before .if1 .left), le-ltb 2048 (x .rubies) (c .before .if2 .left), lt-ltb _ _ (c .if3 .taken))
 
+returns-4 : tie.Need-returns-4
+returns-4 c =
+    let e = c .before in
+    let x = e .before .before .before .args in
+    rw (le-ltb 1024 (x .bases) (e .before .before .if1 .left), le-ltb 2048 (x .rubies) (e .before .if2 .left), le-ltb 1024 (x .elements) (e .if3 .left), lt-ltb _ _ (c .if4 .taken))
+
 too-short-requires : tie.Need-too-short-requires
 too-short-requires c κs = search needs
 
-returns-4 : tie.Need-returns-4
-returns-4 c =
-    let e = c .before .before in
-    let x = e .before .before .before .args in
-    rw (le-ltb 1024 (x .bases) (e .before .before .if1 .left), le-ltb 2048 (x .rubies) (e .before .if2 .left), le-ltb 1024 (x .elements) (e .if3 .left), ← c .before .too-short .ensures, c .if4 .taken)
-
 returns-5 : tie.Need-returns-5
 returns-5 c =
-    let e = c .before .before in
+    let f = c .before .before in
+    let e = f .before in
     let x = e .before .before .before .args in
-    rw (le-ltb 1024 (x .bases) (e .before .before .if1 .left), le-ltb 2048 (x .rubies) (e .before .if2 .left), le-ltb 1024 (x .elements) (e .if3 .left), ← c .before .too-short .ensures, c .if4 .left)
+    rw (
+      le-ltb 1024 (x .bases) (e .before .before .if1 .left),
+      le-ltb 2048 (x .rubies) (e .before .if2 .left),
+      le-ltb 1024 (x .elements) (e .if3 .left),
+      le-ltb 2048 (x .lefts) (f .if4 .left),
+      ← c .before .too-short .ensures,
+      c .if5 .taken,
+    )
+
+returns-6 : tie.Need-returns-6
+returns-6 c =
+    let f = c .before .before in
+    let e = f .before in
+    let x = e .before .before .before .args in
+    rw (
+      le-ltb 1024 (x .bases) (e .before .before .if1 .left),
+      le-ltb 2048 (x .rubies) (e .before .if2 .left),
+      le-ltb 1024 (x .elements) (e .if3 .left),
+      le-ltb 2048 (x .lefts) (f .if4 .left),
+      ← c .before .too-short .ensures,
+      c .if5 .left,
+    )
 
 pub check-sizes-spec : {M : Type 1} → statement M
 check-sizes-spec =
-    tie.close (tie.spec returns returns-2 returns-3 too-short-requires returns-4 returns-5)
+    tie.close (tie.spec returns returns-2 returns-3 returns-4 too-short-requires returns-5 returns-6)

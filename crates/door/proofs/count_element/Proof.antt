@@ -1,72 +1,66 @@
--- By the kind, once it is known. Each form is counted as its own row has it.
-use borrow.Author.Tests.{not-true, not-false}
-use Rattle.door.specs.Elements.{countedBy}
+-- The right counts, and where they are in range the left ones. Without a left reading the right ones are all.
+use mathlib.Core.Path.{_≡_, sym, ap, _∙_}
+use Prim.Native.Nat.{_≤_}
+use Rattle.door.specs.declared.Counted.the-variants.{Is}
+use Rattle.door.specs.Elements.{rightBy, glossedBy, andThen, countedBy, right-only, right-few}
 use borrow.Author.Needs.{needs}
+use native.Mathlib.Omega.{arith}
 use Rattle.door.proofs.count_element.Statement.{statement}
 use Rattle.door.proofs.count_element.Tie as tie
 
-is-known-requires : tie.Need-is-known-requires
-is-known-requires c κs = search needs
+abbrev start : tie.After-count-right → tie.Start
+start r = r .before .before .before
+
+-- what the right counts say, then the left ones
+by-right : (r : tie.After-count-right) → let x = start r .args in
+    countedBy (x .kind) (x .base) (x .ruby) (x .lkind) (x .left) (x .runs .now) (x .lruns .now) (x .at) ≡ andThen (r .count-right .result) (λ p. glossedBy p (x .lkind) (x .left) (x .lruns .now))
+unfolding countedBy
+by-right r = let x = start r .args in ap (λ c. andThen c (λ p. glossedBy p (x .lkind) (x .left) (x .lruns .now))) (sym (r .count-right .ensures))
+
+count-right-requires : tie.Need-count-right-requires
+count-right-requires c κs = c .before .before .pre .0
 
 returns : tie.Need-returns
-unfolding countedBy
-returns c = rw (← c .before .is-known .ensures, not-true (c .before .is-known .result) (c .if1 .taken))
+returns c =
+    let r = c .before in
+    let x = start r .args in
+    r .count-right .ensures ∙ right-only (x .kind) (x .base) (x .ruby) (x .lkind) (x .left) (x .runs .now) (x .lruns .now) (x .at) (c .if1 .taken)
 
-form-of-requires : tie.Need-form-of-requires
-form-of-requires c κs = search needs
+enum-known-counted : tie.Need-enum-known-counted
+enum-known-counted c = search needs
 
 enum-told : tie.Need-enum-told
 enum-told c = search needs
 
-enum-told-2 : tie.Need-enum-told-2
-enum-told-2 c = search needs
-
-count-mono-requires : tie.Need-count-mono-requires
-count-mono-requires c κs = search needs
-
-enum-told-3 : tie.Need-enum-told-3
-enum-told-3 c = search needs
-
-count-group-requires : tie.Need-count-group-requires
-count-group-requires c κs = search needs
-
-enum-told-4 : tie.Need-enum-told-4
-enum-told-4 c = search needs
-
-count-jukugo-requires : tie.Need-count-jukugo-requires
-count-jukugo-requires c κs = search needs
-
 returns-2 : tie.Need-returns-2
-unfolding countedBy
-returns-2 c = rw (← c .before .before .before .before .is-known .ensures, not-false (c .before .before .before .before .is-known .result) (c .before .before .before .if1 .left), ← c .before .before .form-of .ensures, c .enum-told .given .1)
+returns-2 c =
+    let r = c .before .before .before in
+    let x = start r .args in
+    c .enum-told .given .1 ∙ sym (by-right r ∙ ap (λ z. andThen z (λ p. glossedBy p (x .lkind) (x .left) (x .lruns .now))) (c .enum-told .given .1))
+
+count-left-requires : tie.Need-count-left-requires
+count-left-requires c κs =
+    let k = c .before in
+    let r = k .before .before .before in
+    let a = start r in
+    let x = a .args in
+    right-few (x .kind) (x .base) (x .ruby) (x .runs .now) (x .at) (a .pre .1) (sym (r .count-right .ensures) ∙ k .counted .given .1)
 
 returns-3 : tie.Need-returns-3
-unfolding countedBy
-returns-3 c = rw (← c .before .before .before .before .before .is-known .ensures, not-false (c .before .before .before .before .before .is-known .result) (c .before .before .before .before .if1 .left), ← c .before .before .before .form-of .ensures, c .before .enum-told2 .given .1) (c .count-mono .ensures)
-
-returns-4 : tie.Need-returns-4
-unfolding countedBy
-returns-4 c = rw (← c .before .before .before .before .before .is-known .ensures, not-false (c .before .before .before .before .before .is-known .result) (c .before .before .before .before .if1 .left), ← c .before .before .before .form-of .ensures, c .before .enum-told3 .given .1) (c .count-group .ensures)
-
-returns-5 : tie.Need-returns-5
-unfolding countedBy
-returns-5 c = rw (← c .before .before .before .before .before .is-known .ensures, not-false (c .before .before .before .before .before .is-known .result) (c .before .before .before .before .if1 .left), ← c .before .before .before .form-of .ensures, c .before .enum-told4 .given .1) (c .count-jukugo .ensures)
+returns-3 c =
+    let k = c .before .before in
+    let r = k .before .before .before in
+    let x = start r .args in
+    c .count-left .ensures ∙ sym (by-right r ∙ ap (λ z. andThen z (λ p. glossedBy p (x .lkind) (x .left) (x .lruns .now))) (k .counted .given .1))
 
 pub count-element-spec : {M : Type 1} → statement M
 count-element-spec =
     tie.close
     (tie.spec
-    is-known-requires
+    count-right-requires
     returns
-    form-of-requires
+    enum-known-counted
     enum-told
-    enum-told-2
-    count-mono-requires
-    enum-told-3
-    count-group-requires
-    enum-told-4
-    count-jukugo-requires
     returns-2
-    returns-3
-    returns-4
-    returns-5)
+    count-left-requires
+    returns-3)

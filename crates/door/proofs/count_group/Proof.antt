@@ -15,9 +15,14 @@ is-outside-requires-2 c κs = search needs
 returns-2 : tie.Need-returns-2
 returns-2 c = rw (← c .before .before .before .is-outside .ensures, c .before .before .if1 .left, ← c .before .is-outside2 .ensures, c .if2 .taken)
 
+piece-of-requires : tie.Need-piece-of-requires
+piece-of-requires c κs = search needs
+
 returns-3 : tie.Need-returns-3
-returns-3 c = rw (← c .before .before .before .is-outside .ensures, c .before .before .if1 .left, ← c .before .is-outside2 .ensures, c .if2 .left)
+returns-3 c =
+    let e = c .before in
+    rw (c .piece-of .ensures, ← e .before .before .before .is-outside .ensures, e .before .before .if1 .left, ← e .before .is-outside2 .ensures, e .if2 .left)
 
 pub count-group-spec : {M : Type 1} → statement M
 count-group-spec =
-    tie.close (tie.spec is-outside-requires returns is-outside-requires-2 returns-2 returns-3)
+    tie.close (tie.spec is-outside-requires returns is-outside-requires-2 returns-2 piece-of-requires returns-3)

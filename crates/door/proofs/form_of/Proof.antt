@@ -10,10 +10,14 @@ returns-2 : tie.Need-returns-2
 returns-2 c = rw (ne-eqb (c .before .before .args .kind) 77 (c .before .if1 .left), eq-eqb _ _ (c .if2 .taken))
 
 returns-3 : tie.Need-returns-3
-returns-3 c = rw (ne-eqb (c .before .before .before .args .kind) 77 (c .before .before .if1 .left), ne-eqb (c .before .before .before .args .kind) 71 (c .before .if2 .left), eq-eqb _ _ (c .if3 .taken))
+returns-3 c =
+    let n = c .before .before .before .args .kind in
+    rw (ne-eqb (n) 77 (c .before .before .if1 .left), ne-eqb (n) 71 (c .before .if2 .left), eq-eqb _ _ (c .if3 .taken))
 
 returns-4 : tie.Need-returns-4
-returns-4 c = rw (ne-eqb (c .before .before .before .args .kind) 77 (c .before .before .if1 .left), ne-eqb (c .before .before .before .args .kind) 71 (c .before .if2 .left), ne-eqb (c .before .before .before .args .kind) 74 (c .if3 .left))
+returns-4 c =
+    let n = c .before .before .before .args .kind in
+    rw (ne-eqb (n) 77 (c .before .before .if1 .left), ne-eqb (n) 71 (c .before .if2 .left), ne-eqb (n) 74 (c .if3 .left))
 
 pub form-of-spec : {M : Type 1} → statement M
 form-of-spec = tie.close (tie.spec returns returns-2 returns-3 returns-4)

@@ -1,4 +1,4 @@
--- The three lists in turn. Each is its part of the row.
+-- The four lists in turn. Each is its part of the row.
 use borrow.Author.Tests.{lt-ltb, le-ltb}
 use Rattle.door.proofs.too_short.Statement.{statement}
 use Rattle.door.proofs.too_short.Tie as tie
@@ -10,7 +10,10 @@ returns-2 : tie.Need-returns-2
 returns-2 c = rw (le-ltb _ _ (c .before .if1 .left), lt-ltb _ _ (c .if2 .taken))
 
 returns-3 : tie.Need-returns-3
-returns-3 c = rw (le-ltb _ _ (c .before .if1 .left), le-ltb _ _ (c .if2 .left))
+returns-3 c = rw (le-ltb _ _ (c .before .before .if1 .left), le-ltb _ _ (c .before .if2 .left), lt-ltb _ _ (c .if3 .taken))
+
+returns-4 : tie.Need-returns-4
+returns-4 c = rw (le-ltb _ _ (c .before .before .if1 .left), le-ltb _ _ (c .before .if2 .left), le-ltb _ _ (c .if3 .left))
 
 pub too-short-spec : {M : Type 1} → statement M
-too-short-spec = tie.close (tie.spec returns returns-2 returns-3)
+too-short-spec = tie.close (tie.spec returns returns-2 returns-3 returns-4)

@@ -22,19 +22,23 @@ use Rattle.engine.proofs.fill_job.Statement.{statement}
 use Rattle.engine.proofs.fill_job.Tie as tie
 
 abbrev start : tie.After-check-characters → tie.Start
-start c = c .before .before .before .before .before .before .before .before .before .before .before .before .before .before .before
+start c = c .before .before .before .before .before .before .before .before .before .before .before .before .before .before .before .before .before .before .before .before
 
 abbrev job : tie.Start → Job
 job a =
     let x = a .args in
-    jobOf (x .em) (x .measure) (x .ratios) (x .profile) (x .class .now) (x .width .now) (x .before .now) (x .after .now) (x .flag .now) (x .rclass .now) (x .rwidth .now) (x .kind .now) (x .ebase .now) (x .eruby .now) (x .runs .now)
+    jobOf (x .em) (x .measure) (x .ratios) (x .profile) (x .class .now) (x .width .now) (x .before .now) (x .after .now) (x .flag .now) (x .rclass .now) (x .rwidth .now) (x .lclass .now) (x .lwidth .now) (x .kind .now) (x .ebase .now)
+    (x .eruby .now) (x .lkind .now) (x .eleft .now) (x .runs .now) (x .lruns .now)
 
 -- what the door says of the characters
-said : (c : tie.After-check-characters) → let a = start c in verdict (ahead (job a) (a .args .base) (a .args .ruby) (a .args .lines)) ≡ c .check-characters .result
-said c = let a = start c in sym (c .check-characters .ensures ∙ ap verdict (filled.any-runs (job a) (a .args .base) (a .args .ruby) (a .args .lines)))
+said : (c : tie.After-check-characters) → let a = start c in verdict (ahead (job a) (a .args .base) (a .args .ruby) (a .args .left) (a .args .lines)) ≡ c .check-characters .result
+said c = let a = start c in sym (c .check-characters .ensures ∙ ap verdict (filled.any-runs (job a) (a .args .base) (a .args .ruby) (a .args .left) (a .args .lines)))
 
-passes : (c : tie.After-enum-told) → let a = start (c .before .before) in verdict (ahead (job a) (a .args .base) (a .args .ruby) (a .args .lines)) ≡ Passed
+passes : (c : tie.After-enum-told) → let a = start (c .before .before) in verdict (ahead (job a) (a .args .base) (a .args .ruby) (a .args .left) (a .args .lines)) ≡ Passed
 passes c = said (c .before .before) ∙ c .enum-told .given .1
+
+few : (c : tie.After-enum-told) → baseCount (job (start (c .before .before))) ≤ 1024
+few c = let a = start (c .before .before) in filled.few (job a) (a .args .base) (a .args .ruby) (a .args .left) (a .args .lines) (passes c)
 
 check-characters-requires : tie.Need-check-characters-requires
 check-characters-requires c κs = search needs
@@ -46,7 +50,7 @@ returns : tie.Need-returns
 returns c =
     let d = c .before .before .before in
     let a = start d in
-    filled.by-characters (job a) (a .args .base) (a .args .ruby) (a .args .lines) (said d ∙ c .before .why .given .1)
+    filled.by-characters (job a) (a .args .base) (a .args .ruby) (a .args .left) (a .args .lines) (said d ∙ c .before .why .given .1)
 
 enum-told : tie.Need-enum-told
 enum-told c = search needs
@@ -56,7 +60,7 @@ layout-requires c κs =
     let p = c .before in
     let a = start (p .before .before) in
     let x = a .args in
-    filled.ready (job a) (x .base) (x .ruby) (x .lines) (passes p) (x .t .now) (a .pre .rows (filled.few (job a) (x .base) (x .ruby) (x .lines) (passes p)))
+    filled.ready (job a) (x .base) (x .ruby) (x .left) (x .lines) (passes p) (x .t .now) (a .pre .rows (few p)) (a .pre .left (few p))
 
 enum-known-why-2 : tie.Need-enum-known-why-2
 enum-known-why-2 c = search needs
@@ -69,7 +73,7 @@ returns-2 c =
     let l = c .before .before .before .before .before in
     let p = l .before .before in
     let a = start (p .before .before) in
-    filled.by-elements (job a) (a .args .base) (a .args .ruby) (a .args .lines) (passes p) (sym (l .layout .ensures .0) ∙ c .before .why2 .given .1)
+    filled.by-elements (job a) (a .args .base) (a .args .ruby) (a .args .left) (a .args .lines) (passes p) (sym (l .layout .ensures .0) ∙ c .before .why2 .given .1)
 
 enum-told-2 : tie.Need-enum-told-2
 enum-told-2 c = search needs
@@ -95,7 +99,7 @@ passed : (c : tie.After-enum-told2) → door.Passed (job (start (c .before .befo
 passed c =
     let p = c .before .before .before .before .before .before in
     let a = start (p .before .before) in
-    filled.passed (job a) (a .args .base) (a .args .ruby) (a .args .lines) (passes p) (elements-pass c)
+    filled.passed (job a) (a .args .base) (a .args .ruby) (a .args .left) (a .args .lines) (passes p) (elements-pass c)
 
 table : (c : tie.After-enum-told2) →
     let l = c .before .before .before .before in
@@ -104,7 +108,7 @@ table c =
     let l = c .before .before .before .before in
     let p = l .before .before in
     let a = start (p .before .before) in
-    filled.table (job a) (a .args .base) (a .args .ruby) (a .args .lines) (passes p) (elements-pass c) (l .layout .last .0) (l .layout .ensures .1 (laid c))
+    filled.table (job a) (a .args .base) (a .args .ruby) (a .args .left) (a .args .lines) (passes p) (elements-pass c) (l .layout .last .0) (l .layout .ensures .1 (laid c))
 
 mul-fill-lines : tie.Need-mul-fill-lines
 mul-fill-lines c = omega (arith, passed (c .before .before .before .before) .measure)
@@ -140,7 +144,7 @@ returns-3 c =
     let a = start (p .before .before) in
     let x = a .args in
     let t = l .layout .last .0 in
-    filled.fills (job a) (x .base) (x .ruby) (x .lines) (passes p) (elements-pass e) t (l .layout .ensures .1 (laid e)) (x .ends .now) (f .fill-lines .last .1 .1 .0) (x .extents .now) (f .fill-lines .last .1 .1 .1 .0)
+    filled.fills (job a) (x .base) (x .ruby) (x .left) (x .lines) (passes p) (elements-pass e) t (l .layout .ensures .1 (laid e)) (x .ends .now) (f .fill-lines .last .1 .1 .0) (x .extents .now) (f .fill-lines .last .1 .1 .1 .0)
     (f .fill-lines .result)
     (subst (λ n. let es = linesOf (x .em) (2 * x .measure) t n in
     (f .fill-lines .result ≡ toldOf n es) × (f .fill-lines .last .1 .1 .0 ≡ over es (x .ends .now)) × (f .fill-lines .last .1 .1 .1 .0 ≡ over (extentsOf (x .em) t 0 es) (x .extents .now))) (bases b) (f .fill-lines .ensures))

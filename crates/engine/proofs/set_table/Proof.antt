@@ -11,24 +11,25 @@ use Rattle.engine.proofs.set_table.Statement.{statement}
 use Rattle.engine.proofs.set_table.Tie as tie
 
 abbrev start : tie.After-fill-job → tie.Start
-start c = c .before .before .before .before .before .before .before .before .before .before .before .before .before .before .before .before .before .before .before .before .before
+start c = c .before .before .before .before .before .before .before .before .before .before .before .before .before .before .before .before .before .before .before .before .before .before .before .before .before .before .before
 
 abbrev job : tie.Start → Job
 job a =
     let x = a .args in
-    jobOf (x .em) (x .measure) (x .ratios) (x .profile) (x .class .now) (x .width .now) (x .before .now) (x .after .now) (x .flag .now) (x .rclass .now) (x .rwidth .now) (x .kind .now) (x .ebase .now) (x .eruby .now) (x .runs .now)
+    jobOf (x .em) (x .measure) (x .ratios) (x .profile) (x .class .now) (x .width .now) (x .before .now) (x .after .now) (x .flag .now) (x .rclass .now) (x .rwidth .now) (x .lclass .now) (x .lwidth .now) (x .kind .now) (x .ebase .now)
+    (x .eruby .now) (x .lkind .now) (x .eleft .now) (x .runs .now) (x .lruns .now)
 
 -- what was found
 told : (c : tie.After-fill-job) {r : Lines} → c .fill-job .result ≡ r →
     let x = start c .args in
-    Fills (job (start c)) (length (x .base .now)) (length (x .ruby .now)) (length (x .lines .now)) (x .extents .now) (c .fill-job .last .0) (c .fill-job .last .1 .0) (c .fill-job .last .1 .1 .0) r
+    Fills (job (start c)) (length (x .base .now)) (length (x .ruby .now)) (length (x .left .now)) (length (x .lines .now)) (x .extents .now) (c .fill-job .last .0) (c .fill-job .last .1 .0) (c .fill-job .last .1 .1 .0) r
 told c e =
     let x = start c .args in
-    subst (Fills (job (start c)) (length (x .base .now)) (length (x .ruby .now)) (length (x .lines .now)) (x .extents .now) (c .fill-job .last .0) (c .fill-job .last .1 .0) (c .fill-job .last .1 .1 .0)) e
+    subst (Fills (job (start c)) (length (x .base .now)) (length (x .ruby .now)) (length (x .left .now)) (length (x .lines .now)) (x .extents .now) (c .fill-job .last .0) (c .fill-job .last .1 .0) (c .fill-job .last .1 .1 .0)) e
     (c .fill-job .ensures)
 
 fill-job-requires : tie.Need-fill-job-requires
-fill-job-requires c κs = c .before .before .before .before .before .before .before .before .before .before .before .before .before .before .before .before .before .before .before .before .pre
+fill-job-requires c κs = c .before .before .before .before .before .before .before .before .before .before .before .before .before .before .before .before .before .before .before .before .before .before .before .before .before .before .pre
 
 enum-known-why : tie.Need-enum-known-why
 enum-known-why c = search needs
@@ -38,18 +39,18 @@ enum-known-n c = search needs
 
 put-lines-requires : tie.Need-put-lines-requires
 put-lines-requires c κs =
-    let n = c .before .before .before .before .before in
+    let n = c .before .before .before .before .before .before in
     let f = n .before .before .before .before .before .before .before .before in
     let x = start f .args in
-    whole.ready (job (start f)) (x .base .now) (x .ruby .now) (x .lines .now) (x .extents .now) (f .fill-job .last .0) (f .fill-job .last .1 .0) (f .fill-job .last .1 .1 .0) (n .n .given .0 .0)
+    whole.ready (job (start f)) (x .base .now) (x .ruby .now) (x .left .now) (x .lines .now) (x .extents .now) (f .fill-job .last .0) (f .fill-job .last .1 .0) (f .fill-job .last .1 .1 .0) (n .n .given .0 .0)
     (told f (n .n .given .1))
 
 put-ends-requires : tie.Need-put-ends-requires
 put-ends-requires c κs =
-    let n = c .before .before .before .before .before .before .before .before .before .before .before .before in
+    let n = c .before .before .before .before .before .before .before .before .before .before .before .before .before .before .before in
     let f = n .before .before .before .before .before .before .before .before in
     let x = start f .args in
-    whole.room (job (start f)) (x .base .now) (x .ruby .now) (x .lines .now) (x .extents .now) (f .fill-job .last .0) (f .fill-job .last .1 .0) (f .fill-job .last .1 .1 .0) (n .n .given .0 .0)
+    whole.room (job (start f)) (x .base .now) (x .ruby .now) (x .left .now) (x .lines .now) (x .extents .now) (f .fill-job .last .0) (f .fill-job .last .1 .0) (f .fill-job .last .1 .1 .0) (n .n .given .0 .0)
     (told f (n .n .given .1))
 
 same-length : tie.Need-same-length
@@ -65,7 +66,7 @@ returns : tie.Need-returns
 returns c =
     let f = c .before .before .before .before .before .before .before .before .before in
     let x = start f .args in
-    (whole.refused (job (start f)) (x .base .now) (x .ruby .now) (x .lines .now) (told f (c .before .why .given .1)), tt)
+    (whole.refused (job (start f)) (x .base .now) (x .ruby .now) (x .left .now) (x .lines .now) (told f (c .before .why .given .1)), tt)
 
 same-length-4 : tie.Need-same-length-4
 same-length-4 c = search needs
@@ -85,15 +86,18 @@ same-length-8 c = search needs
 same-length-9 : tie.Need-same-length-9
 same-length-9 c = search needs
 
+same-length-10 : tie.Need-same-length-10
+same-length-10 c = search needs
+
 returns-2 : tie.Need-returns-2
 returns-2 c =
     let e = c .before .before in
-    let p = e .before .before .before .before .before .before .before in
-    let n = p .before .before .before .before .before .before in
+    let p = e .before .before .before .before .before .before .before .before .before in
+    let n = p .before .before .before .before .before .before .before in
     let f = n .before .before .before .before .before .before .before .before in
     let x = start f .args in (
-      whole.sets (job (start f)) (x .base .now) (x .ruby .now) (x .lines .now) (x .extents .now) (f .fill-job .last .0) (f .fill-job .last .1 .0) (f .fill-job .last .1 .1 .0) (n .n .given .0 .0)
-          (told f (n .n .given .1)) _ _ _ (p .put-lines .ensures) (e .put-ends .ensures),
+      whole.sets (job (start f)) (x .base .now) (x .ruby .now) (x .left .now) (x .lines .now) (x .extents .now) (f .fill-job .last .0) (f .fill-job .last .1 .0) (f .fill-job .last .1 .1 .0) (n .n .given .0 .0)
+          (told f (n .n .given .1)) _ _ _ _ (p .put-lines .ensures) (e .put-ends .ensures),
       told f (n .n .given .1),
     )
 
@@ -116,4 +120,5 @@ set-table-spec =
     same-length-7
     same-length-8
     same-length-9
+    same-length-10
     returns-2)

@@ -13,11 +13,12 @@ use Rattle.job_account.proofs.account_job.Tie as tie
 abbrev job : tie.Start → Job
 job a =
     let x = a .args in
-    jobOf (x .em) (x .measure) (x .ratios) (x .profile) (x .class .now) (x .width .now) (x .before .now) (x .after .now) (x .flag .now) (x .rclass .now) (x .rwidth .now) (x .kind .now) (x .ebase .now)
-    (x .eruby .now) (x .runs .now)
+    jobOf (x .em) (x .measure) (x .ratios) (x .profile) (x .class .now) (x .width .now) (x .before .now) (x .after .now) (x .flag .now) (x .rclass .now)
+    (x .rwidth .now) (x .lclass .now) (x .lwidth .now) (x .kind .now) (x .ebase .now) (x .eruby .now) (x .lkind .now) (x .eleft .now) (x .runs .now) (x .lruns .now)
 
 abbrev start : tie.After-fill-job → tie.Start
-start c = c .before .before .before .before .before .before .before .before .before .before .before .before .before .before .before .before .before .before .before
+start c =
+    c .before .before .before .before .before .before .before .before .before .before .before .before .before .before .before .before .before .before .before .before .before .before .before .before
 
 -- for how many base characters the lists have room
 abbrev room : tie.After-fill-job → ℕ
@@ -35,8 +36,8 @@ extents c = c .fill-job .last .1 .1 .0
 
 -- what was found
 told : (c : tie.After-fill-job) {r : Lines} → c .fill-job .result ≡ r →
-    (was : List ℕ) × Fills (job (start c)) 1024 2048 (room c) was (table c) (ends c) (extents c) r
-told c e = (_, subst (Fills (job (start c)) 1024 2048 (room c) _ (table c) (ends c) (extents c)) e (c .fill-job .ensures))
+    (was : List ℕ) × Fills (job (start c)) 1024 2048 2048 (room c) was (table c) (ends c) (extents c) r
+told c e = (_, subst (Fills (job (start c)) 1024 2048 2048 (room c) _ (table c) (ends c) (extents c)) e (c .fill-job .ensures))
 
 room-of-requires : tie.Need-room-of-requires
 room-of-requires c κs = search needs

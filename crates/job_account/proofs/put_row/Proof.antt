@@ -1,11 +1,21 @@
--- The six stores are those of the row, one after the other; a store keeps the list as long as it was.
+-- The six stores are those of the row, one after the other; a store keeps the list as long as it was. The other's index is read before them.
 use borrow.Author.Needs.{needs}
 use native.Mathlib.Omega.{arith}
+use Prim.Native.Nat.{_+_, _*_}
 use lib.ListN.{length-set}
 use Rattle.account.specs.Claims.{number, depth}
-use Rattle.job_account.specs.Rows.{otherFrom, six}
+use Rattle.job_account.specs.Rows.{indexAt, otherBy, six}
 use Rattle.job_account.proofs.put_row.Statement.{statement}
 use Rattle.job_account.proofs.put_row.Tie as tie
+
+other-index-requires : tie.Need-other-index-requires
+other-index-requires c κs = search needs
+
+add-q : tie.Need-add-q
+add-q c = search needs
+
+mul-q : tie.Need-mul-q
+mul-q c = search needs
 
 mul-out : tie.Need-mul-out
 mul-out c = search needs
@@ -49,9 +59,6 @@ mul-out-4 c = search needs
 slice-write-out-4 : tie.Need-slice-write-out-4
 slice-write-out-4 c = simp length-set (omega arith)
 
-other-index-requires : tie.Need-other-index-requires
-other-index-requires c κs = search needs
-
 add-out-4 : tie.Need-add-out-4
 add-out-4 c = search needs
 
@@ -74,19 +81,23 @@ slice-write-out-6 : tie.Need-slice-write-out-6
 slice-write-out-6 c = simp length-set (omega arith)
 
 same-length : tie.Need-same-length
-same-length c = search needs
+same-length c = simp length-set
 
 returns : tie.Need-returns
 returns c =
-    let a = c .before .before .before .before .before .args in
+    let d = c .before .before .before in
+    let a = d .before .before .before .args in
     let r = a .a .reason in
-    rw (c .depth-of .ensures, c .before .other-index .ensures, c .before .before .number-of .ensures)
-    (six (a .out .now) (a .q) (a .k) (a .start) (a .a .gap) (number r) (otherFrom (a .first) r) (depth r))
+    rw (c .depth-of .ensures, c .before .number-of .ensures, d .other-index .ensures)
+    (six (a .out .now) (6 * (a .first + a .j)) (a .k) (a .start) (a .a .gap) (number r) (otherBy (indexAt (a .out .now) (a .first)) r) (depth r))
 
 pub put-row-spec : {M : Type 1} → statement M
 put-row-spec =
     tie.close
     (tie.spec
+    other-index-requires
+    add-q
+    mul-q
     mul-out
     slice-write-out
     cast-out
@@ -101,7 +112,6 @@ put-row-spec =
     add-out-3
     mul-out-4
     slice-write-out-4
-    other-index-requires
     add-out-4
     mul-out-5
     slice-write-out-5

@@ -14,7 +14,9 @@ use Rattle.word.specs.declared.Word.{Word}
 use Rattle.word.specs.declared.Answer.the-variants.{Set, Refused}
 use Rattle.word.specs.Answer.{answer}
 use Rattle.door.specs.Job.{Job, given}
-use Rattle.layout.specs.Lay.{wordRow, wordsOnly, Filled, judged-stops, judged-goes, group-lent, word-small}
+use Rattle.layout.specs.Table.{Filled}
+use Rattle.layout.specs.Runs.{wordsOnly}
+use Rattle.layout.specs.Lay.{wordRow, judged-stops, judged-goes, group-lent, word-small}
 use Rattle.layout.proofs.lay_group.Statement.{statement}
 use Rattle.layout.proofs.lay_group.Tie as tie
 
@@ -109,7 +111,10 @@ part-group-answer-end-6 : tie.Need-part-group-answer-end-6
 part-group-answer-end-6 c = omega (arith, within (c .before .before .before .before .before .before .before .before .before .before .before .before .before .before .before))
 
 group-answer-requires : tie.Need-group-answer-requires
-group-answer-requires c κs = let a = c .before .before .before .before .before .before .before .before .before .before .before .before .before .before .before .before in let x = a .args in (word-small (x .place) (job a) (x .p) (a .pre .2), a .pre .2 .house)
+group-answer-requires c κs =
+    let a = c .before .before .before .before .before .before .before .before .before .before .before .before .before .before .before .before in
+    let x = a .args in
+    (word-small (x .place) (job a) (x .p) (a .pre .2), a .pre .2 .house)
 
 -- level one's answer
 abbrev entry : tie.After-group-answer → tie.Start
@@ -150,8 +155,9 @@ returns-2 c =
     let w = ends .before .before in
     let a = entry (w .before .before) in
     let x = a .args in
-    judged-goes (sym (told (w .before .before)) ∙ w .answer .given .1)
-    (subst (λ z. Filled (wordRow (x .p) (w .answer .given .0 .0) z 0 0) (x .p .base) (x .p .base + x .p .bases) (x .t .now) (put .put-word .last .0)) (ends .ends-behind .ensures) (put .put-word .ensures))
+    judged-goes (sym (told (w .before .before)) ∙ w .answer .given .1) (put .put-word .ensures .long)
+    (subst (λ z. Filled (wordRow (x .p) (w .answer .given .0 .0) z 0 0) (x .p .base) (x .p .base + x .p .bases) (x .t .now) (put .put-word .last .0)) (ends .ends-behind .ensures)
+    (put .put-word .ensures))
 
 pub lay-group-spec : {M : Type 1} → statement M
 lay-group-spec =

@@ -1,4 +1,4 @@
--- Level one is lent the parts of a J; its answer is taken apart, and its rows written: of one character one with its word, of more one by its run for each.
+-- Level one is lent the parts of a J; its answer is taken apart, and its rows written.
 use mathlib.Core.Path.{_≡_, refl, sym, ap, _∙_, subst}
 use mathlib.Core.Bool.{Bool}
 use mathlib.Core.List.{[]}
@@ -14,9 +14,9 @@ use Rattle.word.specs.declared.Word.{Word}
 use Rattle.word.specs.declared.Answer.the-variants.{Set, Refused}
 use Rattle.word.specs.Answer.{answer}
 use Rattle.door.specs.Job.{Job, given}
-use Rattle.cells.specs.Put.{Puts}
-use Rattle.join.specs.Rows.{none, rowBy, endsBehind}
-use Rattle.layout.specs.Lay.{runsOnly, wordsOnly, singleRow, filled-as, judged-stops, judged-goes, jukugo-lent, jukugo-whole, word-small, runs-any, single-laid, cut-row}
+use Rattle.layout.specs.Table.{Filled}
+use Rattle.layout.specs.Runs.{runsOnly, wordsOnly, jukugoRow}
+use Rattle.layout.specs.Lay.{judged-stops, judged-goes, jukugo-lent, jukugo-whole, word-small}
 use Rattle.layout.proofs.lay_jukugo.Statement.{statement}
 use Rattle.layout.proofs.lay_jukugo.Tie as tie
 
@@ -36,7 +36,7 @@ within a =
       w .some,
       w .few,
       w .fewRuby,
-      omega (arith, h .runs .few, h .runs .fewRuns),
+      omega (arith, h .runs .own .few, h .runs .own .fewRuns),
       h .class,
       w .width,
       w .before,
@@ -44,7 +44,7 @@ within a =
       w .flag,
       h .rubyClass,
       w .rubyWidth,
-      h .runs .runs,
+      h .runs .own .runs,
     )
 
 add-e : tie.Need-add-e
@@ -141,7 +141,10 @@ part-jukugo-answer-end-7 : tie.Need-part-jukugo-answer-end-7
 part-jukugo-answer-end-7 c = omega (arith, within (c .before .before .before .before .before .before .before .before .before .before .before .before .before .before .before .before .before .before))
 
 jukugo-answer-requires : tie.Need-jukugo-answer-requires
-jukugo-answer-requires c κs = let a = c .before .before .before .before .before .before .before .before .before .before .before .before .before .before .before .before .before .before .before in let x = a .args in (word-small (x .place) (job a) (x .p) (a .pre .word), jukugo-whole (job a) (x .p) (a .pre), a .pre .word .house)
+jukugo-answer-requires c κs =
+    let a = c .before .before .before .before .before .before .before .before .before .before .before .before .before .before .before .before .before .before .before in
+    let x = a .args in
+    (word-small (x .place) (job a) (x .p) (a .pre .word), jukugo-whole (job a) (x .p) (a .pre), a .pre .word .house)
 
 -- level one's answer
 abbrev entry : tie.After-jukugo-answer → tie.Start
@@ -167,52 +170,24 @@ returns c =
 ends-behind-requires : tie.Need-ends-behind-requires
 ends-behind-requires c κs = let a = entry (c .before .before .before) in let w = a .pre .word in (w .some, w .few, w .flag)
 
-put-single-requires : tie.Need-put-single-requires
-put-single-requires c κs = let a = entry (c .before .before .before .before .before .before .before) in (c .before .if1 .taken, runs-any (a .pre .runs))
-
-several : (c : tie.Else1) → let a = entry (c .before .before .before .before .before .before) in 1 < a .args .p .bases
-several c = let a = entry (c .before .before .before .before .before .before) in more _ (a .pre .word .some) (c .if1 .left)
-  where
-    more : (n : ℕ) → 0 < n → (n ≡ 1 → ⊥) → 1 < n
-    more n h e = omega arith
-
-put-runs-requires : tie.Need-put-runs-requires
-put-runs-requires c κs = let a = entry (c .before .before .before .before .before .before .before) in (a .pre .form, several (c .before), a .pre .runs)
+put-jukugo-requires : tie.Need-put-jukugo-requires
+put-jukugo-requires c κs = let a = entry (c .before .before .before .before .before) in (a .pre .word .some, a .pre .runs)
 
 same-length : tie.Need-same-length
-same-length c = c .before .before .put-single .ensures .long
+same-length c = c .before .before .put-jukugo .ensures .long
 
 returns-2 : tie.Need-returns-2
 returns-2 c =
     let put = c .before .before in
-    let one = put .before .before in
-    let ends = one .before .before in
+    let ends = put .before .before in
     let w = ends .before .before in
     let m = w .before .before in
     let a = entry m in
     let x = a .args in
-    let v = w .answer .given .0 .0 in
-    judged-goes (sym (told m) ∙ w .answer .given .1)
-    (single-laid (x .em) (x .rclass .now) (x .rwidth .now) (x .runs .now) (x .p) v (endsBehind (job a) (x .p)) (x .t .now) (put .put-single .last .0) (a .pre .form) (one .if1 .taken)
-    (subst (λ z. Puts (x .t .now) (x .p .base) (singleRow (x .p) v z (x .rclass .now) (x .rwidth .now) (x .runs .now)) (put .put-single .last .0)) (ends .ends-behind .ensures) (put .put-single .ensures)))
-
-same-length-2 : tie.Need-same-length-2
-same-length-2 c = c .before .before .put-runs .ensures .long
-
-returns-3 : tie.Need-returns-3
-returns-3 c =
-    let put = c .before .before in
-    let more = put .before .before in
-    let ends = more .before .before in
-    let w = ends .before .before in
-    let m = w .before .before in
-    let a = entry m in
-    let x = a .args in
-    let v = w .answer .given .0 .0 in
     let runs = runsOnly (x .em) (x .rclass .now) (x .rwidth .now) (x .runs .now) in
-    judged-goes (sym (told m) ∙ w .answer .given .1)
-    (filled-as (rowBy runs (x .p) none (ends .ends-behind .result) 0 0) (rowBy runs (x .p) v (endsBehind (job a) (x .p)) 0 0) (x .p .base) (x .p .base + x .p .bases) (x .t .now) (put .put-runs .last .0)
-    (λ i. ap (λ z. rowBy runs (x .p) none z 0 0 i) (ends .ends-behind .ensures) ∙ cut-row runs (x .p) v (endsBehind (job a) (x .p)) i (a .pre .form) (several more)) (put .put-runs .ensures))
+    judged-goes (sym (told m) ∙ w .answer .given .1) (put .put-jukugo .ensures .long)
+    (subst (λ z. Filled (jukugoRow runs (x .p) (w .answer .given .0 .0) z) (x .p .base) (x .p .base + x .p .bases) (x .t .now) (put .put-jukugo .last .0)) (ends .ends-behind .ensures)
+    (put .put-jukugo .ensures))
 
 pub lay-jukugo-spec : {M : Type 1} → statement M
 lay-jukugo-spec =
@@ -255,9 +230,6 @@ lay-jukugo-spec =
     refused-requires
     returns
     ends-behind-requires
-    put-single-requires
-    put-runs-requires
+    put-jukugo-requires
     same-length
-    returns-2
-    same-length-2
-    returns-3)
+    returns-2)

@@ -14,7 +14,9 @@ use Rattle.word.specs.declared.Word.{Word}
 use Rattle.word.specs.declared.Answer.the-variants.{Set, Refused}
 use Rattle.word.specs.Answer.{answer}
 use Rattle.door.specs.Job.{Job, given}
-use Rattle.layout.specs.Lay.{wordRow, wordsOnly, Filled, judged-stops, judged-goes, mono-lent, mono-small}
+use Rattle.layout.specs.Table.{Filled}
+use Rattle.layout.specs.Runs.{wordsOnly}
+use Rattle.layout.specs.Lay.{wordRow, judged-stops, judged-goes, mono-lent, mono-small}
 use Rattle.layout.proofs.lay_mono.Statement.{statement}
 use Rattle.layout.proofs.lay_mono.Tie as tie
 
@@ -86,7 +88,10 @@ part-mono-answer-end-4 : tie.Need-part-mono-answer-end-4
 part-mono-answer-end-4 c = omega (arith, within (c .before .before .before .before .before .before .before .before .before .before))
 
 mono-answer-requires : tie.Need-mono-answer-requires
-mono-answer-requires c κs = let a = c .before .before .before .before .before .before .before .before .before .before .before in let x = a .args in (mono-small (x .place) (job a) (x .p) (a .pre .1) (a .pre .0), a .pre .1 .house)
+mono-answer-requires c κs =
+    let a = c .before .before .before .before .before .before .before .before .before .before .before in
+    let x = a .args in
+    (mono-small (x .place) (job a) (x .p) (a .pre .1) (a .pre .0), a .pre .1 .house)
 
 -- level one's answer
 abbrev entry : tie.After-mono-answer → tie.Start
@@ -127,8 +132,9 @@ returns-2 c =
     let w = ends .before .before in
     let a = entry (w .before .before) in
     let x = a .args in
-    judged-goes (sym (told (w .before .before)) ∙ w .answer .given .1)
-    (subst (λ z. Filled (wordRow (x .p) (w .answer .given .0 .0) z 0 0) (x .p .base) (x .p .base + x .p .bases) (x .t .now) (put .put-word .last .0)) (ends .ends-behind .ensures) (put .put-word .ensures))
+    judged-goes (sym (told (w .before .before)) ∙ w .answer .given .1) (put .put-word .ensures .long)
+    (subst (λ z. Filled (wordRow (x .p) (w .answer .given .0 .0) z 0 0) (x .p .base) (x .p .base + x .p .bases) (x .t .now) (put .put-word .last .0)) (ends .ends-behind .ensures)
+    (put .put-word .ensures))
 
 pub lay-mono-spec : {M : Type 1} → statement M
 lay-mono-spec =

@@ -1,19 +1,21 @@
--- Number 5, then 6, each its row; past them stands the piece, and the arm of its form does the rest.
+-- Number 5, then 16, then 6, each its row; past them stands the piece, and is laid with its left reading or without one.
 use mathlib.Core.Path.{_≡_, refl, sym, ap, _∙_, subst}
 use mathlib.Core.Bool.{Bool, true, false, _||_}
-use mathlib.Core.List.{[]}
-use Prim.Native.Nat.{ℕ, _+_, _-_, _≤_, _<_}
+use Prim.Native.Nat.{ℕ, _+_, _≤_, _<_}
 use lib.Dec.{ltb}
 use lib.ListN.{length}
+use borrow.Author.Tests.{not-true, not-false}
 use borrow.Author.Needs.{needs}
 use native.Mathlib.Omega.{arith}
-use Rattle.refusal.specs.declared.Refusal.{Refusal}
-use Rattle.word.specs.declared.Word.{Word}
-use Rattle.word.specs.declared.Answer.the-variants.{Set, Refused}
+use Rattle.word.specs.Both.{takes}
 use Rattle.door.specs.declared.Piece.{Piece}
 use Rattle.door.specs.declared.Counted.the-variants.{Is}
-use Rattle.door.specs.Job.{Job, jobOf}
+use Rattle.door.specs.Job.{Job, jobOf, baseCount, rubyCount, leftCount}
+use Rattle.door.specs.Refusals.{runOut}
+use Rattle.door.specs.Whole.{element-within}
 use Rattle.door.specs.Walk as walk
+use Rattle.layout.specs.Table.{BareReady}
+use Rattle.layout.specs.Lay.{Standing}
 use Rattle.layout.specs.Element as one
 use Rattle.layout.proofs.lay_word.Statement.{statement}
 use Rattle.layout.proofs.lay_word.Tie as tie
@@ -21,48 +23,95 @@ use Rattle.layout.proofs.lay_word.Tie as tie
 abbrev job : tie.Start → Job
 job a =
     let x = a .args in
-    jobOf (x .em) 0 (x .ratios) (x .profile) (x .class .now) (x .width .now) (x .before .now) (x .after .now) (x .flag .now) (x .rclass .now) (x .rwidth .now) (x .kind .now) (x .ebase .now) (x .eruby .now) (x .runs .now)
+    jobOf (x .em) 0 (x .ratios) (x .profile) (x .class .now) (x .width .now) (x .before .now) (x .after .now) (x .flag .now) (x .rclass .now) (x .rwidth .now) (x .lclass .now) (x .lwidth .now)
+    (x .kind .now) (x .ebase .now) (x .eruby .now) (x .lkind .now) (x .eleft .now) (x .runs .now) (x .lruns .now)
+
+abbrev first : tie.After-shared-slice-known16 → tie.Start
+first c = c .before .before .before .before .before .before .before .before .before .before .before .before .before .before .before .before .before
+
+-- where the walk stands
+standing : (a : tie.Start) → Standing (job a) (a .args .k) (a .args .at) (a .args .t .now)
+standing a = a .pre .3
+
+few : (a : tie.Start) → a .args .k < 1024
+few a = let s = standing a .stands in omega (arith, s .index, s .clean .fewElements)
+
+there : (a : tie.Start) →
+    let x = a .args in
+    (x .k < length (x .kind .now)) × (x .k < length (x .ebase .now)) × (x .k < length (x .eruby .now)) × (x .k < length (x .lkind .now)) × (x .k < length (x .eleft .now))
+there a =
+    let i = standing a .stands .index in
+    let e = element-within (job a) in
+    (omega (arith, i, e .0), omega (arith, i, e .1), omega (arith, i, e .2), omega (arith, i, e .3), omega (arith, i, e .4))
 
 -- the entry, from the counting on
 abbrev start : tie.After-count-element → tie.Start
-start c = c .before .before .before .before .before .before .before .before .before .before .before .before .before .before .before .before
+start c = first (c .before .before .before .before .before .before)
 
 -- the piece that was counted
-is : (c : tie.After-known-told) →
-    let a = start (c .before .before .before) in
-    walk.counting (a .args .bases) (a .args .rubies) (job a) (a .args .k) (a .args .b) (a .args .r) (a .args .u) ≡ Is (c .before .counted .given .0 .0)
+abbrev entry : tie.After-known-told → tie.Start
+entry c = start (c .before .before .before)
+
+abbrev piece : tie.After-known-told → Piece
+piece c = c .before .counted .given .0 .0
+
+is : (c : tie.After-known-told) → let a = entry c in walk.counting (job a) (a .args .k) (a .args .at) ≡ Is (piece c)
 is c = sym (c .before .before .before .count-element .ensures) ∙ c .before .counted .given .1
 
-supplied : (c : tie.Else1) →
-    let k = c .before .before in
-    let a = start (k .before .before .before) in
-    let p = k .before .counted .given .0 .0 in
-    (ltb (a .args .bases) (p .base + p .bases) || ltb (a .args .rubies) (p .ruby + p .rubies)) ≡ false
-supplied c = sym (c .before .runs-out .ensures) ∙ c .if1 .left
+-- what it takes is there
+abbrev known : tie.After-runs-out → tie.After-known-told
+known c = c .before .before .before
+
+takes-it : (c : tie.Else1) → let p = piece (c .before .before) in takes (p .form) (p .gloss) ≡ true
+takes-it c = sym (c .before .takes-left .ensures) ∙ not-false (c .before .takes-left .result) (c .if1 .left)
+
+out : (c : tie.After-runs-out) → c .runs-out .result ≡ runOut (job (entry (known c))) (piece (known c))
+out c = let a = entry (known c) in c .runs-out .ensures ∙ counted _ _ _ _ _ _ (a .pre .0) (a .pre .1) (a .pre .2)
+  where
+    counted : (x y z b r l : ℕ) {b' r' l' : ℕ} → b ≡ b' → r ≡ r' → l ≡ l' → (ltb b x || (ltb r y || ltb l z)) ≡ (ltb b' x || (ltb r' y || ltb l' z))
+    counted x y z b r l e f g = rw (e, f, g)
+
+supplied : (c : tie.Else2) → let k = known (c .before) in runOut (job (entry k)) (piece k) ≡ false
+supplied c = sym (out (c .before)) ∙ c .if2 .left
 
 cast-place : tie.Need-cast-place
-cast-place c = omega (arith, c .before .before .before .before .before .before .before .before .before .before .before .before .pre .stands .index)
+cast-place c = omega (arith, few (first c))
 
 mul-count-element : tie.Need-mul-count-element
-mul-count-element c = let s = c .before .before .before .before .before .before .before .before .before .before .before .before .pre .stands in omega (arith, s .index, s .kind, s .elementBase, s .elementRuby)
+mul-count-element c = omega (arith, few (first c))
 
 shared-slice-read-count-element : tie.Need-shared-slice-read-count-element
-shared-slice-read-count-element c = let s = c .before .before .before .before .before .before .before .before .before .before .before .before .before .pre .stands in omega (arith, s .index, s .kind, s .elementBase, s .elementRuby)
+shared-slice-read-count-element c = omega (arith, there (first (c .before)) .0)
 
 mul-count-element-2 : tie.Need-mul-count-element-2
-mul-count-element-2 c = let s = c .before .before .before .before .before .before .before .before .before .before .before .before .before .pre .stands in omega (arith, s .index, s .kind, s .elementBase, s .elementRuby)
+mul-count-element-2 c = omega (arith, few (first (c .before)))
 
 shared-slice-read-count-element-2 : tie.Need-shared-slice-read-count-element-2
-shared-slice-read-count-element-2 c = let s = c .before .before .before .before .before .before .before .before .before .before .before .before .before .before .pre .stands in omega (arith, s .index, s .kind, s .elementBase, s .elementRuby)
+shared-slice-read-count-element-2 c = omega (arith, there (first (c .before .before)) .1)
 
 mul-count-element-3 : tie.Need-mul-count-element-3
-mul-count-element-3 c = let s = c .before .before .before .before .before .before .before .before .before .before .before .before .before .before .pre .stands in omega (arith, s .index, s .kind, s .elementBase, s .elementRuby)
+mul-count-element-3 c = omega (arith, few (first (c .before .before)))
 
 shared-slice-read-count-element-3 : tie.Need-shared-slice-read-count-element-3
-shared-slice-read-count-element-3 c = let s = c .before .before .before .before .before .before .before .before .before .before .before .before .before .before .before .pre .stands in omega (arith, s .index, s .kind, s .elementBase, s .elementRuby)
+shared-slice-read-count-element-3 c = omega (arith, there (first (c .before .before .before)) .2)
+
+mul-count-element-4 : tie.Need-mul-count-element-4
+mul-count-element-4 c = omega (arith, few (first (c .before .before .before)))
+
+shared-slice-read-count-element-4 : tie.Need-shared-slice-read-count-element-4
+shared-slice-read-count-element-4 c = omega (arith, there (first (c .before .before .before .before)) .3)
+
+mul-count-element-5 : tie.Need-mul-count-element-5
+mul-count-element-5 c = omega (arith, few (first (c .before .before .before .before)))
+
+shared-slice-read-count-element-5 : tie.Need-shared-slice-read-count-element-5
+shared-slice-read-count-element-5 c = omega (arith, there (first (c .before .before .before .before .before)) .4)
 
 count-element-requires : tie.Need-count-element-requires
-count-element-requires c κs = let s = c .before .before .before .before .before .before .before .before .before .before .before .before .before .before .before .pre .stands in omega (arith, s .runs, s .taken, s .few)
+count-element-requires c κs =
+    let s = standing (first (c .before .before .before .before .before)) .stands in
+    let w = s .within in
+    (omega (arith, w .runs, w .base, s .clean .few), omega (arith, w .leftRuns, w .base, s .clean .few))
 
 enum-known-counted : tie.Need-enum-known-counted
 enum-known-counted c = search needs
@@ -75,119 +124,105 @@ returns c =
     let n = c .before .before in
     let a = start n in
     let x = a .args in
-    one.stopped (x .bases) (x .rubies) (job a) (x .k) (x .b) (x .r) (x .u) (x .t .now) (a .pre)
-    (walk.out-stops (x .bases) (x .rubies) (job a) (x .k) (x .b) (x .r) (x .u) (sym (n .count-element .ensures) ∙ c .enum-told .given .1))
+    one.stopped (job a) (x .k) (x .at) (x .t .now) (standing a) (walk.out-stops (job a) (x .k) (x .at) (sym (n .count-element .ensures) ∙ c .enum-told .given .1))
 
-runs-out-requires : tie.Need-runs-out-requires
-runs-out-requires c κs =
-    let a = start (c .before .before .before) in
-    let x = a .args in
-    let s = one.small (x .bases) (x .rubies) (job a) (x .k) (x .b) (x .r) (x .u) (x .t .now) (a .pre) (c .before .counted .given .0 .0) (is c) in
-    (s .0, s .1)
+takes-left-requires : tie.Need-takes-left-requires
+takes-left-requires c κs = tt
 
 returns-2 : tie.Need-returns-2
 returns-2 c =
+    let t = c .before in
+    let k = t .before in
+    let a = entry k in
+    let x = a .args in
+    one.kind-stops (job a) (x .k) (x .at) (x .t .now) (standing a) (piece k) (is k) (sym (t .takes-left .ensures) ∙ not-true (t .takes-left .result) (c .if1 .taken))
+
+runs-out-requires : tie.Need-runs-out-requires
+runs-out-requires c κs =
     let k = c .before .before in
-    let a = start (k .before .before .before) in
+    let a = entry k in
     let x = a .args in
-    one.short-stops (x .bases) (x .rubies) (job a) (x .k) (x .b) (x .r) (x .u) (x .t .now) (a .pre) (k .before .counted .given .0 .0) (is k)
-    (sym (c .before .runs-out .ensures) ∙ c .if1 .taken)
-
--- the arm of a form: what is known before it
-abbrev known : tie.Else1 → tie.After-known-told
-known c = c .before .before
-
-enum-told-2 : tie.Need-enum-told-2
-enum-told-2 c = search needs
-
-enum-told-3 : tie.Need-enum-told-3
-enum-told-3 c = search needs
-
-lay-mono-requires : tie.Need-lay-mono-requires
-lay-mono-requires c κs =
-    let f = c .before in
-    let e = f .before .before in
-    let k = known e in
-    let a = start (k .before .before .before) in
-    let x = a .args in
-    let p = k .before .counted .given .0 .0 in (
-      one.one (x .bases) (x .rubies) (job a) (x .k) (x .b) (x .r) (x .u) (x .t .now) (a .pre) p (is k) (supplied e) (f .enum-told3 .given .1),
-      one.ready (x .bases) (x .rubies) (job a) (x .k) (x .b) (x .r) (x .u) (x .t .now) (a .pre) p (is k) (supplied e) [] [] [],
-    )
-
-enum-told-4 : tie.Need-enum-told-4
-enum-told-4 c = search needs
-
-lay-group-requires : tie.Need-lay-group-requires
-lay-group-requires c κs =
-    let e = c .before .before .before in
-    let k = known e in
-    let a = start (k .before .before .before) in
-    let x = a .args in
-    let p = k .before .counted .given .0 .0 in
-    let own = one.own (x .bases) (x .rubies) (job a) (x .k) (x .b) (x .r) (x .u) (x .t .now) (a .pre) p (is k) (supplied e) in (
-      own .class,
-      own .rubyClass,
-      one.ready (x .bases) (x .rubies) (job a) (x .k) (x .b) (x .r) (x .u) (x .t .now) (a .pre) p (is k) (supplied e) (x .class .now) (x .rclass .now) [],
-    )
-
-enum-told-5 : tie.Need-enum-told-5
-enum-told-5 c = search needs
-
-lay-jukugo-requires : tie.Need-lay-jukugo-requires
-lay-jukugo-requires c κs =
-    let f = c .before in
-    let e = f .before .before in
-    let k = known e in
-    let a = start (k .before .before .before) in
-    let x = a .args in
-    one.jukugo-ready (x .bases) (x .rubies) (job a) (x .k) (x .b) (x .r) (x .u) (x .t .now) (a .pre) (k .before .counted .given .0 .0) (is k) (supplied e) (f .enum-told5 .given .1)
+    one.small (job a) (x .k) (x .at) (x .t .now) (standing a) (piece k) (is k)
 
 returns-3 : tie.Need-returns-3
 returns-3 c =
-    let k = known (c .before .before) in
-    let a = start (k .before .before .before) in
+    let r = c .before in
+    let k = known r in
+    let a = entry k in
     let x = a .args in
-    absurd (one.no-plain (x .bases) (x .rubies) (job a) (x .k) (x .b) (x .r) (x .u) (x .t .now) (a .pre) (k .before .counted .given .0 .0) (is k) (c .enum-told2 .given .1))
+    one.short-stops (job a) (x .k) (x .at) (x .t .now) (standing a) (piece k) (is k) (takes-it (r .before)) (sym (out r) ∙ c .if2 .taken)
+
+lay-left-requires : tie.Need-lay-left-requires
+lay-left-requires c κs =
+    let t = c .before in
+    let e = t .before .before in
+    let k = known (e .before) in
+    let a = entry k in
+    let x = a .args in
+    one.both-ready (job a) (x .k) (x .at) (x .t .now) (standing a) (piece k) (is k) (takes-it (e .before .before)) (supplied e) (t .if3 .taken)
 
 same-length : tie.Need-same-length
-same-length c = c .before .before .lay-mono .ensures .long
+same-length c = c .before .before .lay-left .ensures .long
 
 returns-4 : tie.Need-returns-4
 returns-4 c =
     let m = c .before .before in
-    let f = m .before .before in
-    let e = f .before .before in
-    let k = known e in
-    let a = start (k .before .before .before) in
+    let t = m .before .before in
+    let e = t .before .before in
+    let k = known (e .before) in
+    let a = entry k in
     let x = a .args in
-    one.mono-judged (x .bases) (x .rubies) (job a) (x .k) (x .b) (x .r) (x .u) (x .t .now) (a .pre) (k .before .counted .given .0 .0) (is k) (supplied e) (f .enum-told3 .given .1) (m .lay-mono .ensures)
+    one.both-judged (job a) (x .k) (x .at) (x .t .now) (standing a) (piece k) (is k) (takes-it (e .before .before)) (supplied e) (t .if3 .taken) (m .lay-left .ensures)
+
+-- a word without left characters: its left rows are written first
+abbrev supply : tie.Else3 → tie.Else2
+supply o = o .before .before
+
+none : (o : tie.Else3) → piece (known (supply o .before)) .lefts ≡ 0
+none o = omega (arith, o .if3 .left)
+
+add-put-bare : tie.Need-add-put-bare
+add-put-bare c =
+    let e = supply (c .before .before) in
+    let k = known (e .before) in
+    let a = entry k in
+    let x = a .args in
+    omega (arith, one.small (job a) (x .k) (x .at) (x .t .now) (standing a) (piece k) (is k) .0)
+
+put-bare-requires : tie.Need-put-bare-requires
+put-bare-requires c κs =
+    let o = c .before .before in
+    let e = supply o in
+    let k = known (e .before) in
+    let a = entry k in
+    let x = a .args in
+    let p = piece k in
+    subst (λ n. BareReady (p .left) (p .base) (p .base + p .bases) n (x .t .now)) (sym (a .pre .2))
+    (one.bare-ready (job a) (x .k) (x .at) (x .t .now) (standing a) p (is k) (takes-it (e .before .before)) (supplied e) (none o))
+
+lay-alone-requires : tie.Need-lay-alone-requires
+lay-alone-requires c κs =
+    let b = c .before .before .before in
+    let o = b .before .before .before in
+    let e = supply o in
+    let k = known (e .before) in
+    let a = entry k in
+    let x = a .args in
+    one.alone-ready (job a) (x .k) (x .at) (x .t .now) (standing a) (piece k) (is k) (takes-it (e .before .before)) (supplied e) (none o) (b .put-bare .last .0) (b .put-bare .ensures)
 
 same-length-2 : tie.Need-same-length-2
-same-length-2 c = c .before .before .lay-group .ensures .long
+same-length-2 c = let m = c .before .before in m .lay-alone .ensures .long ∙ m .before .before .before .before .put-bare .ensures .long
 
 returns-5 : tie.Need-returns-5
 returns-5 c =
     let m = c .before .before in
-    let f = m .before .before in
-    let e = f .before .before in
-    let k = known e in
-    let a = start (k .before .before .before) in
+    let b = m .before .before .before .before in
+    let o = b .before .before .before in
+    let e = supply o in
+    let k = known (e .before) in
+    let a = entry k in
     let x = a .args in
-    one.group-judged (x .bases) (x .rubies) (job a) (x .k) (x .b) (x .r) (x .u) (x .t .now) (a .pre) (k .before .counted .given .0 .0) (is k) (supplied e) (f .enum-told4 .given .1) (m .lay-group .ensures)
-
-same-length-3 : tie.Need-same-length-3
-same-length-3 c = c .before .before .lay-jukugo .ensures .long
-
-returns-6 : tie.Need-returns-6
-returns-6 c =
-    let m = c .before .before in
-    let f = m .before .before in
-    let e = f .before .before in
-    let k = known e in
-    let a = start (k .before .before .before) in
-    let x = a .args in
-    one.jukugo-judged (x .bases) (x .rubies) (job a) (x .k) (x .b) (x .r) (x .u) (x .t .now) (a .pre) (k .before .counted .given .0 .0) (is k) (supplied e) (f .enum-told5 .given .1) (m .lay-jukugo .ensures)
+    one.alone-judged (job a) (x .k) (x .at) (x .t .now) (standing a) (piece k) (is k) (takes-it (e .before .before)) (supplied e) (none o) (b .put-bare .ensures) (m .lay-alone .ensures)
 
 pub lay-word-spec : {M : Type 1} → statement M
 lay-word-spec =
@@ -200,23 +235,23 @@ lay-word-spec =
     shared-slice-read-count-element-2
     mul-count-element-3
     shared-slice-read-count-element-3
+    mul-count-element-4
+    shared-slice-read-count-element-4
+    mul-count-element-5
+    shared-slice-read-count-element-5
     count-element-requires
     enum-known-counted
     enum-told
     returns
-    runs-out-requires
+    takes-left-requires
     returns-2
-    enum-told-2
-    enum-told-3
-    lay-mono-requires
-    enum-told-4
-    lay-group-requires
-    enum-told-5
-    lay-jukugo-requires
+    runs-out-requires
     returns-3
+    lay-left-requires
     same-length
     returns-4
+    add-put-bare
+    put-bare-requires
+    lay-alone-requires
     same-length-2
-    returns-5
-    same-length-3
-    returns-6)
+    returns-5)

@@ -7,7 +7,8 @@ use lib.ListN.{getD}
 use Rattle.cells.specs.declared.Cell.{Cell}
 use Rattle.cells.specs.Put.{Puts}
 use Rattle.door.specs.Job.{Job}
-use Rattle.layout.specs.Lay.{runsOnly, RunReads, single-reads}
+use Rattle.line.specs.declared.Side.the-variants.{Right}
+use Rattle.layout.specs.Runs.{runsOnly, RunReads, first-reads, first-class}
 use Rattle.layout.proofs.put_single.Statement.{statement}
 use Rattle.layout.proofs.put_single.Tie as tie
 
@@ -16,8 +17,8 @@ start c = c .before .before .before .before
 
 reads : (a : tie.Start) →
     let x = a .args in
-    RunReads (runsOnly 0 (x .rclass .now) (x .rwidth .now) (x .runs .now)) (x .p .ruby) (getD (x .runs .now) (x .p .run) 0)
-reads a = single-reads (a .pre .0) (a .pre .1)
+    RunReads (x .rwidth .now) (x .p .ruby) (getD (x .runs .now) (x .p .run) 0)
+reads a = let x = a .args in first-reads Right (runsOnly 0 (x .rclass .now) (x .rwidth .now) (x .runs .now)) (x .p) (a .pre .1 .own) (omega (arith, a .pre .0))
 
 -- its row, by the run's width and kind
 abbrev row : tie.Start → ℕ → Bool → Cell
@@ -43,10 +44,10 @@ row a own west =
     }
 
 mul-run : tie.Need-mul-run
-mul-run c = let h = start c .pre in omega (arith, h .1 .fewRuns)
+mul-run c = let h = start c .pre in omega (arith, h .1 .own .fewRuns)
 
 shared-slice-read-run : tie.Need-shared-slice-read-run
-shared-slice-read-run c = let h = start (c .before) .pre in omega (arith, h .0, h .1 .runs)
+shared-slice-read-run c = let h = start (c .before) .pre in omega (arith, h .0, h .1 .own .runs)
 
 cast-run-width : tie.Need-cast-run-width
 cast-run-width c = omega (arith, reads (start (c .before)) .few)
@@ -61,7 +62,10 @@ mul-is-western : tie.Need-mul-is-western
 mul-is-western c = omega (arith, reads (start (c .before .before)) .few)
 
 shared-slice-read-is-western : tie.Need-shared-slice-read-is-western
-shared-slice-read-is-western c = reads (start (c .before .before .before)) .class
+shared-slice-read-is-western c =
+    let a = start (c .before .before .before) in
+    let x = a .args in
+    first-class (runsOnly 0 (x .rclass .now) (x .rwidth .now) (x .runs .now)) (x .p) (x .t .now) (a .pre .1) (omega (arith, a .pre .0))
 
 is-western-requires : tie.Need-is-western-requires
 is-western-requires c κs = tt

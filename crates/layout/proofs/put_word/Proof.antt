@@ -2,7 +2,8 @@
 use Prim.Native.Nat.{_+_, _-_, _≤_}
 use borrow.Author.Needs.{needs}
 use native.Mathlib.Omega.{arith}
-use Rattle.layout.specs.Lay.{wordRow, Filled, filled-none, filled-more, upto-end}
+use Rattle.layout.specs.Table.{Filled, filled-none, filled-more, upto-end}
+use Rattle.layout.specs.Lay.{wordRow}
 use Rattle.layout.proofs.put_word.Statement.{statement}
 use Rattle.layout.proofs.put_word.Tie as tie
 
@@ -51,7 +52,8 @@ loop-again c =
     let l = i .before in
     let a = l .before .before .before .args in
     let q = l .loop .inv in
-    (omega (arith, q .0), omega (arith, i .loop-test .taken), filled-more (wordRow (a .p) (a .w) (a .ends) 0 0) (a .p .base) (l .loop .i) (a .t .now) (l .loop .t) (x .put-cell .last .0) (q .0) (q .2) (x .put-cell .ensures))
+    let row = wordRow (a .p) (a .w) (a .ends) 0 0 in
+    (omega (arith, q .0), omega (arith, i .loop-test .taken), filled-more row (a .p .base) (l .loop .i) (a .t .now) (l .loop .t) (x .put-cell .last .0) (q .0) (q .2) (x .put-cell .ensures))
 
 same-length : tie.Need-same-length Inv-loop μ-loop
 same-length c = c .before .loop .inv .2 .long

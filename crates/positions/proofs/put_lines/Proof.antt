@@ -7,13 +7,13 @@ use Rattle.positions.proofs.put_lines.Statement.{statement}
 use Rattle.positions.proofs.put_lines.Tie as tie
 
 abbrev Inv-loop : tie.InvT-loop
-Inv-loop t n ends em width rwidth base₀ ruby₀ s₀ l₀ base ruby s l = Going (sheet em t width rwidth) n ends base₀ ruby₀ s l base ruby
+Inv-loop t n ends em width rwidth lwidth base₀ ruby₀ left₀ s₀ l₀ base ruby left s l = Going (sheet em t width rwidth lwidth) n ends base₀ ruby₀ left₀ s l base ruby left
 
 abbrev μ-loop : tie.MeasureT-loop
-μ-loop t n ends em width rwidth base₀ ruby₀ s₀ l₀ base ruby s l = n - l
+μ-loop t n ends em width rwidth lwidth base₀ ruby₀ left₀ s₀ l₀ base ruby left s l = n - l
 
 loop-holds : tie.Need-loop-holds Inv-loop μ-loop
-loop-holds c = going-first (c .before .before .before .before .before .before .pre)
+loop-holds c = going-first (c .before .before .before .before .before .before .before .before .pre)
 
 mul-e : tie.Need-mul-e Inv-loop μ-loop
 mul-e c = omega (arith, c .loop-test .taken, c .before .loop .inv .ready .few)
@@ -22,34 +22,37 @@ shared-slice-read-e : tie.Need-shared-slice-read-e Inv-loop μ-loop
 shared-slice-read-e c = let b = c .before in omega (arith, b .loop-test .taken, b .before .loop .inv .ready .held)
 
 cast-e : tie.Need-cast-e Inv-loop μ-loop
-cast-e c = omega (arith, c .shared-slice-known5 .given (c .before .before .loop .l))
+cast-e c = omega (arith, c .shared-slice-known6 .given (c .before .before .loop .l))
 
 put-line-requires : tie.Need-put-line-requires Inv-loop μ-loop
-put-line-requires c κs = let b = c .before .before .before in line-ready (b .before .loop .inv) (b .loop-test .taken)
+put-line-requires c κs = let b = c .before .before .before .before in line-ready (b .before .loop .inv) (b .loop-test .taken)
 
 add-l : tie.Need-add-l Inv-loop μ-loop
 add-l c =
-    let d = c .before .before .before .before in
-    let b = d .before .before .before .before in
+    let d = c .before .before .before .before .before .before in
+    let b = d .before .before .before .before .before in
     omega (arith, b .loop-test .taken, b .before .loop .inv .ready .few)
 
 loop-less : tie.Need-loop-less Inv-loop μ-loop
 loop-less c =
-    let d = c .before .before .before .before in
-    let b = d .before .before .before .before in
+    let d = c .before .before .before .before .before .before in
+    let b = d .before .before .before .before .before in
     omega (arith, b .loop-test .taken)
 
 loop-again : tie.Need-loop-again Inv-loop μ-loop
 loop-again c =
-    let d = c .before .before .before .before in
-    let b = d .before .before .before .before in
+    let d = c .before .before .before .before .before .before in
+    let b = d .before .before .before .before .before in
     going-next (b .before .loop .inv) (b .loop-test .taken) (d .put-line .ensures)
 
 same-length : tie.Need-same-length Inv-loop μ-loop
-same-length c = c .before .loop .inv .longBase
+same-length c = c .before .loop .inv .bases .long
 
 same-length-2 : tie.Need-same-length-2 Inv-loop μ-loop
-same-length-2 c = c .before .loop .inv .longRuby
+same-length-2 c = c .before .loop .inv .rubies .long
+
+same-length-3 : tie.Need-same-length-3 Inv-loop μ-loop
+same-length-3 c = c .before .loop .inv .lefts .long
 
 returns : tie.Need-returns Inv-loop μ-loop
 returns c = going-end (c .before .loop .inv) (c .loop-test .left)
@@ -70,4 +73,5 @@ put-lines-spec =
     loop-again
     same-length
     same-length-2
+    same-length-3
     returns)

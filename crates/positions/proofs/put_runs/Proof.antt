@@ -1,7 +1,6 @@
 -- Before each row, what is written and what its run and those behind it add make up the whole.
 use Prim.Native.Nat.{_+_, _-_}
-use Rattle.cells.specs.Cells.{cellAt}
-use Rattle.positions.specs.Positions.{runEnd}
+use Rattle.positions.specs.Positions.{first, own, runEnd}
 use Rattle.positions.specs.Ready.{StringReady}
 use Rattle.positions.specs.Runs.{Running, running-first, string-ready, running-next, running-end}
 use borrow.Author.Needs.{needs}
@@ -10,23 +9,23 @@ use Rattle.positions.proofs.put_runs.Statement.{statement}
 use Rattle.positions.proofs.put_runs.Tie as tie
 
 abbrev Inv-loop : tie.InvT-loop
-Inv-loop t i c em at rwidth ruby₀ x₀ k₀ ruby x k = Running em t i c at rwidth ruby₀ k x ruby
+Inv-loop t i c side em at ws out₀ x₀ k₀ out x k = Running side em t i c at ws out₀ k x out
 
 abbrev μ-loop : tie.MeasureT-loop
-μ-loop t i c em at rwidth ruby₀ x₀ k₀ ruby x k = c - k
+μ-loop t i c side em at ws out₀ x₀ k₀ out x k = c - k
 
 abbrev entry : tie.At-loop Inv-loop μ-loop → tie.Start Inv-loop μ-loop
 entry c = c .before .before .before .before
 
-string : (c : tie.In-loop Inv-loop μ-loop) → let a = entry (c .before) in let q = c .before .loop in
-    StringReady (q .x + (a .args .em - cellAt (a .args .t .now) (q .k) .own)) 0 (cellAt (a .args .t .now) (q .k) .ruby) (runEnd (a .args .t .now) (q .k)) (a .args .rwidth .now) (q .ruby)
+string : (c : tie.In-loop Inv-loop μ-loop) → let a = entry (c .before) .args in let q = c .before .loop in
+    StringReady (q .x + (a .em - own (a .side) (a .t .now) (q .k))) 0 (first (a .side) (a .t .now) (q .k)) (runEnd (a .side) (a .t .now) (q .k)) (a .ws .now) (q .out)
 string c = string-ready (entry (c .before) .pre) (c .before .loop .inv) (c .loop-test .taken)
 
 loop-holds : tie.Need-loop-holds Inv-loop μ-loop
 loop-holds c = running-first (c .before .before .before .pre)
 
-cell-at-requires : tie.Need-cell-at-requires Inv-loop μ-loop
-cell-at-requires c κs = let a = entry (c .before) in omega (arith, c .loop-test .taken, a .pre .held)
+share-at-requires : tie.Need-share-at-requires Inv-loop μ-loop
+share-at-requires c κs = let a = entry (c .before) in omega (arith, c .loop-test .taken, a .pre .held)
 
 cast-r : tie.Need-cast-r Inv-loop μ-loop
 cast-r c = search needs
@@ -41,17 +40,17 @@ sub-put-string : tie.Need-sub-put-string Inv-loop μ-loop
 sub-put-string c =
     let b = c .before .before .before in
     let a = entry (b .before .before) in
-    rw (b .cell-at .ensures) (a .pre .runs .each (b .before .before .loop .k) (b .before .before .loop .inv .from) (b .before .loop-test .taken) .short)
+    rw (b .share-at .ensures) (a .pre .runs .each (b .before .before .loop .k) (b .before .before .loop .inv .from) (b .before .loop-test .taken) .short)
 
 add-put-string : tie.Need-add-put-string Inv-loop μ-loop
 add-put-string c =
     let b = c .before .before .before in
-    rw (b .cell-at .ensures) (omega (arith, string (b .before) .near))
+    rw (b .share-at .ensures) (omega (arith, string (b .before) .near))
 
 put-string-requires : tie.Need-put-string-requires Inv-loop μ-loop
 put-string-requires c κs =
     let b = c .before .before .before .before in
-    rw (b .cell-at .ensures) (string (b .before))
+    rw (b .share-at .ensures) (string (b .before))
 
 mul-x : tie.Need-mul-x Inv-loop μ-loop
 mul-x c = let a = entry (c .before .before .before .before .before .before .before .before .before) in omega (arith, a .pre .small)
@@ -76,7 +75,7 @@ loop-again : tie.Need-loop-again Inv-loop μ-loop
 loop-again c =
     let d = c .before .before in
     let b = d .before .before .before .before .before .before in
-    rw (d .put-string .ensures, d .before .before .before .before .before .cell-at .ensures) (running-next (entry (b .before) .pre) (b .before .loop .inv) (b .loop-test .taken))
+    rw (d .put-string .ensures, d .before .before .before .before .before .share-at .ensures) (running-next (entry (b .before) .pre) (b .before .loop .inv) (b .loop-test .taken))
 
 same-length : tie.Need-same-length Inv-loop μ-loop
 same-length c = c .before .loop .inv .long
@@ -91,7 +90,7 @@ put-runs-spec =
     Inv-loop
     μ-loop
     loop-holds
-    cell-at-requires
+    share-at-requires
     cast-r
     cast-e
     add-e

@@ -1,129 +1,86 @@
--- Before each piece, what is written and what the pieces from there on add make up the whole line.
-use mathlib.Core.Path.{_≡_, refl, sym, ap, ap₂, _∙_, subst}
-use Prim.Native.Nat.{ℕ, _+_, _-_, _≤_, min}
+-- Before each element, what is written and what the elements from there on add make up the whole line.
+use mathlib.Core.Path.{refl}
+use Prim.Native.Nat.{_-_}
 use borrow.Author.Needs.{needs}
 use native.Mathlib.Omega.{arith}
-use Rattle.text.specs.Print.{Wrote}
-use Rattle.cells.specs.Cells.{cellAt, stop}
-use Rattle.positions.specs.Positions.{rubyEnd}
-use Rattle.door.specs.declared.Piece.{Piece}
-use Rattle.result.specs.Text.{ofPiece}
-use Rattle.result.specs.Rows.{PieceReady}
-use Rattle.result.specs.ByRows.{span, ofRows, Printing, printing-first, printing-end, held, ahead, ruby-ahead, piece-ready, printing-next}
+use Rattle.result.specs.Line.{Printing, printing-first, printing-end, line-table, last-held, ahead, base-ready, right-ready, left-ready, printing-next}
 use Rattle.result.proofs.put_line.Statement.{statement}
 use Rattle.result.proofs.put_line.Tie as tie
 
 abbrev Inv-loop : tie.InvT-loop
-Inv-loop t s e base ruby out₀ from at₀ i₀ out at i = Printing t s e base ruby out₀ from i at out
+Inv-loop t s e base ruby left out₀ from at₀ i₀ t15 out at i = Printing t s e base ruby left out₀ from i at out
 
 abbrev μ-loop : tie.MeasureT-loop
-μ-loop t s e base ruby out₀ from at₀ i₀ out at i = e - i
-
-abbrev entry : tie.At-loop Inv-loop μ-loop → tie.Start Inv-loop μ-loop
-entry c = c .before .before .before .before .before
-
--- where the piece ends, and its ruby
-end-is : (c : tie.After-fewer Inv-loop μ-loop) → let l = c .before .before .before .before in c .fewer .result ≡ stop (entry l .args .t .now) (l .loop .i) (entry l .args .e)
-end-is c =
-    let l = c .before .before .before .before in
-    c .fewer .ensures ∙ ap (λ z. min (entry l .args .e) (l .loop .i + z .bases)) (c .before .before .cell-at .ensures)
-
-ruby-is : (c : tie.After-rubies-upto Inv-loop μ-loop) →
-    let l = c .before .before .before .before .before .before in
-    c .rubies-upto .result ≡ rubyEnd (entry l .args .t .now) (l .loop .i) (stop (entry l .args .t .now) (l .loop .i) (entry l .args .e))
-ruby-is c =
-    let l = c .before .before .before .before .before .before in
-    c .rubies-upto .ensures ∙ ap (rubyEnd (entry l .args .t .now) (l .loop .i)) (end-is (c .before .before))
-
--- the piece by its numbers
-span-is : (c : tie.After-rubies-upto Inv-loop μ-loop) →
-    let f = c .before .before in
-    let x = f .before .before in
-    let l = x .before .before in
-    let t = entry l .args .t .now in
-    let i = l .loop .i in
-    let d = stop t i (entry l .args .e) in
-    span i (f .fewer .result - i) (x .cell-at .result .ruby) (c .rubies-upto .result - x .cell-at .result .ruby) ≡ span i (d - i) (cellAt t i .ruby) (rubyEnd t i d - cellAt t i .ruby)
-span-is c =
-    let f = c .before .before in
-    let x = f .before .before in
-    let l = x .before .before in
-    let t = entry l .args .t .now in
-    let i = l .loop .i in
-    let d = stop t i (entry l .args .e) in
-    ap₂ (λ n q. span i (n - i) (x .cell-at .result .ruby) (q - x .cell-at .result .ruby)) (end-is f) (ruby-is c)
-    ∙ ap (λ z. span i (d - i) (z .ruby) (rubyEnd t i d - z .ruby)) (x .cell-at .ensures)
+μ-loop t s e base ruby left out₀ from at₀ i₀ t15 out at i = e - i
 
 loop-holds : tie.Need-loop-holds Inv-loop μ-loop
-loop-holds c = printing-first (c .before .before .before .before .pre)
+loop-holds c = printing-first (c .before .before .before .before .before .pre)
 
-cell-at-requires : tie.Need-cell-at-requires Inv-loop μ-loop
-cell-at-requires c κs = held (c .before .loop .inv) (c .loop-test .taken) .0
+last-piece-requires : tie.Need-last-piece-requires Inv-loop μ-loop
+last-piece-requires c κs = (c .loop-test .taken, line-table (c .before .loop .inv .ready))
 
-cast-end : tie.Need-cast-end Inv-loop μ-loop
-cast-end c = search needs
+piece-end-requires : tie.Need-piece-end-requires Inv-loop μ-loop
+piece-end-requires c κs =
+    let i = c .before in
+    let v = i .before .loop .inv in
+    last-held (v .ready) (i .loop-test .taken) (v .begins (i .loop-test .taken)) (c .last-piece .ensures) refl
 
-add-end : tie.Need-add-end Inv-loop μ-loop
-add-end c =
-    let x = c .before in
-    let i = x .before in
-    omega (arith, ap (λ z. z .bases) (x .cell-at .ensures), held (i .before .loop .inv) (i .loop-test .taken))
+slice-aggregate-put-rows : tie.Need-slice-aggregate-put-rows Inv-loop μ-loop
+slice-aggregate-put-rows c = search needs
 
-fewer-requires : tie.Need-fewer-requires Inv-loop μ-loop
-fewer-requires c κs = search needs
+sub-put-rows : tie.Need-sub-put-rows Inv-loop μ-loop
+sub-put-rows c =
+    let p = c .before .before in
+    let z = p .before in
+    let i = z .before in
+    omega (arith, ahead (i .before .loop .inv) (i .loop-test .taken) (z .last-piece .ensures) (p .piece-end .ensures) .0)
 
-cast-r : tie.Need-cast-r Inv-loop μ-loop
-cast-r c = search needs
+put-rows-requires : tie.Need-put-rows-requires Inv-loop μ-loop
+put-rows-requires c κs =
+    let p = c .before .before in
+    let z = p .before in
+    let i = z .before in
+    base-ready (i .before .loop .inv) (i .loop-test .taken) (z .last-piece .ensures) (p .piece-end .ensures)
 
-rubies-upto-requires : tie.Need-rubies-upto-requires Inv-loop μ-loop
-rubies-upto-requires c κs =
-    let f = c .before in
-    let i = f .before .before .before in
-    let a = ahead (i .before .loop .inv) (i .loop-test .taken) in
-    let e = end-is f in
-    (omega (arith, e, a .0), omega (arith, e, a .1), omega (arith, e, a .2))
+put-side-requires : tie.Need-put-side-requires Inv-loop μ-loop
+put-side-requires c κs =
+    let b = c .before .before .before in
+    let p = b .before .before .before in
+    let z = p .before in
+    let i = z .before in
+    right-ready (i .before .loop .inv) (i .loop-test .taken) (z .last-piece .ensures) (p .piece-end .ensures) (b .put-rows .ensures)
 
-sub-put-piece : tie.Need-sub-put-piece Inv-loop μ-loop
-sub-put-piece c =
-    let f = c .before .before .before in
-    let i = f .before .before .before in
-    omega (arith, end-is f, ahead (i .before .loop .inv) (i .loop-test .taken) .0)
-
-sub-put-piece-2 : tie.Need-sub-put-piece-2 Inv-loop μ-loop
-sub-put-piece-2 c =
-    let r = c .before in
-    let x = r .before .before .before .before in
-    let i = x .before in
-    omega (arith, ruby-is r, ap (λ z. z .ruby) (x .cell-at .ensures), ruby-ahead (i .before .loop .inv) (i .loop-test .taken) .0)
-
-put-piece-requires : tie.Need-put-piece-requires Inv-loop μ-loop
-put-piece-requires c κs =
-    let r = c .before in
-    let i = r .before .before .before .before .before in
-    let l = i .before in
-    subst (λ (p : Piece). PieceReady (l .loop .out) (l .loop .at) p (entry l .args .base .now) (entry l .args .ruby .now)) (sym (span-is r)) (piece-ready (l .loop .inv) (i .loop-test .taken))
+put-side-requires-2 : tie.Need-put-side-requires-2 Inv-loop μ-loop
+put-side-requires-2 c κs =
+    let r = c .before .before .before in
+    let b = r .before .before .before .before in
+    let p = b .before .before .before in
+    let z = p .before in
+    let i = z .before in
+    left-ready (i .before .loop .inv) (i .loop-test .taken) (z .last-piece .ensures) (p .piece-end .ensures) (b .put-rows .ensures) (r .put-side .ensures)
 
 loop-less : tie.Need-loop-less Inv-loop μ-loop
 loop-less c =
-    let x = c .before .before .before .before .before .before .before .before in
-    let i = x .before in
-    omega (arith, ap (λ z. z .bases) (x .cell-at .ensures), held (i .before .loop .inv) (i .loop-test .taken) .1, i .loop-test .taken)
+    let l = c .before .before in
+    let r = l .before .before .before .before in
+    let b = r .before .before .before .before in
+    let p = b .before .before .before in
+    let z = p .before in
+    let i = z .before in
+    omega (arith, ahead (i .before .loop .inv) (i .loop-test .taken) (z .last-piece .ensures) (p .piece-end .ensures), i .loop-test .taken)
 
 loop-again : tie.Need-loop-again Inv-loop μ-loop
-unfolding ofRows
 loop-again c =
-    let p = c .before .before in
-    let r = p .before .before in
-    let x = r .before .before .before .before in
-    let i = x .before in
-    let l = i .before in
-    let a = entry l .args in
-    subst (λ n. Printing (a .t .now) (a .s) (a .e) (a .base .now) (a .ruby .now) (a .out .now) (a .from) (l .loop .i + n) (p .put-piece .result) (p .put-piece .last .0)) (sym (ap (λ z. z .bases) (x .cell-at .ensures)))
-    (printing-next (l .loop .inv) (i .loop-test .taken)
-    (subst (λ (z : Piece). Wrote (l .loop .out) (l .loop .at) (ofPiece (a .base .now) (a .ruby .now) z) (p .put-piece .result) (p .put-piece .last .0)) (span-is r) (p .put-piece .ensures)))
+    let l = c .before .before in
+    let r = l .before .before .before .before in
+    let b = r .before .before .before .before in
+    let p = b .before .before .before in
+    let z = p .before in
+    let i = z .before in
+    printing-next (i .before .loop .inv) (i .loop-test .taken) (z .last-piece .ensures) (p .piece-end .ensures) (b .put-rows .ensures) (r .put-side .ensures) (l .put-side2 .ensures)
 
 same-length : tie.Need-same-length Inv-loop μ-loop
-same-length c = c .before .loop .inv .left .long
+same-length c = c .before .loop .inv .rest .long
 
 returns : tie.Need-returns Inv-loop μ-loop
 returns c = printing-end (c .before .loop .inv) (c .loop-test .left)
@@ -135,15 +92,13 @@ put-line-spec =
     Inv-loop
     μ-loop
     loop-holds
-    cell-at-requires
-    cast-end
-    add-end
-    fewer-requires
-    cast-r
-    rubies-upto-requires
-    sub-put-piece
-    sub-put-piece-2
-    put-piece-requires
+    last-piece-requires
+    piece-end-requires
+    slice-aggregate-put-rows
+    sub-put-rows
+    put-rows-requires
+    put-side-requires
+    put-side-requires-2
     loop-less
     loop-again
     same-length

@@ -31,7 +31,17 @@ put-byte-requires-2 c κs =
     let p1 = p2 .before .before .before .before in
     let p0 = p1 .before .before .before .before in
     let s = p0 .before .before .before .before in
-    omega (arith, s .pre, length-one (s .args .word .now) (s .args .n), p0 .put-word .ensures .next, same-long (p0 .put-word .ensures), p1 .put-byte .ensures .next, same-long (p1 .put-byte .ensures), p2 .put-number .ensures .next, same-long (p2 .put-number .ensures))
+    omega (
+      arith,
+      s .pre,
+      length-one (s .args .word .now) (s .args .n),
+      p0 .put-word .ensures .next,
+      same-long (p0 .put-word .ensures),
+      p1 .put-byte .ensures .next,
+      same-long (p1 .put-byte .ensures),
+      p2 .put-number .ensures .next,
+      same-long (p2 .put-number .ensures),
+    )
 
 same-length : tie.Need-same-length
 same-length c = search needs

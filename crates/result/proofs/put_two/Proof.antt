@@ -23,7 +23,15 @@ put-number-requires c κs =
     let p1 = c .before .before .before in
     let p0 = p1 .before .before .before .before in
     let s = p0 .before .before .before .before in
-    omega (arith, s .pre, length-two (s .args .word .now) (s .args .i) (s .args .p), p0 .put-word .ensures .next, same-long (p0 .put-word .ensures), p1 .put-byte .ensures .next, same-long (p1 .put-byte .ensures))
+    omega (
+      arith,
+      s .pre,
+      length-two (s .args .word .now) (s .args .i) (s .args .p),
+      p0 .put-word .ensures .next,
+      same-long (p0 .put-word .ensures),
+      p1 .put-byte .ensures .next,
+      same-long (p1 .put-byte .ensures),
+    )
 
 put-byte-requires-2 : tie.Need-put-byte-requires-2
 put-byte-requires-2 c κs =
@@ -31,7 +39,17 @@ put-byte-requires-2 c κs =
     let p1 = p2 .before .before .before .before in
     let p0 = p1 .before .before .before .before in
     let s = p0 .before .before .before .before in
-    omega (arith, s .pre, length-two (s .args .word .now) (s .args .i) (s .args .p), p0 .put-word .ensures .next, same-long (p0 .put-word .ensures), p1 .put-byte .ensures .next, same-long (p1 .put-byte .ensures), p2 .put-number .ensures .next, same-long (p2 .put-number .ensures))
+    omega (
+      arith,
+      s .pre,
+      length-two (s .args .word .now) (s .args .i) (s .args .p),
+      p0 .put-word .ensures .next,
+      same-long (p0 .put-word .ensures),
+      p1 .put-byte .ensures .next,
+      same-long (p1 .put-byte .ensures),
+      p2 .put-number .ensures .next,
+      same-long (p2 .put-number .ensures),
+    )
 
 put-number-requires-2 : tie.Need-put-number-requires-2
 put-number-requires-2 c κs =
@@ -40,7 +58,19 @@ put-number-requires-2 c κs =
     let p1 = p2 .before .before .before .before in
     let p0 = p1 .before .before .before .before in
     let s = p0 .before .before .before .before in
-    omega (arith, s .pre, length-two (s .args .word .now) (s .args .i) (s .args .p), p0 .put-word .ensures .next, same-long (p0 .put-word .ensures), p1 .put-byte .ensures .next, same-long (p1 .put-byte .ensures), p2 .put-number .ensures .next, same-long (p2 .put-number .ensures), p3 .put-byte2 .ensures .next, same-long (p3 .put-byte2 .ensures))
+    omega (
+      arith,
+      s .pre,
+      length-two (s .args .word .now) (s .args .i) (s .args .p),
+      p0 .put-word .ensures .next,
+      same-long (p0 .put-word .ensures),
+      p1 .put-byte .ensures .next,
+      same-long (p1 .put-byte .ensures),
+      p2 .put-number .ensures .next,
+      same-long (p2 .put-number .ensures),
+      p3 .put-byte2 .ensures .next,
+      same-long (p3 .put-byte2 .ensures),
+    )
 
 put-byte-requires-3 : tie.Need-put-byte-requires-3
 put-byte-requires-3 c κs =
@@ -50,7 +80,21 @@ put-byte-requires-3 c κs =
     let p1 = p2 .before .before .before .before in
     let p0 = p1 .before .before .before .before in
     let s = p0 .before .before .before .before in
-    omega (arith, s .pre, length-two (s .args .word .now) (s .args .i) (s .args .p), p0 .put-word .ensures .next, same-long (p0 .put-word .ensures), p1 .put-byte .ensures .next, same-long (p1 .put-byte .ensures), p2 .put-number .ensures .next, same-long (p2 .put-number .ensures), p3 .put-byte2 .ensures .next, same-long (p3 .put-byte2 .ensures), p4 .put-number2 .ensures .next, same-long (p4 .put-number2 .ensures))
+    omega (
+      arith,
+      s .pre,
+      length-two (s .args .word .now) (s .args .i) (s .args .p),
+      p0 .put-word .ensures .next,
+      same-long (p0 .put-word .ensures),
+      p1 .put-byte .ensures .next,
+      same-long (p1 .put-byte .ensures),
+      p2 .put-number .ensures .next,
+      same-long (p2 .put-number .ensures),
+      p3 .put-byte2 .ensures .next,
+      same-long (p3 .put-byte2 .ensures),
+      p4 .put-number2 .ensures .next,
+      same-long (p4 .put-number2 .ensures),
+    )
 
 same-length : tie.Need-same-length
 same-length c = search needs

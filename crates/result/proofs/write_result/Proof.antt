@@ -10,26 +10,26 @@ use Rattle.result.proofs.write_result.Statement.{statement}
 use Rattle.result.proofs.write_result.Tie as tie
 
 abbrev Inv-loop : tie.InvT-loop
-Inv-loop t n ends extents base ruby out₀ at₀ s₀ l₀ t14 out at s l = Going t n ends extents base ruby out₀ at₀ s l at out
+Inv-loop t n ends extents base ruby left out₀ at₀ s₀ l₀ t15 out at s l = Going t n ends extents base ruby left out₀ at₀ s l at out
 
 abbrev μ-loop : tie.MeasureT-loop
-μ-loop t n ends extents base ruby out₀ at₀ s₀ l₀ t14 out at s l = n - l
+μ-loop t n ends extents base ruby left out₀ at₀ s₀ l₀ t15 out at s l = n - l
 
 -- the first line, and where all began
 abbrev first : tie.At-loop Inv-loop μ-loop → tie.After-put-one Inv-loop μ-loop
 first l = l .before .before .before
 
 abbrev entry : tie.After-put-one Inv-loop μ-loop → tie.Start Inv-loop μ-loop
-entry c = c .before .before .before .before .before .before .before .before .before
+entry c = c .before .before .before .before .before .before .before .before .before .before
 
 slice-aggregate-put-one : tie.Need-slice-aggregate-put-one Inv-loop μ-loop
 slice-aggregate-put-one c = search needs
 
 cast-put-one : tie.Need-cast-put-one Inv-loop μ-loop
-cast-put-one c = omega (arith, result.few (c .before .before .before .before .before .before .before .before .pre))
+cast-put-one c = omega (arith, result.few (c .before .before .before .before .before .before .before .before .before .pre))
 
 put-one-requires : tie.Need-put-one-requires Inv-loop μ-loop
-put-one-requires c κs = result.head-fits (c .before .before .before .before .before .before .before .before .pre)
+put-one-requires c κs = result.head-fits (c .before .before .before .before .before .before .before .before .before .pre)
 
 loop-holds : tie.Need-loop-holds Inv-loop μ-loop
 loop-holds c = result.going-first (entry (c .before .before) .pre) (c .before .before .put-one .ensures)
@@ -41,7 +41,7 @@ shared-slice-read-e : tie.Need-shared-slice-read-e Inv-loop μ-loop
 shared-slice-read-e c = result.within (c .before .before .loop .inv) (c .before .loop-test .taken) .0
 
 cast-e : tie.Need-cast-e Inv-loop μ-loop
-cast-e c = omega (arith, c .shared-slice-known6 .given (c .before .before .loop .l))
+cast-e c = omega (arith, c .shared-slice-known7 .given (c .before .before .loop .l))
 
 slice-aggregate-put-one-2 : tie.Need-slice-aggregate-put-one-2 Inv-loop μ-loop
 slice-aggregate-put-one-2 c = search needs
@@ -79,7 +79,7 @@ loop-again c =
     result.going-next (i .before .loop .inv) (i .loop-test .taken) (p .put-one2 .ensures) (w .put-line .ensures)
 
 same-length : tie.Need-same-length Inv-loop μ-loop
-same-length c = c .before .loop .inv .left .long ∙ same-long (first (c .before) .put-one .ensures)
+same-length c = c .before .loop .inv .rest .long ∙ same-long (first (c .before) .put-one .ensures)
 
 returns : tie.Need-returns Inv-loop μ-loop
 returns c = result.going-end (entry (first (c .before)) .pre) (first (c .before) .put-one .ensures) (c .before .loop .inv) (c .loop-test .left)

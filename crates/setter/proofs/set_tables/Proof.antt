@@ -1,6 +1,5 @@
 -- The parts of the two tables of characters lie within them; the rest is the job with its elements in tables.
 use borrow.Author.Needs.{needs}
-use borrow.Author.Needs.{needs}
 use Rattle.setter.proofs.set_tables.Statement.{statement}
 use Rattle.setter.proofs.set_tables.Tie as tie
 
