@@ -3,7 +3,7 @@
 // written, so that a refusal leaves every result list as it was. It relies on `door`, `layout`, `filling` and `positions`, and on `job` for what the answer means.
 ghost use mathlib.Core.Path.{_≡_};
 ghost use lib.ListN.{length};
-ghost use Rattle.door.specs.Job.{jobOf};
+ghost use Rattle.door.specs.Job.{jobOf, leftCount};
 ghost use Rattle.job.specs.Outcome.{Outcome, outcome};
 ghost use Rattle.engine.specs.Filled.{Room, Fills, Keeps};
 
@@ -169,12 +169,8 @@ pub fn set_table(
     }
 }
 
-// Sets a job. `ratios` are the house ratios, the ruby's first, each a, m, c; `profile` is 0, or 1 for older children; `class`, `width`, `before`, `after` and `flag` are the
-// base characters' fields, `rclass` and `rwidth` the ruby characters', `lclass` and `lwidth` the left ones'; `kind` (a letter's byte: 80 P, 77 M, 71 G, 74 J), `ebase`,
-// `eruby`, `lkind` (77 M, 71 G, 74 J, 78 none) and `eleft` the elements'; `runs` the J runs and `lruns` the left ones. The positions go to `base`, `ruby` and `left`, in
-// half units from the line's start, and the running counts of base characters at the lines' ends to `lines`. A small job has a small table, since a table is
-// cleared before it is used; either has room for left readings.
-pub fn set_job(
+// A job set by a table of its own, with room for left rows. A small job has a small table, since a table is cleared before it is used.
+fn set_sides(
     em: u32,
     measure: u32,
     ratios: [[u32; 3]; 2],
@@ -243,6 +239,193 @@ pub fn set_job(
         &mut t,
         &mut ends,
         &mut extents,
+        em,
+        measure,
+        ratios,
+        profile,
+        class,
+        width,
+        before,
+        after,
+        flag,
+        rclass,
+        rwidth,
+        lclass,
+        lwidth,
+        kind,
+        ebase,
+        eruby,
+        lkind,
+        eleft,
+        runs,
+        lruns,
+        base,
+        ruby,
+        left,
+        lines,
+    )
+}
+
+// The same of a job without left characters, whose table has no left rows.
+fn set_right(
+    em: u32,
+    measure: u32,
+    ratios: [[u32; 3]; 2],
+    profile: u32,
+    class: &[u32],
+    width: &[u32],
+    before: &[u32],
+    after: &[u32],
+    flag: &[u32],
+    rclass: &[u32],
+    rwidth: &[u32],
+    lclass: &[u32],
+    lwidth: &[u32],
+    kind: &[u32],
+    ebase: &[u32],
+    eruby: &[u32],
+    lkind: &[u32],
+    eleft: &[u32],
+    runs: &[u32],
+    lruns: &[u32],
+    base: &mut [u32],
+    ruby: &mut [u32],
+    left: &mut [u32],
+    lines: &mut [u32],
+) -> job::Answer
+    requires { let job = jobOf em measure ratios profile (now class) (now width) (now before) (now after) (now flag) (now rclass) (now rwidth) (now lclass) (now lwidth) (now kind) (now ebase) (now eruby) (now lkind) (now eleft) (now runs) (now lruns) in ⌜ leftCount job ≡ 0 ⌝ }
+    ensures { λ r. ⌜ _≡_ {A = Outcome} (record { answer = r; base = now (base .exit); ruby = now (ruby .exit); left = now (left .exit); lines = now (lines .exit) }) (outcome (jobOf em measure ratios profile (now (class .entry)) (now (width .entry)) (now (before .entry)) (now (after .entry)) (now (flag .entry)) (now (rclass .entry)) (now (rwidth .entry)) (now (lclass .entry)) (now (lwidth .entry)) (now (kind .entry)) (now (ebase .entry)) (now (eruby .entry)) (now (lkind .entry)) (now (eleft .entry)) (now (runs .entry)) (now (lruns .entry))) (now (base .entry)) (now (ruby .entry)) (now (left .entry)) (now (lines .entry))) ⌝ }
+{
+    if door::base_count(class, width, before, after, flag) <= 128 {
+        let mut t = [0; 2439];
+        let mut ends = [0; 128];
+        let mut extents = [0; 128];
+        return set_table(
+            &mut t,
+            &mut ends,
+            &mut extents,
+            em,
+            measure,
+            ratios,
+            profile,
+            class,
+            width,
+            before,
+            after,
+            flag,
+            rclass,
+            rwidth,
+            lclass,
+            lwidth,
+            kind,
+            ebase,
+            eruby,
+            lkind,
+            eleft,
+            runs,
+            lruns,
+            base,
+            ruby,
+            left,
+            lines,
+        );
+    }
+    let mut t = [0; 19463];
+    let mut ends = [0; 1024];
+    let mut extents = [0; 1024];
+    set_table(
+        &mut t,
+        &mut ends,
+        &mut extents,
+        em,
+        measure,
+        ratios,
+        profile,
+        class,
+        width,
+        before,
+        after,
+        flag,
+        rclass,
+        rwidth,
+        lclass,
+        lwidth,
+        kind,
+        ebase,
+        eruby,
+        lkind,
+        eleft,
+        runs,
+        lruns,
+        base,
+        ruby,
+        left,
+        lines,
+    )
+}
+
+// Sets a job. `ratios` are the house ratios, the ruby's first, each a, m, c; `profile` is 0, or 1 for older children; `class`, `width`, `before`, `after` and `flag` are the
+// base characters' fields, `rclass` and `rwidth` the ruby characters', `lclass` and `lwidth` the left ones'; `kind` (a letter's byte: 80 P, 77 M, 71 G, 74 J), `ebase`,
+// `eruby`, `lkind` (77 M, 71 G, 74 J, 78 none) and `eleft` the elements'; `runs` the J runs and `lruns` the left ones. The positions go to `base`, `ruby` and `left`, in
+// half units from the line's start, and the running counts of base characters at the lines' ends to `lines`. A job without left characters
+// has a table without left rows, since a table is cleared before it is used.
+pub fn set_job(
+    em: u32,
+    measure: u32,
+    ratios: [[u32; 3]; 2],
+    profile: u32,
+    class: &[u32],
+    width: &[u32],
+    before: &[u32],
+    after: &[u32],
+    flag: &[u32],
+    rclass: &[u32],
+    rwidth: &[u32],
+    lclass: &[u32],
+    lwidth: &[u32],
+    kind: &[u32],
+    ebase: &[u32],
+    eruby: &[u32],
+    lkind: &[u32],
+    eleft: &[u32],
+    runs: &[u32],
+    lruns: &[u32],
+    base: &mut [u32],
+    ruby: &mut [u32],
+    left: &mut [u32],
+    lines: &mut [u32],
+) -> job::Answer
+    ensures { λ r. ⌜ _≡_ {A = Outcome} (record { answer = r; base = now (base .exit); ruby = now (ruby .exit); left = now (left .exit); lines = now (lines .exit) }) (outcome (jobOf em measure ratios profile (now (class .entry)) (now (width .entry)) (now (before .entry)) (now (after .entry)) (now (flag .entry)) (now (rclass .entry)) (now (rwidth .entry)) (now (lclass .entry)) (now (lwidth .entry)) (now (kind .entry)) (now (ebase .entry)) (now (eruby .entry)) (now (lkind .entry)) (now (eleft .entry)) (now (runs .entry)) (now (lruns .entry))) (now (base .entry)) (now (ruby .entry)) (now (left .entry)) (now (lines .entry))) ⌝ }
+{
+    if door::left_count(lclass, lwidth) == 0 {
+        return set_right(
+            em,
+            measure,
+            ratios,
+            profile,
+            class,
+            width,
+            before,
+            after,
+            flag,
+            rclass,
+            rwidth,
+            lclass,
+            lwidth,
+            kind,
+            ebase,
+            eruby,
+            lkind,
+            eleft,
+            runs,
+            lruns,
+            base,
+            ruby,
+            left,
+            lines,
+        );
+    }
+    set_sides(
         em,
         measure,
         ratios,
