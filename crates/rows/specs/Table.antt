@@ -22,9 +22,9 @@ laid t i step (r ∷ rows) = laid (strided t i step r) (i + 1) step rows
 abbrev pub column : ℕ → List (List ℕ) → List ℕ
 column j rows = map (λ (r : List ℕ). getD r j 0) rows
 
--- the table has a place for each of k numbers from `to` on
-pub record FieldsReady (k to step : ℕ) (out : List ℕ) : Type 0 where
-  pub room : to + k * step < length out + step
+-- the table has a place for each of k numbers from `to` on, as far as the sheet can hold them: a number takes two bytes at least
+pub record FieldsReady (s : List ℕ) (from k to step : ℕ) (out : List ℕ) : Type 0 where
+  pub room : (j : ℕ) → j ≤ k → from + 2 * j ≤ length s → to + j * step < length out + step
   pub small : length out + step < 2 ^ 64
 
 -- and for those of each line of a section
