@@ -1,46 +1,54 @@
--- `elements::element_at` meets its contract. A line of a kind without runs leaves the runs as they are; any other is read as a J.
-use mathlib.Core.Path.{_∙_, sym}
-use Rattle.elements.specs.Element.{orJukugo, element}
+use borrow.Author.Needs.{needs}
+use native.Mathlib.Omega.{arith}
 use borrow.Author.Needs.{needs}
 use Rattle.elements.proofs.element_at.Statement.{statement}
 use Rattle.elements.proofs.element_at.Tie as tie
+use Rattle.elements.proofs.element_at.Reads as reads
+use Rattle.elements.proofs.element_at.Lts as lts
+use Rattle.elements.proofs.plain_at.Reads as plain-at-reads
+use Rattle.elements.proofs.word_at.Reads as word-at-reads
 
-short-at-requires : tie.Need-short-at-requires
-short-at-requires c κs = search needs
+-- src/lib.rt:316:11
+plain-at-requires : tie.Need-plain-at-requires
+plain-at-requires c κs = search needs
 
+-- src/lib.rt:317:21
 enum-known-e : tie.Need-enum-known-e
 enum-known-e c = search needs
 
+-- src/lib.rt:318:46
 enum-told : tie.Need-enum-told
 enum-told c = search needs
 
-jukugo-at-requires : tie.Need-jukugo-at-requires
-jukugo-at-requires c κs = search needs
+-- src/lib.rt:318:25
+word-at-requires : tie.Need-word-at-requires
+word-at-requires c κs = search needs
 
+-- src/lib.rt:304:1
 returns : tie.Need-returns
-unfolding element orJukugo
-returns c =
-    let e = sym (c .before .e .given .1) ∙ c .before .before .before .short-at .ensures in
-    (rw (← e), rw (← e))
+returns c = search needs
 
+-- src/lib.rt:304:1
 same-length : tie.Need-same-length
 same-length c = search needs
 
+-- src/lib.rt:304:1
+same-length-2 : tie.Need-same-length-2
+same-length-2 c = search needs
+
+-- src/lib.rt:304:1
 returns-2 : tie.Need-returns-2
-unfolding element orJukugo
-returns-2 c =
-    let j = c .before .before in
-    let e = sym (j .before .before .enum-told .given .1) ∙ j .before .before .before .before .short-at .ensures in
-    rw (← e) (j .jukugo-at .ensures)
+returns-2 c = search needs
 
 pub element-at-spec : {M : Type 1} → statement M
 element-at-spec =
     tie.close
     (tie.spec
-    short-at-requires
+    plain-at-requires
     enum-known-e
     enum-told
-    jukugo-at-requires
+    word-at-requires
     returns
     same-length
+    same-length-2
     returns-2)
