@@ -1,6 +1,7 @@
--- A J and a left kind with left runs, by what was read of the line on the way: the word, the count, the test of the count. What comes later stands further on.
+-- A J, a left kind and a line whole, by what was read on the way: the word, the count, the test of the count. What comes later stands further on.
 use mathlib.Core.List.{List, [], _∷_}
-use mathlib.Core.Path.{_≡_, sym}
+use mathlib.Core.Bool.{true, false}
+use mathlib.Core.Path.{_≡_, refl, ap, sym}
 use Prim.Native.Nat.{ℕ, _≤_, _<_}
 use native.Mathlib.Omega.{arith}
 use borrow.Author.Tests.{lt-ltb, le-ltb}
@@ -12,7 +13,10 @@ use Rattle.text.specs.Stands.{word-stands, number-past}
 use Rattle.rows.specs.Section as rows
 use Rattle.rows.specs.Section.{numberAt, onNumber, onPlace, fields}
 use Rattle.elements.specs.declared.Element.{Element}
-use Rattle.elements.specs.Element.{bare, withLeft, nothing, held, jukugoAt, countsOf, listedAt}
+use Rattle.elements.specs.declared.SheetForm.{SheetForm}
+use Rattle.elements.specs.declared.SheetForm.the-variants.{One, Two}
+use Rattle.elements.specs.declared.Line.the-variants.{Holds, Broken}
+use Rattle.elements.specs.Element.{bare, withLeft, Got, nothing, held, onLine, jukugoAt, rightAt, byteAt, isCounted, isListed, countsOf, countedAt, listedAt, leftBy, leftAt, stopBy, endBy, Taken, wordAt}
 
 -- a word that was read ends no earlier than it begins
 pub word-past : (w s : List ℕ) (at p : ℕ) → At p ≡ rows.wordAt w s at → at ≤ p
@@ -52,3 +56,43 @@ module _ (c : ℕ) (e : Element) (s : List ℕ) (at n : ℕ) (counts : n ≡ cou
   pub listed-runs : {p : ℕ} → At p ≡ rows.wordAt (c ∷ (stopOf 10 n ∷ [])) s at → listedAt c e s at ≡ held (withLeft e c 0 n) (fields 10 n s p)
   unfolding listedAt
   listed-runs h = rw (← counts, ← h)
+
+module _ (letter : ℕ) (e : Element) (s : List ℕ) (at : ℕ) (is : letter ≡ byteAt s at) where
+  pub left-counted : isCounted (e .kind) letter ≡ true → leftAt e s at ≡ record { runs = []; line = countedAt letter e s at }
+  unfolding leftAt leftBy
+  left-counted h = rw (← is, h)
+
+  pub left-listed : isCounted (e .kind) letter ≡ false → isListed letter ≡ true → leftAt e s at ≡ listedAt letter e s at
+  unfolding leftAt leftBy
+  left-listed h k = rw (← is, h, k)
+
+  pub left-neither : isCounted (e .kind) letter ≡ false → isListed letter ≡ false → leftAt e s at ≡ nothing
+  unfolding leftAt leftBy
+  left-neither h k = rw (← is, h, k)
+
+-- what the line shows in both forms is broken; it is the line, of form one; the left kind follows, in form two
+end-broken : (f : SheetForm) (s : List ℕ) (g : Got) → Broken ≡ g .line → endBy f s g ≡ nothing
+unfolding endBy onLine
+end-broken One s g e = rw (← e)
+end-broken Two s g e = rw (← e)
+
+end-two : (s : List ℕ) (g : Got) (e : Element) (p : ℕ) → Holds e p ≡ g .line → endBy Two s g ≡ leftAt e s p
+unfolding endBy onLine
+end-two s g e p h = rw (← h)
+
+abbrev ended : List ℕ → Got → Taken
+ended runs x = record { runs = runs; lruns = x .runs; line = x .line }
+
+pub word-broken : (f : SheetForm) (s : List ℕ) (at : ℕ) → let g = rightAt (stopBy f) s at in Broken ≡ g .line → wordAt f s at ≡ ended (g .runs) nothing
+unfolding wordAt
+word-broken f s at e = ap (ended (rightAt (stopBy f) s at .runs)) (end-broken f s (rightAt (stopBy f) s at) e)
+
+pub word-one : (f : SheetForm) (s : List ℕ) (at : ℕ) → f ≡ One → let g = rightAt (stopBy f) s at in wordAt f s at ≡ record { runs = g .runs; lruns = []; line = g .line }
+unfolding wordAt endBy
+word-one One s at i = refl
+word-one Two s at i = absurd (let z : _≡_ {A = ℕ} 0 1 = cc in omega arith)
+
+pub word-two : (f : SheetForm) (s : List ℕ) (at : ℕ) → f ≡ Two → (e : Element) (p : ℕ) → let g = rightAt (stopBy f) s at in Holds e p ≡ g .line → wordAt f s at ≡ ended (g .runs) (leftAt e s p)
+unfolding wordAt
+word-two One s at i e p h = absurd (let z : _≡_ {A = ℕ} 0 1 = cc in omega arith)
+word-two Two s at i e p h = ap (ended (rightAt (stopBy Two) s at .runs)) (end-two s (rightAt (stopBy Two) s at) e p h)

@@ -1,51 +1,54 @@
-use borrow.Author.Needs.{needs}
-use native.Mathlib.Omega.{arith}
+-- `elements::left_at` meets its contract. Each return is the case of the letter (`Steps`).
+use mathlib.Core.Path.{_∙_, sym}
+use Rattle.elements.specs.Steps as steps
 use borrow.Author.Needs.{needs}
 use Rattle.elements.proofs.left_at.Statement.{statement}
 use Rattle.elements.proofs.left_at.Tie as tie
-use Rattle.elements.proofs.left_at.Reads as reads
-use Rattle.elements.proofs.left_at.Lts as lts
-use Rattle.elements.proofs.byte_at.Reads as byte-at-reads
-use Rattle.elements.proofs.counted_at.Reads as counted-at-reads
-use Rattle.elements.proofs.is_counted.Reads as is-counted-reads
-use Rattle.elements.proofs.is_listed.Reads as is-listed-reads
-use Rattle.elements.proofs.listed_at.Reads as listed-at-reads
 
--- src/lib.rt:261:9
 byte-at-requires : tie.Need-byte-at-requires
 byte-at-requires c κs = search needs
 
--- src/lib.rt:262:8
 is-counted-requires : tie.Need-is-counted-requires
 is-counted-requires c κs = search needs
 
--- src/lib.rt:263:9
 counted-at-requires : tie.Need-counted-at-requires
 counted-at-requires c κs = search needs
 
--- src/lib.rt:263:9
 returns : tie.Need-returns
-returns c = search needs
+returns c =
+    let t = c .before .before in
+    let b = t .before in
+    let a = b .before .before .before .args in
+    let j = steps.left-counted _ (a .e) (a .s .now) (a .at) (b .byte-at .ensures) (sym (t .is-counted .ensures) ∙ c .before .if1 .taken) in
+    (rw j (c .counted-at .ensures), rw j)
 
--- src/lib.rt:265:8
 is-listed-requires : tie.Need-is-listed-requires
 is-listed-requires c κs = search needs
 
--- src/lib.rt:266:9
 listed-at-requires : tie.Need-listed-at-requires
 listed-at-requires c κs = search needs
 
--- src/lib.rt:266:9
 same-length : tie.Need-same-length
 same-length c = search needs
 
--- src/lib.rt:266:9
 returns-2 : tie.Need-returns-2
-returns-2 c = search needs
+returns-2 c =
+    let l = c .before .before in
+    let i = l .before .before .before in
+    let t = i .before .before in
+    let b = t .before in
+    let a = b .before .before .before .args in
+    let j = steps.left-listed _ (a .e) (a .s .now) (a .at) (b .byte-at .ensures) (sym (t .is-counted .ensures) ∙ i .before .if1 .left) (sym (i .is-listed .ensures) ∙ l .before .before .if2 .taken) in
+    rw j (l .listed-at .ensures)
 
--- src/lib.rt:257:1
 returns-3 : tie.Need-returns-3
-returns-3 c = search needs
+returns-3 c =
+    let i = c .before in
+    let t = i .before .before in
+    let b = t .before in
+    let a = b .before .before .before .args in
+    let j = steps.left-neither _ (a .e) (a .s .now) (a .at) (b .byte-at .ensures) (sym (t .is-counted .ensures) ∙ i .before .if1 .left) (sym (i .is-listed .ensures) ∙ c .if2 .left) in
+    (rw j, rw j)
 
 pub left-at-spec : {M : Type 1} → statement M
 left-at-spec =

@@ -1,70 +1,87 @@
-use borrow.Author.Needs.{needs}
-use native.Mathlib.Omega.{arith}
+-- `elements::listed_at` meets its contract. Each return rewrites the definition by what was read of the line (`Steps`);
+-- numbers stored a stride of 1 apart are a list stored.
+use mathlib.Core.List.{[], _∷_}
+use mathlib.Core.Path.{_∙_, sym, ap}
+use Rattle.rows.specs.Section.{wordAt, onPlace}
+use Rattle.rows.specs.Table.{strided-one}
+use Rattle.elements.specs.Ready.{runs-fit}
+use Rattle.elements.specs.Steps as steps
 use borrow.Author.Needs.{needs}
 use Rattle.elements.proofs.listed_at.Statement.{statement}
 use Rattle.elements.proofs.listed_at.Tie as tie
-use Rattle.elements.proofs.listed_at.Reads as reads
-use Rattle.elements.proofs.listed_at.Lts as lts
-use Rattle.elements.proofs.counts_of.Reads as counts-of-reads
-use Rattle.rows.proofs.fields_at.Reads as fields-at-reads
-use Rattle.rows.proofs.stop_of.Reads as stop-of-reads
-use Rattle.text.proofs.read_word.Reads as read-word-reads
 
--- src/lib.rt:235:9
 counts-of-requires : tie.Need-counts-of-requires
 counts-of-requires c κs = search needs
 
--- src/lib.rt:236:63
 stop-of-requires : tie.Need-stop-of-requires
 stop-of-requires c κs = search needs
 
--- src/lib.rt:236:53
 slice-aggregate-read-word : tie.Need-slice-aggregate-read-word
 slice-aggregate-read-word c = search needs
 
--- src/lib.rt:236:30
 read-word-requires : tie.Need-read-word-requires
 read-word-requires c κs = search needs
 
--- src/lib.rt:236:25
 enum-known-p : tie.Need-enum-known-p
 enum-known-p c = search needs
 
--- src/lib.rt:237:9
 enum-told : tie.Need-enum-told
 enum-told c = search needs
 
--- src/lib.rt:237:9
 returns : tie.Need-returns
-returns c = search needs
+returns c =
+    let w = c .before .before in
+    let st = w .before .before in
+    let k = st .before in
+    let a = k .before .before .before .args in
+    let word = sym (c .enum-told .given .1) ∙ (w .read-word .ensures ∙ ap (λ q. wordAt (a .letter ∷ (q ∷ [])) (a .s .now) (a .at)) (st .stop-of .ensures)) in
+    let j = steps.listed-no-word (a .letter) (a .e) (a .s .now) (a .at) _ (k .counts-of .ensures) word in
+    (rw j, rw j)
 
--- src/lib.rt:239:33
 fields-at-requires : tie.Need-fields-at-requires
-fields-at-requires c κs = search needs
+fields-at-requires c κs =
+    let w = c .before .before .before .before in
+    let st = w .before .before in
+    let k = st .before in
+    let a = k .before .before .before .args in
+    let word = sym (c .before .before .p .given .1) ∙ (w .read-word .ensures ∙ ap (λ q. wordAt (a .letter ∷ (q ∷ [])) (a .s .now) (a .at)) (st .stop-of .ensures)) in
+    runs-fit _ _ (k .before .before .before .pre) (steps.word-past _ _ _ _ word)
 
--- src/lib.rt:239:25
 enum-known-next : tie.Need-enum-known-next
 enum-known-next c = search needs
 
--- src/lib.rt:240:9
 enum-told-2 : tie.Need-enum-told-2
 enum-told-2 c = search needs
 
--- src/lib.rt:240:9
 same-length : tie.Need-same-length
 same-length c = search needs
 
--- src/lib.rt:240:9
 returns-2 : tie.Need-returns-2
-returns-2 c = search needs
+unfolding onPlace
+returns-2 c =
+    let f = c .before .before .before .before in
+    let w = f .before .before .before .before .before in
+    let st = w .before .before in
+    let k = st .before in
+    let a = k .before .before .before .args in
+    let word = sym (f .before .before .before .p .given .1) ∙ (w .read-word .ensures ∙ ap (λ q. wordAt (a .letter ∷ (q ∷ [])) (a .s .now) (a .at)) (st .stop-of .ensures)) in
+    let j = steps.listed-runs (a .letter) (a .e) (a .s .now) (a .at) _ (k .counts-of .ensures) word in
+    (rw (j, ← (sym (c .enum-told2 .given .1) ∙ f .fields-at .ensures .0)), rw j (f .fields-at .ensures .1 ∙ strided-one _ _ _))
 
--- src/lib.rt:231:1
 same-length-2 : tie.Need-same-length-2
 same-length-2 c = search needs
 
--- src/lib.rt:231:1
 returns-3 : tie.Need-returns-3
-returns-3 c = search needs
+unfolding onPlace
+returns-3 c =
+    let f = c .before .before .before .before .before in
+    let w = f .before .before .before .before .before in
+    let st = w .before .before in
+    let k = st .before in
+    let a = k .before .before .before .args in
+    let word = sym (f .before .before .before .p .given .1) ∙ (w .read-word .ensures ∙ ap (λ q. wordAt (a .letter ∷ (q ∷ [])) (a .s .now) (a .at)) (st .stop-of .ensures)) in
+    let j = steps.listed-runs (a .letter) (a .e) (a .s .now) (a .at) _ (k .counts-of .ensures) word in
+    (rw (j, ← (sym (c .before .next .given .1) ∙ f .fields-at .ensures .0)), rw j (f .fields-at .ensures .1 ∙ strided-one _ _ _))
 
 pub listed-at-spec : {M : Type 1} → statement M
 listed-at-spec =

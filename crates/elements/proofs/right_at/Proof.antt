@@ -1,50 +1,45 @@
-use borrow.Author.Needs.{needs}
-use native.Mathlib.Omega.{arith}
+-- `elements::right_at` meets its contract. A line of a kind without runs leaves the runs as they are; any other is read as a J.
+use mathlib.Core.Path.{_∙_, ap₂, sym}
+use Rattle.elements.specs.Element.{either, orRuns, rightAt}
 use borrow.Author.Needs.{needs}
 use Rattle.elements.proofs.right_at.Statement.{statement}
 use Rattle.elements.proofs.right_at.Tie as tie
-use Rattle.elements.proofs.right_at.Reads as reads
-use Rattle.elements.proofs.right_at.Lts as lts
-use Rattle.elements.proofs.either_of.Reads as either-of-reads
-use Rattle.elements.proofs.group_at.Reads as group-at-reads
-use Rattle.elements.proofs.jukugo_at.Reads as jukugo-at-reads
-use Rattle.elements.proofs.mono_at.Reads as mono-at-reads
 
--- src/lib.rt:163:21
 mono-at-requires : tie.Need-mono-at-requires
 mono-at-requires c κs = search needs
 
--- src/lib.rt:163:43
 group-at-requires : tie.Need-group-at-requires
 group-at-requires c κs = search needs
 
--- src/lib.rt:163:11
 either-of-requires : tie.Need-either-of-requires
 either-of-requires c κs = search needs
 
--- src/lib.rt:164:21
 enum-known-e : tie.Need-enum-known-e
 enum-known-e c = search needs
 
--- src/lib.rt:165:48
 enum-told : tie.Need-enum-told
 enum-told c = search needs
 
--- src/lib.rt:165:25
 jukugo-at-requires : tie.Need-jukugo-at-requires
 jukugo-at-requires c κs = search needs
 
--- src/lib.rt:159:1
 returns : tie.Need-returns
-returns c = search needs
+unfolding rightAt orRuns
+returns c =
+    let o = c .before .before .before in
+    let e = sym (c .before .e .given .1) ∙ (o .either-of .ensures ∙ ap₂ either (o .before .before .mono-at .ensures) (o .before .group-at .ensures)) in
+    (rw (← e), rw (← e))
 
--- src/lib.rt:159:1
 same-length : tie.Need-same-length
 same-length c = search needs
 
--- src/lib.rt:159:1
 returns-2 : tie.Need-returns-2
-returns-2 c = search needs
+unfolding rightAt orRuns
+returns-2 c =
+    let j = c .before .before in
+    let o = j .before .before .before .before in
+    let e = sym (j .before .before .enum-told .given .1) ∙ (o .either-of .ensures ∙ ap₂ either (o .before .before .mono-at .ensures) (o .before .group-at .ensures)) in
+    rw (← e) (j .jukugo-at .ensures)
 
 pub right-at-spec : {M : Type 1} → statement M
 right-at-spec =
