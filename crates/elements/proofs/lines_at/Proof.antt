@@ -1,95 +1,111 @@
-use borrow.Author.Needs.{needs}
+-- `elements::lines_at` meets its contract. The lines that are left, stored after those that were read, make up the whole section (`LinesLeft`);
+-- a turn takes one line and its runs, and a line with a fault or the last ends it.
+use mathlib.Core.Path.{_∙_, sym}
+use Prim.Native.Nat.{_-_}
 use native.Mathlib.Omega.{arith}
+use Rattle.elements.specs.Reading.{LinesLeft}
+use Rattle.elements.specs.Reading as reading
+use borrow.Author.Needs.{needs}
 use Rattle.elements.proofs.lines_at.Statement.{statement}
 use Rattle.elements.proofs.lines_at.Tie as tie
-use Rattle.elements.proofs.lines_at.Reads as reads
-use Rattle.elements.proofs.lines_at.Lts as lts
-use Rattle.elements.proofs.element_at.Reads as element-at-reads
-use Rattle.elements.proofs.put_element.Reads as put-element-reads
 
 abbrev Inv-loop : tie.InvT-loop
 Inv-loop s form n from first table₀ runs₀ lruns₀ at₀ line₀ used₀ lused₀ i₀ table runs lruns at line used lused i =
-    ?
+    LinesLeft s form n from first table₀ runs₀ lruns₀ table runs lruns at line used lused i
 
 abbrev μ-loop : tie.MeasureT-loop
-μ-loop s form n from first table₀ runs₀ lruns₀ at₀ line₀ used₀ lused₀ i₀ table runs lruns at line used lused i =
-    ?
+μ-loop s form n from first table₀ runs₀ lruns₀ at₀ line₀ used₀ lused₀ i₀ table runs lruns at line used lused i = n - i
 
--- src/lib.rt:357:5
 loop-holds : tie.Need-loop-holds Inv-loop μ-loop
-loop-holds c = search needs
+loop-holds c = reading.lines-first _ _ _ _ _ _ _ _
 
--- src/lib.rt:358:36
 element-at-requires : tie.Need-element-at-requires Inv-loop μ-loop
-element-at-requires c κs = search needs
+element-at-requires c κs =
+    let l = c .before .before .before in
+    reading.line-ready (l .loop .inv) (c .before .before .loop-test .taken) (l .before .before .before .before .before .pre)
 
--- src/lib.rt:358:25
 enum-known-e : tie.Need-enum-known-e Inv-loop μ-loop
 enum-known-e c = search needs
 
--- src/lib.rt:359:38
 enum-told : tie.Need-enum-told Inv-loop μ-loop
 enum-told c = search needs
 
--- src/lib.rt:359:13
 same-length : tie.Need-same-length Inv-loop μ-loop
 same-length c = search needs
 
--- src/lib.rt:359:13
 same-length-2 : tie.Need-same-length-2 Inv-loop μ-loop
 same-length-2 c = search needs
 
--- src/lib.rt:359:13
 same-length-3 : tie.Need-same-length-3 Inv-loop μ-loop
 same-length-3 c = search needs
 
--- src/lib.rt:359:13
 returns : tie.Need-returns Inv-loop μ-loop
-returns c = search needs
+returns c =
+    let f = c .before .before .before .before .before .before in
+    let l = f .before .before .before .before in
+    let r = f .element-at .ensures in
+    reading.lines-broken (l .loop .inv) (f .before .before .before .loop-test .taken) _ _ (r .right) (r .left) (sym (c .enum-told .given .1) ∙ r .line)
 
--- src/lib.rt:361:9
 put-element-requires : tie.Need-put-element-requires Inv-loop μ-loop
-put-element-requires c κs = search needs
+put-element-requires c κs =
+    let k = c .before in
+    let f = k .before .before .before .before .before .before .before in
+    let l = f .before .before .before .before in
+    reading.put-ready (l .loop .inv) (f .before .before .before .loop-test .taken) (l .before .before .before .before .before .pre)
 
--- src/lib.rt:363:9
 add-line : tie.Need-add-line Inv-loop μ-loop
-add-line c = search needs
+add-line c =
+    let k = c .before .before .before .before in
+    let f = k .before .before .before .before .before .before .before in
+    let l = f .before .before .before .before in
+    let h = reading.line-fits (l .loop .inv) (f .before .before .before .loop-test .taken) (l .before .before .before .before .before .pre) in
+    search needs
 
--- src/lib.rt:364:9
 add-used : tie.Need-add-used Inv-loop μ-loop
-add-used c = search needs
+add-used c =
+    let k = c .before .before .before .before .before in
+    let f = k .before .before .before .before .before .before .before in
+    let l = f .before .before .before .before in
+    let h = reading.used-fits (l .loop .inv) (f .before .before .before .loop-test .taken) _ _ (sym (k .before .e .given .1) ∙ f .element-at .ensures .line) in
+    record { fits = omega (arith, h .0) }
 
--- src/lib.rt:365:9
 add-lused : tie.Need-add-lused Inv-loop μ-loop
-add-lused c = search needs
+add-lused c =
+    let k = c .before .before .before .before .before .before in
+    let f = k .before .before .before .before .before .before .before in
+    let l = f .before .before .before .before in
+    let h = reading.used-fits (l .loop .inv) (f .before .before .before .loop-test .taken) _ _ (sym (k .before .e .given .1) ∙ f .element-at .ensures .line) in
+    record { fits = omega (arith, h .1) }
 
--- src/lib.rt:366:9
 add-i : tie.Need-add-i Inv-loop μ-loop
-add-i c = search needs
+add-i c =
+    let k = c .before .before .before .before .before .before in
+    let f = k .before .before .before .before .before .before .before in
+    let l = f .before .before .before .before in
+    record { fits = omega (arith, f .before .before .before .loop-test .taken, l .before .before .before .before .before .pre .few) }
 
--- src/lib.rt:357:5
 loop-less : tie.Need-loop-less Inv-loop μ-loop
 loop-less c = search needs
 
--- src/lib.rt:357:5
 loop-again : tie.Need-loop-again Inv-loop μ-loop
-loop-again c = search needs
+loop-again c =
+    let k = c .before .before .before .before .before .before in
+    let f = k .before .before .before .before .before .before .before in
+    let l = f .before .before .before .before in
+    let r = f .element-at .ensures in
+    reading.lines-next (l .loop .inv) (f .before .before .before .loop-test .taken) _ _ (r .right) (r .left) _ _ (sym (k .before .e .given .1) ∙ f .element-at .ensures .line) _ (c .before .before .before .before .put-element .ensures)
 
--- src/lib.rt:339:1
 same-length-4 : tie.Need-same-length-4 Inv-loop μ-loop
 same-length-4 c = search needs
 
--- src/lib.rt:339:1
 same-length-5 : tie.Need-same-length-5 Inv-loop μ-loop
 same-length-5 c = search needs
 
--- src/lib.rt:339:1
 same-length-6 : tie.Need-same-length-6 Inv-loop μ-loop
 same-length-6 c = search needs
 
--- src/lib.rt:339:1
 returns-2 : tie.Need-returns-2 Inv-loop μ-loop
-returns-2 c = search needs
+returns-2 c = reading.lines-done (c .before .loop .inv) (c .loop-test .left)
 
 pub lines-at-spec : {M : Type 1} → statement M
 lines-at-spec =
