@@ -25,7 +25,7 @@ use Rattle.rows.specs.Print.{rowsText, headText, sectionText, Small, Counted}
 use Rattle.rows.specs.Printed as rows
 use Rattle.rows.specs.Printed.{RowsIs, lines-is, stands-lines, singles-of}
 use Rattle.rows.specs.Breaks.{RowsBreak, lines-stuck, stuck-lines}
-use Rattle.rows.specs.Chain.{Section, Chained, chain, chainText, linesIn, ChainKept, ChainOver, ChainBreaks, section-handed, chain-handed, ChainIs, broken, over, stands, Tops, chain-is, ChainRead, stands-chain, over-chain}
+use Rattle.rows.specs.Chain.{Chained, chain, chainText, linesIn, ChainKept, ChainOver, ChainBreaks, section-handed, ChainIs, Tops, chain-is, ChainRead, stands-chain, over-chain}
 use Rattle.rows.specs.Chain.{stuck-chain}
 use Rattle.elements.specs.declared.SheetForm.{SheetForm}
 use Rattle.elements.specs.declared.SheetForm.the-variants.{One, Two}
@@ -374,3 +374,161 @@ module _ (s : List ℕ) (f : SheetForm) (r : Written) (form : InForm f r) where
       ∙ (sheet-same s (form-begins f s (p .mid) (p .begins)) set (ap (baseFrom s) at) (ap (λ q. rubyFrom s (baseFrom s q .end)) at) (left-part f s (p .mid) (p .begins)) (p .elem)
       ∙ all-read s f r (record { rows = singles (p .begins .numbers); end = first }) (baseFrom s first) (rubyFrom s (baseFrom s first .end)) (leftPart f s first) _ nine counts (same .0) (same .1)
       (same-left f s first r (form .shown) t))
+
+-- a count over its maximum is refused
+pub over-reads : {s : List ℕ} {which : ℕ} → Over s which → reading s .end ≡ SheetRefused (Count which)
+over-reads {s} (in-rows f p which b o) = from-chain f s p b (Count which) (over-chain (numbersIn f) (2 + numbersIn f) (tops f) o)
+over-reads {s} (in-elem f p ts q n next b k x c h) =
+    let t = stands-chain (sections f) ts s (numbersIn f) p (2 + numbersIn f) q (tops f) k x in
+    let e = elem-part f s p b (t .count) q (2 + numbersIn f + linesIn ts) (t .end) in
+    from-elem s (Count 2) (ap (λ (d : Listed). d .end) (e .1) ∙ elem.over-section f elemWord 1024 2 s (e .0) q (2 + numbersIn f + linesIn ts) n next c h)
+
+-- and a broken form, with its line
+set-refused : (s : List ℕ) (q : Refusal) → opening s ≡ Refused q → setOf s .end ≡ Refused q
+unfolding setOf rowsOf onPart
+set-refused s q e = rw e
+
+set-stuck : (f : SheetForm) (s : List ℕ) (p l : ℕ) → opening s ≡ Read (numbersIn f) p 2 → RowsBreak 1 (numbersIn f) s p 2 l → setOf s .end ≡ Refused (Form l)
+unfolding setOf rowsOf onPart
+set-stuck f s p l e x = rw e (stuck-lines 1 (numbersIn f) (numbersIn f) s p 2 l x)
+
+open-long : (s : List ℕ) → 65535 < length s → opening s ≡ Refused (Form 0)
+unfolding opening
+open-long s h = rw (lt-ltb 65535 (length s) h)
+
+open-none : (s : List ℕ) → length s ≤ 65535 → ((f : SheetForm) (p : ℕ) → Stands s 0 (setWord f) p → ⊥) → (o : Part) → OpenIs s o → o ≡ Refused (Form 1)
+open-none s h n o (long g) = absurd (omega arith)
+open-none s h n o (none g k) = refl
+open-none s h n o (begins f p g x) = absurd (n f p x)
+
+longer : (s t rest : List ℕ) → s ≡ t ++ rest → (rest ≡ [] → ⊥) → length t ≡ length s → ⊥
+longer s t [] e h g = h refl
+longer s t (x ∷ rest) e h g = omega (arith, ap length e, length-append t (x ∷ rest))
+
+past-last : (a b c : ℕ) → 2 + a + b + 1 + c ≡ 3 + a + b + c
+past-last a b c = omega arith
+
+-- what the end says of a sheet that begins with the text of r
+after-read : (s : List ℕ) (f : SheetForm) (r : Written) → InForm f r → length s ≤ 65535 → (p : ℕ) → Stands s 0 (sheetText f r) p →
+    (c : _) × (reading s .end ≡ cond (eqb p (length s)) (Sound c) (SheetRefused (Form (3 + numbersIn f + linesIn (tablesBy f (r .base) (r .ruby) (r .left)) + length (r .elem)))))
+unfolding listedOf
+after-read s f r form short p x =
+    let w = parts s f r form p short x in
+    let e = end-of s _ _ _ p _ (ap (λ (t : Listed). t .end) (w .elem)) in
+    let n = past-last (numbersIn f) (linesIn (tablesBy f (r .base) (r .ruby) (r .left))) (length (r .elem)) in
+    (e .0, e .1 ∙ ap (λ i. cond (eqb p (length s)) (Sound (e .0)) (SheetRefused (Form i))) n)
+
+pub breaks-reads : (s : List ℕ) (l : ℕ) → Breaks s l → reading s .end ≡ SheetRefused (Form l)
+breaks-reads s l (too-long e h) = from-set s (Form l) (set-refused s (Form l) (open-long s h ∙ ap (λ i. Refused (Form i)) (sym e)))
+breaks-reads s l (no-set e h n) = from-set s (Form l) (set-refused s (Form l) (open-none s h n (opening s) (open-is s) ∙ ap (λ i. Refused (Form i)) (sym e)))
+breaks-reads s l (in-set f p h x y) = from-set s (Form l) (set-stuck f s p l (open-stands f s p h x) y)
+breaks-reads s l (breaks.in-rows f p b y) = from-chain f s p b (Form l) (stuck-chain (numbersIn f) (tops f) y)
+breaks-reads s l (breaks.in-elem f p ts q b k x y) =
+    let t = stands-chain (sections f) ts s (numbersIn f) p (2 + numbersIn f) q (tops f) k x in
+    let e = elem-part f s p b (t .count) q (2 + numbersIn f + linesIn ts) (t .end) in
+    from-elem s (Form l) (ap (λ (d : Listed). d .end) (e .1) ∙ elem-form.stuck-section f elemWord 1024 2 s (e .0) q (2 + numbersIn f + linesIn ts) l y)
+breaks-reads s l (after f r rest short form e some is) =
+    let x = begins-stands s (sheetText f r) rest e in
+    let read = after-read s f r form short (length (sheetText f r)) x in
+    read .1 ∙ rw (ne-eqb (length (sheetText f r)) (length s) (longer s (sheetText f r) rest e some), is)
+
+-- The other way: every sheet is one of three.
+
+pub data SheetIs (s : List ℕ) : Type 0 where
+  broken : (l : ℕ) → Breaks s l → SheetIs s
+  over : (which : ℕ) → Over s which → SheetIs s
+  stands : (f : SheetForm) (r : Written) → InForm f r → s ≡ sheetText f r → SheetIs s
+
+something : (s t : List ℕ) (p : ℕ) → Stands s 0 t p → (p ≡ length s → ⊥) → drop p s ≡ [] → ⊥
+something s t p x h e = h (x .past ∙ (zero-add (length t) ∙ ap length (sym (x .text ∙ (ap (λ l. t ++ l) e ∙ append-nil t)))))
+
+-- the numbers of `set`, the sections between, and the elements are those of some numbers in form
+record Says (f : SheetForm) (vs : List ℕ) (ts : List (List (List ℕ))) (es : List Entry) : Type 0 where
+  written : Written
+  numbers : numbersOf f written ≡ vs
+  tables : tablesBy f (written .base) (written .ruby) (written .left) ≡ ts
+  elem : written .elem ≡ es
+  form : length (sheetText f written) ≤ 65535 → KeptElements f 1024 es → InForm f written
+
+says : (f : SheetForm) (vs : List ℕ) (ts : List (List (List ℕ))) (es : List Entry) → length vs ≡ numbersIn f → Small vs → ChainKept (sections f) ts → Says f vs ts es
+unfolding ChainKept sections numbersIn numbersOf tablesBy Shown
+says One (a ∷ (b ∷ [])) (t ∷ (u ∷ [])) es c small k =
+    record {
+      written = record { em = a; measure = b; house = plain; base = t; ruby = u; left = []; elem = es };
+      numbers = refl;
+      tables = refl;
+      elem = refl;
+      form = λ short e. record { em = small .0; measure = small .1 .0; base = k .0; ruby = k .1 .0; shown = (refl, refl); elem = e; short = short };
+    }
+says One [] ts es c small k = absurd (omega arith)
+says One (a ∷ []) ts es c small k = absurd (omega arith)
+says One (a ∷ (b ∷ (d ∷ vs))) ts es c small k = absurd (omega arith)
+says One (a ∷ (b ∷ [])) [] es c small k = absurd k
+says One (a ∷ (b ∷ [])) (t ∷ []) es c small k = absurd (k .1)
+says One (a ∷ (b ∷ [])) (t ∷ (u ∷ (w ∷ ts))) es c small k = absurd (k .1 .1)
+says Two (a ∷ (b ∷ vs)) (t ∷ (u ∷ (w ∷ []))) es c small k =
+    record {
+      written = record { em = a; measure = b; house = vs; base = t; ruby = u; left = w; elem = es };
+      numbers = refl;
+      tables = refl;
+      elem = refl;
+      form = λ short e. record { em = small .0; measure = small .1 .0; base = k .0; ruby = k .1 .0; shown = (omega arith, small .1 .1, k .1 .1 .0); elem = e; short = short };
+    }
+says Two [] ts es c small k = absurd (omega arith)
+says Two (a ∷ []) ts es c small k = absurd (omega arith)
+says Two (a ∷ (b ∷ vs)) [] es c small k = absurd k
+says Two (a ∷ (b ∷ vs)) (t ∷ []) es c small k = absurd (k .1)
+says Two (a ∷ (b ∷ vs)) (t ∷ (u ∷ [])) es c small k = absurd (k .1 .1)
+says Two (a ∷ (b ∷ vs)) (t ∷ (u ∷ (w ∷ (v ∷ ts)))) es c small k = absurd (k .1 .1 .1)
+
+module _ (f : SheetForm) (s : List ℕ) where
+  module _ (p : ℕ) (b : Begins f s p) where
+    module _ (ts : List (List (List ℕ))) (k : ChainKept (sections f) ts) (q : ℕ) (x : Stands s p (chainText (sections f) ts) q) where
+      whole-is : (es : List Entry) (next : ℕ) → KeptElements f 1024 es → Stands s q (elemText f elemWord es) next → (t : Bool) → eqb next (length s) ≡ t → SheetIs s
+      unfolding sheetText
+      whole-is es next ke z true e =
+          let w = says f (b .numbers) ts es (b .count) (b .small) k in
+          let y : Stands s 0 (sheetText f (w .written)) next = rw (w .numbers, w .tables, w .elem) (stands-then (b .text) (stands-then x z)) in
+          let same : s ≡ sheetText f (w .written) = stands-whole s (sheetText f (w .written)) (rw (eqb-true next (length s) e) at y) in
+          stands f (w .written) (w .form (subst (λ (l : List ℕ). length l ≤ 65535) same (b .short)) ke) same
+      whole-is es next ke z false e =
+          let w = says f (b .numbers) ts es (b .count) (b .small) k in
+          let y : Stands s 0 (sheetText f (w .written)) next = rw (w .numbers, w .tables, w .elem) (stands-then (b .text) (stands-then x z)) in
+          let n = ap length (y .text) ∙ length-append (sheetText f (w .written)) (drop next s) in
+          broken _ (after f (w .written) (drop next s) (b .short) (w .form (omega (arith, n, b .short)) ke) (y .text) (something s (sheetText f (w .written)) next y (eqb-false next (length s) e)) refl)
+
+      elem-is : (d : Listed) → d ≡ elemFrom f s (Read 0 q (2 + numbersIn f + linesIn ts)) → elem.SectionIs f elemWord 1024 2 s q d → SheetIs s
+      elem-is d i (elem.SectionIs.broken l e) =
+          broken l (breaks.in-elem f p ts q b k x (elem-form.section-stuck f elemWord 1024 2 s 0 q (2 + numbersIn f + linesIn ts) l (ap (λ (t : Listed). t .end) (sym i) ∙ e)))
+      elem-is d i (elem.SectionIs.over n next c h e) = over 2 (in-elem f p ts q n next b k x c h)
+      elem-is d i (elem.SectionIs.stands es next l ke z e) = whole-is es next ke z (eqb next (length s)) refl
+
+    chain-stage : (c : Chained) → ChainIs (sections f) s p (2 + numbersIn f) c → SheetIs s
+    chain-stage c (ChainIs.broken l y e) = broken l (breaks.in-rows f p b y)
+    chain-stage c (ChainIs.over which o e) = over which (in-rows f p which b o)
+    chain-stage c (ChainIs.stands n q k y e) = elem-is (c .tables) k q y (elemFrom f s (Read 0 q (2 + numbersIn f + linesIn (c .tables)))) refl
+        (elem.section-is f elemWord 1024 2 s 0 q (2 + numbersIn f + linesIn (c .tables)))
+
+  set-stage : (p : ℕ) → length s ≤ 65535 → Stands s 0 (setWord f) p → (t : Rows) → t ≡ lines 1 (numbersIn f) (numbersIn f) s p 2 → RowsIs 1 (numbersIn f) s p t → SheetIs s
+  set-stage p h x t i (rows.rows-broken l e) = broken l (in-set f p h x (lines-stuck 1 (numbersIn f) (numbersIn f) s p 2 l (ap (λ (t : Rows). t .end) (sym i) ∙ e)))
+  set-stage p h x t i (rows.rows-whole next l e count wide took) =
+      let one = singles-of (t .rows) wide in
+      let c = one .count ∙ count in
+      chain-stage next
+      (record {
+        short = h;
+        numbers = one .values;
+        count = c;
+        small = small-single (one .values) (subst (All Small) (one .is) (took .small));
+        text = rw (set-text f (one .values) c) (stands-then x (subst (λ r. Stands s p (rowsText r) next) (one .is) (took .text)));
+      })
+      (chain (sections f) s (Read 0 next (2 + numbersIn f)))
+      (chain-is (sections f) s 0 next (2 + numbersIn f) (tops f))
+
+pub sheet-is : (s : List ℕ) → SheetIs s
+sheet-is s = go (opening s) (open-is s)
+  where
+    go : (o : Part) → OpenIs s o → SheetIs s
+    go o (long h) = broken 0 (too-long refl h)
+    go o (none h n) = broken 1 (no-set refl h n)
+    go o (begins f p h x) = set-stage f s p h x (lines 1 (numbersIn f) (numbersIn f) s p 2) refl (lines-is 1 (numbersIn f) s p 2)
