@@ -110,14 +110,14 @@ unfolding headText decimal numbersIn setWord
 set-head One = refl
 set-head Two = refl
 
-single-count : (vs : List ℕ) → length (singles vs) ≡ length vs
+pub single-count : (vs : List ℕ) → length (singles vs) ≡ length vs
 single-count vs = length-map vs (λ (v : ℕ). v ∷ [])
 
 set-text : (f : SheetForm) (vs : List ℕ) → length vs ≡ numbersIn f → setText vs ≡ setWord f ++ rowsText (singles vs)
 unfolding setText sectionText
 set-text f vs e = ap (λ n. headText (bytes "set ") n ++ rowsText (singles vs)) (single-count vs ∙ e) ∙ ap (λ l. l ++ rowsText (singles vs)) (set-head f)
 
-single-wide : (vs : List ℕ) → All (λ (r : List ℕ). length r ≡ 1) (singles vs)
+pub single-wide : (vs : List ℕ) → All (λ (r : List ℕ). length r ≡ 1) (singles vs)
 single-wide [] = tt
 single-wide (v ∷ vs) = (refl, single-wide vs)
 
