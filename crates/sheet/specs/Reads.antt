@@ -237,7 +237,7 @@ end-of s n u v at line e = (_, ap (endOf s (baseOf s .end) (rubyOf s .end) (left
 counted-rows : (k : ℕ) (s : List ℕ) (head : Part) → Came (rowsOf k s head .end) → countOf (rowsOf k s head .end) ≡ length (rowsOf k s head .rows)
 counted-rows k s head c = ap countOf (c .is) ∙ sym (rows-whole k s head (c .count) (c .at) (c .line) (c .is) .1 .count)
 
-left-came : (f : SheetForm) (s : List ℕ) (last : Part) → Came (leftHead f s last) → Came last
+pub left-came : (f : SheetForm) (s : List ℕ) (last : Part) → Came (leftHead f s last) → Came last
 unfolding leftHead onPart
 left-came One s (Read n at line) c = record { count = n; at = at; line = line; is = refl }
 left-came One s (Refused r) c = absurd (let e = c .is in let z : _≡_ {A = ℕ} 0 1 = cc in omega arith)
