@@ -1,43 +1,44 @@
-use borrow.Author.Needs.{needs}
+-- `sheet::ending` meets its contract. Each return rewrites the definition with its case and its test.
+use borrow.Author.Tests.{eq-eqb, ne-eqb}
 use native.Mathlib.Omega.{arith}
+use lib.ListN.{length}
+use Rattle.sheet.specs.Sheet.{endOf}
 use borrow.Author.Needs.{needs}
 use Rattle.sheet.proofs.ending.Statement.{statement}
 use Rattle.sheet.proofs.ending.Tie as tie
-use Rattle.sheet.proofs.ending.Reads as reads
-use Rattle.sheet.proofs.ending.Lts as lts
-use Rattle.sheet.proofs.count_of.Reads as count-of-reads
 
--- src/lib.rt:101:37
 enum-known-elem : tie.Need-enum-known-elem
 enum-known-elem c = search needs
 
--- src/lib.rt:102:34
 enum-known-elem-2 : tie.Need-enum-known-elem-2
 enum-known-elem-2 c = search needs
 
--- src/lib.rt:104:17
 returns : tie.Need-returns
-returns c = search needs
+unfolding endOf
+returns c =
+    let e = c .before .before in
+    let s = e .before .before .before .args .s .now in
+    rw (e .elem2 .given .1, ne-eqb (e .elem2 .given .0 .1 .1 .1 .0) (length s) (λ h. omega arith))
 
--- src/lib.rt:107:24
 count-of-requires : tie.Need-count-of-requires
 count-of-requires c κs = search needs
 
--- src/lib.rt:108:25
 count-of-requires-2 : tie.Need-count-of-requires-2
 count-of-requires-2 c κs = search needs
 
--- src/lib.rt:109:24
 count-of-requires-3 : tie.Need-count-of-requires-3
 count-of-requires-3 c κs = search needs
 
--- src/lib.rt:91:1
 returns-2 : tie.Need-returns-2
-returns-2 c = search needs
+unfolding endOf
+returns-2 c = rw (c .before .elem .given .1)
 
--- src/lib.rt:91:1
 returns-3 : tie.Need-returns-3
-returns-3 c = search needs
+unfolding endOf
+returns-3 c =
+    let e = c .before .before .before .before .before in
+    let s = e .before .before .before .args .s .now in
+    rw (e .elem2 .given .1, eq-eqb (e .elem2 .given .0 .1 .1 .1 .0) (length s) (search needs), c .before .before .count-of .ensures, c .before .count-of2 .ensures, c .count-of3 .ensures)
 
 pub ending-spec : {M : Type 1} → statement M
 ending-spec =

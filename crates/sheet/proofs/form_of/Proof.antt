@@ -1,23 +1,25 @@
-use borrow.Author.Needs.{needs}
+-- `sheet::form_of` meets its contract. Each arm is its test.
+use borrow.Author.Tests.{eq-eqb, ne-eqb}
+use mathlib.Core.Path.{_∙_, sym}
+use Prim.Native.Nat.{ℕ}
 use native.Mathlib.Omega.{arith}
+use mathlib.Core.Path.{_≡_}
+use Rattle.rows.specs.Section.{countOf}
+use Rattle.sheet.specs.Sheet.{formBy}
 use borrow.Author.Needs.{needs}
 use Rattle.sheet.proofs.form_of.Statement.{statement}
 use Rattle.sheet.proofs.form_of.Tie as tie
-use Rattle.sheet.proofs.form_of.Reads as reads
-use Rattle.sheet.proofs.form_of.Lts as lts
-use Rattle.sheet.proofs.count_of.Reads as count-of-reads
 
--- src/lib.rt:54:8
 count-of-requires : tie.Need-count-of-requires
 count-of-requires c κs = search needs
 
--- src/lib.rt:51:1
 returns : tie.Need-returns
-returns c = search needs
+unfolding formBy
+returns c = rw (eq-eqb (countOf (c .before .before .args .set)) 9 (sym (c .before .count-of .ensures) ∙ c .if1 .taken))
 
--- src/lib.rt:51:1
 returns-2 : tie.Need-returns-2
-returns-2 c = search needs
+unfolding formBy
+returns-2 c = rw (ne-eqb (countOf (c .before .before .args .set)) 9 (λ h. c .if1 .left (c .before .count-of .ensures ∙ h)))
 
 pub form-of-spec : {M : Type 1} → statement M
 form-of-spec = tie.close (tie.spec count-of-requires returns returns-2)

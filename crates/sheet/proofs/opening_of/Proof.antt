@@ -1,59 +1,65 @@
-use borrow.Author.Needs.{needs}
-use native.Mathlib.Omega.{arith}
+-- `sheet::opening_of` meets its contract. Each return rewrites the definition with what was found on the way there.
+use mathlib.Core.Path.{_∙_, sym}
+use borrow.Author.Tests.{lt-ltb, le-ltb}
+use lib.ListN.{length}
+use Rattle.rows.specs.Section.{onPlace}
+use Rattle.sheet.specs.Sheet.{setWord, opening}
 use borrow.Author.Needs.{needs}
 use Rattle.sheet.proofs.opening_of.Statement.{statement}
 use Rattle.sheet.proofs.opening_of.Tie as tie
-use Rattle.sheet.proofs.opening_of.Reads as reads
-use Rattle.sheet.proofs.opening_of.Lts as lts
-use Rattle.text.proofs.read_word.Reads as read-word-reads
 
--- src/lib.rt:30:9
 returns : tie.Need-returns
-returns c = search needs
+unfolding opening
+returns c =
+    let s = c .before .before .args .s .now in
+    rw (lt-ltb 65535 (length s) (search needs))
 
--- src/lib.rt:32:52
 slice-aggregate-read-word : tie.Need-slice-aggregate-read-word
 slice-aggregate-read-word c = search needs
 
--- src/lib.rt:32:30
 read-word-requires : tie.Need-read-word-requires
 read-word-requires c κs = search needs
 
--- src/lib.rt:32:25
 enum-known-p : tie.Need-enum-known-p
 enum-known-p c = search needs
 
--- src/lib.rt:33:56
 enum-told : tie.Need-enum-told
 enum-told c = search needs
 
--- src/lib.rt:33:56
 slice-aggregate-read-word-2 : tie.Need-slice-aggregate-read-word-2
 slice-aggregate-read-word-2 c = search needs
 
--- src/lib.rt:33:34
 read-word-requires-2 : tie.Need-read-word-requires-2
 read-word-requires-2 c κs = search needs
 
--- src/lib.rt:33:29
 enum-known-q : tie.Need-enum-known-q
 enum-known-q c = search needs
 
--- src/lib.rt:34:40
 enum-told-2 : tie.Need-enum-told-2
 enum-told-2 c = search needs
 
--- src/lib.rt:34:13
 returns-2 : tie.Need-returns-2
-returns-2 c = search needs
+unfolding opening onPlace setWord
+returns-2 c =
+    let x = c .before .before in
+    let w = x .before .before .before .before in
+    let s = w .before .before .before .before .args .s .now in
+    rw (le-ltb 65535 (length s) (w .before .before .if1 .left), ← (sym (x .before .before .enum-told .given .1) ∙ w .read-word .ensures), ← (sym (c .enum-told2 .given .1) ∙ x .read-word2 .ensures))
 
--- src/lib.rt:36:9
 returns-3 : tie.Need-returns-3
-returns-3 c = search needs
+unfolding opening onPlace setWord
+returns-3 c =
+    let x = c .before .before .before in
+    let w = x .before .before .before .before in
+    let s = w .before .before .before .before .args .s .now in
+    rw (le-ltb 65535 (length s) (w .before .before .if1 .left), ← (sym (x .before .before .enum-told .given .1) ∙ w .read-word .ensures), ← (sym (c .before .q .given .1) ∙ x .read-word2 .ensures))
 
--- src/lib.rt:26:1
 returns-4 : tie.Need-returns-4
-returns-4 c = search needs
+unfolding opening onPlace setWord
+returns-4 c =
+    let w = c .before .before .before in
+    let s = w .before .before .before .before .args .s .now in
+    rw (le-ltb 65535 (length s) (w .before .before .if1 .left), ← (sym (c .before .p .given .1) ∙ w .read-word .ensures))
 
 pub opening-of-spec : {M : Type 1} → statement M
 opening-of-spec =
