@@ -39,9 +39,11 @@ returns c =
     let x = a .args in
     let p = x .p in
     let job = leftsOnly (x .lwidth .now) (x .lruns .now) in
-    both-written (jukugoRow (runsOnly (x .em) (x .rclass .now) (x .rwidth .now) (x .runs .now)) p (x .w) (x .ends)) (leftRunRow job p (ownWord p (x .w) .left)) (p .base) (p .base + p .bases) (x .t .now)
+    both-written (jukugoRow (runsOnly (x .em) (x .rclass .now) (x .rwidth .now) (x .runs .now)) p (x .w) (x .ends)) (leftRunRow job p (ownWord p (x .w) .left)) (p .base) (p .base + p .bases)
+    (x .t .now)
     (put .put-runs .last .0) (l .put-left-runs .last .0) (omega (arith, a .pre .3 .behind)) (λ _. a .pre .3 .behind) (put .put-runs .ensures)
-    (subst (λ z. LeftFilled (leftRunRow job p z) (p .base) (p .base + p .bases) (put .put-runs .last .0) (l .put-left-runs .last .0)) (ap (λ z. z .left) (v .own-word .ensures)) (l .put-left-runs .ensures))
+    (subst (λ z. LeftFilled (leftRunRow job p z) (p .base) (p .base + p .bases) (put .put-runs .last .0) (l .put-left-runs .last .0)) (ap (λ z. z .left) (v .own-word .ensures))
+    (l .put-left-runs .ensures))
 
 pub put-cut-spec : {M : Type 1} → statement M
 put-cut-spec =
