@@ -489,7 +489,7 @@ fn count_jukugo(base: u32, at: Taken, runs: &[u32]) -> Counted
 }
 
 // Number 5 but for a left reading: an element by its kind and counts, behind what those before it have taken. Counts that its kind does not show are not read.
-fn count_right(kind: u32, base: u32, ruby: u32, at: Taken, runs: &[u32]) -> Counted
+pub fn count_right(kind: u32, base: u32, ruby: u32, at: Taken, runs: &[u32]) -> Counted
     requires { ⌜ at .run ≤ 1024 ⌝ }
     ensures { λ c. ⌜ c ≡ rightBy kind base ruby (now (runs .entry)) at ⌝ }
 {

@@ -191,12 +191,38 @@ module _ (job : Job) (k : ℕ) (at : Taken) (was : List ℕ) (h : Standing job k
     pub small : (p .base + p .bases < 2 ^ 40) × (p .ruby + p .rubies < 2 ^ 40) × (p .left + p .lefts < 2 ^ 40)
     small = rw same (walk.small job k at five (h .stands))
 
+    kinds : (known (getD (job .kind) k 0) ≡ true) × (knownLeft (getD (job .leftKind) k 0) ≡ true)
+    kinds =
+        let q = or-none _ _ five in
+        (not-false (known (getD (job .kind) k 0)) (or-none _ _ (q .0) .0), not-false (knownLeft (getD (job .leftKind) k 0)) (or-none _ _ (q .1) .0))
+
+    -- an element without a left kind takes it, and has no left characters
+    module _ (bare : getD (job .leftKind) k 0 ≡ 78) where
+      bare-x : x .gloss ≡ left.N
+      unfolding element
+      bare-x = rw bare
+
+      pub bare-taken : takes (p .form) (p .gloss) ≡ true
+      bare-taken = subst (λ z. takes (z .form) (z .gloss) ≡ true) (sym same) (ap (takes (x .form)) bare-x)
+
+      pub bare-none : p .lefts ≡ 0
+      bare-none = ap (λ z. z .lefts) same ∙ walk.few-left job k at five .none (ap hasLeft bare-x)
+
     pub kind-stops : takes (p .form) (p .gloss) ≡ false → Stepped job k at was was (Stop (LeftKind k))
     kind-stops e = stopped (walk.kind-stops job k at five (subst (λ z. takes (z .form) (z .gloss) ≡ false) same e))
 
     module _ (sixteen : takes (p .form) (p .gloss) ≡ true) where
       taken-x : takes (x .form) (x .gloss) ≡ true
       taken-x = subst (λ z. takes (z .form) (z .gloss) ≡ true) same sixteen
+
+      -- and with a left kind that it takes it has some
+      pub left-some : (getD (job .leftKind) k 0 ≡ 78 → ⊥) → 0 < p .lefts
+      unfolding element
+      left-some other = subst (λ z. 0 < z .lefts) (sym same) (walk.few-left job k at five .reads (go (hasLeft (x .gloss)) refl) taken-x)
+        where
+          go : (t : Bool) → hasLeft (x .gloss) ≡ t → t ≡ true
+          go true e = refl
+          go false e = absurd (other (known-none (getD (job .leftKind) k 0) (kinds .1) e))
 
       pub short-stops : runOut job p ≡ true → Stepped job k at was was (Stop (Supply k))
       short-stops e = stopped (walk.short-stops job k at five taken-x (subst (λ z. runOut job z ≡ true) same e))
@@ -218,11 +244,6 @@ module _ (job : Job) (k : ℕ) (at : Taken) (was : List ℕ) (h : Standing job k
         few-left = walk.few-left job k at five
 
         -- a P without a left reading is laid in a loop of its own
-        kinds : (known (getD (job .kind) k 0) ≡ true) × (knownLeft (getD (job .leftKind) k 0) ≡ true)
-        kinds =
-            let q = or-none _ _ five in
-            (not-false (known (getD (job .kind) k 0)) (or-none _ _ (q .0) .0), not-false (knownLeft (getD (job .leftKind) k 0)) (or-none _ _ (q .1) .0))
-
         pub ruby : hasRuby (x .form) ≡ true
         unfolding element
         ruby = go (hasRuby (x .form)) (hasLeft (x .gloss)) refl refl

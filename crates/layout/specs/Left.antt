@@ -40,7 +40,7 @@ use Rattle.job.specs.Words.{is-j}
 use Rattle.job.specs.Apart.{apart-is}
 use Rattle.join.specs.Rows.{runsOf, runOf, taken, firstAt, runAt, runWidth, none, rowBy, leftRowBy, endsBehind}
 use Rattle.layout.specs.Table.{LeftRoom}
-use Rattle.layout.specs.Runs.{runsOnly, leftsOnly, Runs, run-reads, HasRuns}
+use Rattle.layout.specs.Runs.{runsOnly, leftsOnly, Runs, run-reads, HasRuns, ownWord}
 use Rattle.layout.specs.Lay.{wordRow, word-row, flagged, WordReady}
 
 -- the left row of the reading v
@@ -54,15 +54,11 @@ leftRow x v = leftRowOf v (x .left) (x .lefts) 0 (x .more)
 abbrev pub leftRunRow : Job → Piece → Reading → ℕ → LeftRow
 leftRunRow job x v i = let k = i - x .base in leftRowOf v (firstAt Left job x k) (runAt Left job x k) (runWidth Left job x k) (x .more)
 
--- of a J of two characters or more its rows have no word
-abbrev pub ownLeft : Piece → Word → Reading
-ownLeft x w = cond (ltb 1 (x .bases)) none w .left
-
 module _ (job : Job) (x : Piece) (w : Word) (i : ℕ) where
   pub left-word : cuts job x ≡ false → leftRow x (w .left) ≡ leftRowBy job x w i
   left-word c = rw (c, add-zero (x .left))
 
-  pub left-run : cuts job x ≡ true → hasLeft (x .gloss) ≡ true → leftRunRow job x (ownLeft x w) i ≡ leftRowBy job x w i
+  pub left-run : cuts job x ≡ true → hasLeft (x .gloss) ≡ true → leftRunRow job x (ownWord x w .left) i ≡ leftRowBy job x w i
   left-run c h = rw (c, h)
 
 -- a row with its left row

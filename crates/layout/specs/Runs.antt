@@ -5,7 +5,6 @@ use mathlib.Core.List.{List, []}
 use Prim.Native.Nat.{ℕ, zero, suc, _+_, _-_, _≤_, _<_}
 use native.Mathlib.Nat.{add-zero}
 use native.Mathlib.Omega.{arith}
-use borrow.Author.Tests.{lt-ltb}
 use lib.Dec.{ltb}
 use lib.ListN.{length, getD}
 use Rattle.basics.specs.Lists.{sum, All}
@@ -172,16 +171,19 @@ module _ {ratios : Ratios} {em : ℕ} {class width before after flag rubyClass r
   pub left-as : Runs Left (leftsOnly leftWidth leftRun) x → Runs Left (bothOnly ratios em class width before after flag rubyClass rubyWidth run leftClass leftWidth leftRun) x
   left-as r = record { few = r .few; small = r .small; runs = r .runs; fewRuns = r .fewRuns; many = r .many; width = r .width; narrow = r .narrow; each = r .each }
 
+-- the word that a row of a J has: of two characters or more none, as such a J is measured by its sums, and by parts
+abbrev pub ownWord : Piece → Word → Word
+ownWord x w = cond (ltb 1 (x .bases)) none w
+
 -- the row of base character i of a J that is laid by runs
 abbrev pub jukugoRow : Job → Piece → Word → Bool → ℕ → Cell
 jukugoRow job x w ends i =
     let k = i - x .base in
-    let cut = ltb 1 (x .bases) in
     record {
       bases = x .base + x .bases - i;
-      cut = cut;
+      cut = ltb 1 (x .bases);
       ends = ends;
-      word = cond cut none w;
+      word = ownWord x w;
       before = 0;
       after = 0;
       ruby = firstAt Right job x k;
@@ -199,12 +201,11 @@ jukugoRow job x w ends i =
 -- by where its ruby is
 abbrev pub runRow : Piece → Word → Bool → ℕ → Cursor → ℕ → ℕ → Bool → Cell
 runRow p w ends i at run own west =
-    let cut = ltb 1 (p .bases) in
     record {
       bases = p .base + p .bases - i;
-      cut = cut;
+      cut = ltb 1 (p .bases);
       ends = ends;
-      word = cond cut none w;
+      word = ownWord p w;
       before = 0;
       after = 0;
       ruby = at .ruby;
@@ -315,7 +316,3 @@ single-row em rubyClass rubyWidth run x w ends i one e = go (x .base + x .bases 
           more = false;
         })
     go m n k e f g = rw (e, f, g, add-zero (x .ruby), add-zero (x .run))
-
--- a J of two or more has no word in its rows
-pub cut-row : (job : Job) (x : Piece) (w : Word) (ends : Bool) (i : ℕ) → 1 < x .bases → jukugoRow job x none ends i ≡ jukugoRow job x w ends i
-cut-row job x w ends i h = rw (lt-ltb 1 (x .bases) h)

@@ -13,9 +13,9 @@ ghost use Rattle.line.specs.declared.Side.the-variants as side;
 ghost use Rattle.door.specs.Job.{given, glossOf};
 ghost use Rattle.cells.specs.Cells.{size, beside};
 ghost use Rattle.layout.specs.Table.{leftFrom, LeftRoom, LeftFilled, Written, BareReady, Bared};
-ghost use Rattle.layout.specs.Runs.{bothOnly, runsOnly, leftsOnly, Runs, HasRuns, jukugoRow};
+ghost use Rattle.layout.specs.Runs.{bothOnly, runsOnly, leftsOnly, Runs, HasRuns, ownWord, jukugoRow};
 ghost use Rattle.layout.specs.Lay.{wordRow, Judged};
-ghost use Rattle.layout.specs.Left.{leftRowOf, leftRow, leftRunRow, ownLeft, cellOf, characterBoth, Characters, laidRow, bothRow, BothPut, BothReady};
+ghost use Rattle.layout.specs.Left.{leftRowOf, leftRow, leftRunRow, cellOf, characterBoth, Characters, laidRow, bothRow, BothPut, BothReady};
 
 // Where left rows begin: behind the rows, where there are left characters; else 0, and there are none.
 pub fn left_begins(bases: usize, lefts: usize) -> u32
@@ -93,16 +93,6 @@ fn put_left_runs(t: &mut [u32], p: door::Piece, v: word::Reading, lwidth: &[u32]
     }
 }
 
-// The left reading that a row of a J has: of two characters or more none, as it has no word.
-fn own_left(p: door::Piece, w: word::Word) -> word::Reading
-    ensures { λ v. ⌜ v ≡ ownLeft p w ⌝ }
-{
-    if 1 < p.bases {
-        return word::NONE;
-    }
-    w.left
-}
-
 // A J that is cut: its rows and its left rows by runs.
 fn put_cut(
     t: &mut [u32],
@@ -117,10 +107,10 @@ fn put_cut(
     lruns: &[u32],
 )
     requires { ⌜ (0 < p .bases) × HasRuns (runsOnly em (now rclass) (now rwidth) (now runs)) p (now t) × Runs side.Left (leftsOnly (now lwidth) (now lruns)) p × LeftRoom (p .base + p .bases) (now t) ⌝ }
-    ensures { λ _. ⌜ Written (λ i. beside (jukugoRow (runsOnly em (now (rclass .entry)) (now (rwidth .entry)) (now (runs .entry))) p w ends i) (leftRunRow (leftsOnly (now (lwidth .entry)) (now (lruns .entry))) p (ownLeft p w) i)) (p .base) (p .base + p .bases) (now (t .entry)) (now (t .exit)) ⌝ }
+    ensures { λ _. ⌜ Written (λ i. beside (jukugoRow (runsOnly em (now (rclass .entry)) (now (rwidth .entry)) (now (runs .entry))) p w ends i) (leftRunRow (leftsOnly (now (lwidth .entry)) (now (lruns .entry))) p (ownWord p w .left) i)) (p .base) (p .base + p .bases) (now (t .entry)) (now (t .exit)) ⌝ }
 {
-    super::put_jukugo(t, p, w, ends, em, rclass, rwidth, runs);
-    let v = own_left(p, w);
+    super::put_runs(t, p, w, ends, em, rclass, rwidth, runs);
+    let v = super::own_word(p, w).left;
     put_left_runs(t, p, v, lwidth, lruns);
 }
 

@@ -23,7 +23,7 @@ ghost use Rattle.cells.specs.Cells.{size};
 ghost use Rattle.cells.specs.Put.{Puts};
 ghost use Rattle.join.specs.Rows.{none, Holds};
 ghost use Rattle.layout.specs.Table.{Filled};
-ghost use Rattle.layout.specs.Runs.{wordsOnly, runsOnly, HasRuns, jukugoRow, runRow, singleRow, pastRun};
+ghost use Rattle.layout.specs.Runs.{wordsOnly, runsOnly, HasRuns, ownWord, jukugoRow, runRow, singleRow, pastRun};
 ghost use Rattle.layout.specs.Lay.{wordRow, WordReady, JukugoReady, AloneReady, aloneRow, flagged, Judged, PlainReady, plainRow, Standing, Stepped};
 ghost use Rattle.layout.specs.Walk.{Ready};
 
@@ -31,7 +31,6 @@ mod left;
 
 use refusal::Refusal;
 
-// No word: a J of two characters or more is measured by its sums, and by parts.
 const NONE: word::Word = word::Word {
     front: 0,
     len: 0,
@@ -89,9 +88,20 @@ fn run_width(r: usize, e: usize, rwidth: &[u32]) -> u32
     basics::sum_of(&rwidth[r..e])
 }
 
-// The row of base character i of a J of two or more: its own run has `run` ruby characters of the width `own`.
+// The word that a row of a J has: of two characters or more none, as such a J is measured by its sums, and by parts.
+fn own_word(p: door::Piece, w: word::Word) -> word::Word
+    ensures { λ r. ⌜ r ≡ ownWord p w ⌝ }
+{
+    if 1 < p.bases {
+        return NONE;
+    }
+    w
+}
+
+// The row of base character i of a J: its own run has `run` ruby characters of the width `own`.
 fn run_row(
     p: door::Piece,
+    w: word::Word,
     ends: bool,
     i: usize,
     at: Cursor,
@@ -99,14 +109,14 @@ fn run_row(
     own: u32,
     western: bool,
 ) -> cells::Cell
-    requires { ⌜ (1 < p .bases) × (i ≤ p .base + p .bases) × (p .base + p .bases ≤ 4096) × (at .ruby ≤ 4096) ⌝ }
-    ensures { λ r. ⌜ r ≡ runRow p none ends i at run own western ⌝ }
+    requires { ⌜ (i ≤ p .base + p .bases) × (p .base + p .bases ≤ 4096) × (at .ruby ≤ 4096) ⌝ }
+    ensures { λ r. ⌜ r ≡ runRow p w ends i at run own western ⌝ }
 {
     cells::Cell {
         bases: (p.base + p.bases - i) as u32,
-        cut: true,
+        cut: 1 < p.bases,
         ends,
-        word: NONE,
+        word: own_word(p, w),
         before: 0,
         after: 0,
         ruby: at.ruby as u32,
@@ -143,18 +153,19 @@ fn past_run(at: Cursor, run: u32, own: u32, em: u32) -> Cursor
     }
 }
 
-// The rows of a J of two characters or more.
+// The rows of a J that is laid by runs.
 fn put_runs(
     t: &mut [u32],
     p: door::Piece,
+    w: word::Word,
     ends: bool,
     em: u32,
     rclass: &[u32],
     rwidth: &[u32],
     runs: &[u32],
 )
-    requires { ⌜ (1 < p .bases) × HasRuns (runsOnly em (now rclass) (now rwidth) (now runs)) p (now t) ⌝ }
-    ensures { λ _. ⌜ Filled (jukugoRow (runsOnly em (now (rclass .entry)) (now (rwidth .entry)) (now (runs .entry))) p none ends) (p .base) (p .base + p .bases) (now (t .entry)) (now (t .exit)) ⌝ }
+    requires { ⌜ HasRuns (runsOnly em (now rclass) (now rwidth) (now runs)) p (now t) ⌝ }
+    ensures { λ _. ⌜ Filled (jukugoRow (runsOnly em (now (rclass .entry)) (now (rwidth .entry)) (now (runs .entry))) p w ends) (p .base) (p .base + p .bases) (now (t .entry)) (now (t .exit)) ⌝ }
 {
     let n = p.base + p.bases;
     let mut at = Cursor {
@@ -168,7 +179,7 @@ fn put_runs(
         let r = at.ruby;
         let own = run_width(r, r + run as usize, rwidth);
         let western = class::is_western(rclass[r]);
-        let row = run_row(p, ends, i, at, run, own, western);
+        let row = run_row(p, w, ends, i, at, run, own, western);
         cells::put_cell(t, i, row);
         at = past_run(at, run, own, em);
         i += 1;
@@ -217,7 +228,7 @@ fn put_single(
     );
 }
 
-// The rows of a J that is laid by runs.
+// The same for a J without a left reading: one of one character has one row.
 fn put_jukugo(
     t: &mut [u32],
     p: door::Piece,
@@ -234,7 +245,7 @@ fn put_jukugo(
     if p.bases == 1 {
         put_single(t, p, w, ends, rclass, rwidth, runs);
     } else {
-        put_runs(t, p, ends, em, rclass, rwidth, runs);
+        put_runs(t, p, w, ends, em, rclass, rwidth, runs);
     }
 }
 
@@ -493,8 +504,8 @@ fn lay_alone(
     }
 }
 
-// Element k, with ruby or with a left kind, behind what those before it have taken, of `bases`, `rubies` and `lefts` in all: numbers 5, 16, 6, and 7 to 10 as level one gives them, or
-// its rows.
+// Element k, a word with ruby and without a left kind, behind what those before it have taken, of `bases`, `rubies` and `lefts` in all: numbers 5, 6, and 7 to 10 as level one gives
+// them, or its rows.
 fn lay_word(
     t: &mut [u32],
     k: usize,
@@ -522,7 +533,64 @@ fn lay_word(
     runs: &[u32],
     lruns: &[u32],
 ) -> door::Step
-    requires { let job = jobOf em 0 ratios profile (now class) (now width) (now before) (now after) (now flag) (now rclass) (now rwidth) (now lclass) (now lwidth) (now kind) (now ebase) (now eruby) (now lkind) (now eleft) (now runs) (now lruns) in ⌜ (bases ≡ baseCount job) × (rubies ≡ rubyCount job) × (lefts ≡ leftCount job) × Standing job k at (now t) ⌝ }
+    requires { let job = jobOf em 0 ratios profile (now class) (now width) (now before) (now after) (now flag) (now rclass) (now rwidth) (now lclass) (now lwidth) (now kind) (now ebase) (now eruby) (now lkind) (now eleft) (now runs) (now lruns) in ⌜ (bases ≡ baseCount job) × (rubies ≡ rubyCount job) × (lefts ≡ leftCount job) × Standing job k at (now t) × (getD (job .leftKind) k 0 ≡ 78) ⌝ }
+    ensures { λ s. let job = jobOf em 0 ratios profile (now (class .entry)) (now (width .entry)) (now (before .entry)) (now (after .entry)) (now (flag .entry)) (now (rclass .entry)) (now (rwidth .entry)) (now (lclass .entry)) (now (lwidth .entry)) (now (kind .entry)) (now (ebase .entry)) (now (eruby .entry)) (now (lkind .entry)) (now (eleft .entry)) (now (runs .entry)) (now (lruns .entry)) in ⌜ Stepped job k at (now (t .entry)) (now (t .exit)) s ⌝ }
+{
+    let place = k as u32;
+    let counted = door::count_right(kind[k], ebase[k], eruby[k], at, runs);
+    let door::Counted::Is(p) = counted else {
+        return door::Step::Stop(Refusal::Element(place));
+    };
+    if door::runs_out(p, bases, rubies, lefts) {
+        return door::Step::Stop(Refusal::Supply(place));
+    }
+    left::put_bare(t, p.base, p.base + p.bases, p.left, lefts);
+    lay_alone(
+        t,
+        place,
+        p,
+        em,
+        ratios,
+        class,
+        width,
+        before,
+        after,
+        flag,
+        rclass,
+        rwidth,
+        runs,
+    )
+}
+
+// The same for an element with a left kind: numbers 5, 16, 6, and 7 to 10, or its rows. Words without one do not go this way, so that a job without left readings pays nothing for them.
+fn lay_both(
+    t: &mut [u32],
+    k: usize,
+    at: door::Taken,
+    bases: usize,
+    rubies: usize,
+    lefts: usize,
+    em: u32,
+    ratios: [[u32; 3]; 2],
+    profile: u32,
+    class: &[u32],
+    width: &[u32],
+    before: &[u32],
+    after: &[u32],
+    flag: &[u32],
+    rclass: &[u32],
+    rwidth: &[u32],
+    lclass: &[u32],
+    lwidth: &[u32],
+    kind: &[u32],
+    ebase: &[u32],
+    eruby: &[u32],
+    lkind: &[u32],
+    eleft: &[u32],
+    runs: &[u32],
+    lruns: &[u32],
+) -> door::Step
+    requires { let job = jobOf em 0 ratios profile (now class) (now width) (now before) (now after) (now flag) (now rclass) (now rwidth) (now lclass) (now lwidth) (now kind) (now ebase) (now eruby) (now lkind) (now eleft) (now runs) (now lruns) in ⌜ (bases ≡ baseCount job) × (rubies ≡ rubyCount job) × (lefts ≡ leftCount job) × Standing job k at (now t) × (getD (job .leftKind) k 0 ≡ 78 → ⊥) ⌝ }
     ensures { λ s. let job = jobOf em 0 ratios profile (now (class .entry)) (now (width .entry)) (now (before .entry)) (now (after .entry)) (now (flag .entry)) (now (rclass .entry)) (now (rwidth .entry)) (now (lclass .entry)) (now (lwidth .entry)) (now (kind .entry)) (now (ebase .entry)) (now (eruby .entry)) (now (lkind .entry)) (now (eleft .entry)) (now (runs .entry)) (now (lruns .entry)) in ⌜ Stepped job k at (now (t .entry)) (now (t .exit)) s ⌝ }
 {
     let place = k as u32;
@@ -545,33 +613,12 @@ fn lay_word(
     if door::runs_out(p, bases, rubies, lefts) {
         return door::Step::Stop(Refusal::Supply(place));
     }
-    if 0 < p.lefts {
-        return left::lay_left(
-            t,
-            place,
-            p,
-            ratios,
-            em,
-            class,
-            width,
-            before,
-            after,
-            flag,
-            rclass,
-            rwidth,
-            runs,
-            lclass,
-            lwidth,
-            lruns,
-        );
-    }
-    left::put_bare(t, p.base, p.base + p.bases, p.left, lefts);
-    lay_alone(
+    left::lay_left(
         t,
         place,
         p,
-        em,
         ratios,
+        em,
         class,
         width,
         before,
@@ -580,6 +627,9 @@ fn lay_word(
         rclass,
         rwidth,
         runs,
+        lclass,
+        lwidth,
+        lruns,
     )
 }
 
@@ -647,7 +697,43 @@ pub fn layout(
             }
             continue;
         }
-        match lay_word(
+        if lkind[k] == door::LEFT_NONE {
+            match lay_word(
+                t,
+                k,
+                at,
+                bases,
+                rubies,
+                lefts,
+                em,
+                ratios,
+                profile,
+                class,
+                width,
+                before,
+                after,
+                flag,
+                rclass,
+                rwidth,
+                lclass,
+                lwidth,
+                kind,
+                ebase,
+                eruby,
+                lkind,
+                eleft,
+                runs,
+                lruns,
+            ) {
+                door::Step::Stop(why) => return door::Checked::Refused(why),
+                door::Step::Next(p) => {
+                    at = door::past(at, p);
+                    k += 1;
+                }
+            }
+            continue;
+        }
+        match lay_both(
             t,
             k,
             at,

@@ -4,11 +4,12 @@
 // and on `basics`.
 ghost use mathlib.Core.Path.{_≡_};
 ghost use mathlib.Core.Bool.{true, false, not, _&&_, _||_};
-ghost use Prim.Native.Nat.{_+_, _-_, _^_, _≤_, _<_};
+ghost use Prim.Native.Nat.{ℕ, _+_, _-_, _^_, _≤_, _<_};
 ghost use lib.ListN.{length, getD};
 ghost use mathlib.Core.List.{[], map};
 ghost use Rattle.basics.specs.Lists.{sum, any, other};
-ghost use Rattle.spread.specs.Ratio.{ratiosOf, Housed};
+ghost use Rattle.spread.specs.declared.Way.the-variants.{Solid};
+ghost use Rattle.spread.specs.Ratio.{Ratios, ratiosOf, Housed};
 ghost use Rattle.word.specs.Alone.{rubyWay, baseWay, split};
 ghost use Rattle.word.specs.Word.{plain, wordBy, groupWord, jukugoWord};
 ghost use Rattle.word.specs.Numbers.{wordFrom, Measured};
@@ -319,6 +320,41 @@ pub fn word_from(
     }
 }
 
+// The word of two solid strings of b and r units, the shorter centred on the longer (document 01, mono): neither ratio nor em is asked.
+fn solid_of(b: u32, r: u32) -> Word
+    requires { ⌜ (b ≤ 131072) × (r ≤ 262144) ⌝ }
+    ensures { λ w. ⌜ ((h : Ratios) (em n m : ℕ) → w ≡ wordFrom Solid Solid h em b n r m) ⌝ }
+{
+    if r <= b {
+        return Word {
+            front: 0,
+            len: 2 * b,
+            inbase: 0,
+            right: Reading {
+                there: true,
+                from: b - r,
+                upto: b - r + 2 * r,
+                within: 0,
+                runs: false,
+            },
+            left: NONE,
+        };
+    }
+    Word {
+        front: r - b,
+        len: 2 * b,
+        inbase: 0,
+        right: Reading {
+            there: true,
+            from: 0,
+            upto: 2 * r,
+            within: 0,
+            runs: false,
+        },
+        left: NONE,
+    }
+}
+
 // The word of two strings by their lists.
 fn word_by(
     ruby: spread::Way,
@@ -448,7 +484,9 @@ pub fn mono_answer(
     if blank_inside(before, after) {
         return Answer::Refused(refusal::Refusal::BlankInside(place));
     }
-    Answer::Set(word_by(spread::Way::Solid, spread::Way::Solid, ratios, em, bs, rs))
+    let b = basics::sum_of(bs);
+    let r = basics::sum_of(rs);
+    Answer::Set(solid_of(b, r))
 }
 
 // A G: numbers 7, 9 and 10, or its word.

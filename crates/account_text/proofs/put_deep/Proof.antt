@@ -9,18 +9,23 @@ use Rattle.account_text.specs.Reason.{last-fits}
 use Rattle.account_text.proofs.put_deep.Statement.{statement}
 use Rattle.account_text.proofs.put_deep.Tie as tie
 
-whole : (s : tie.Start) → let a = s .args in Left (a .out .now) (a .from) (deep (a .phrase .now) (a .other) (a .depth)) (a .out .now) (a .from) (said (a .phrase .now) (a .other) ++ said (bytes " at depth ") (a .depth))
+whole : (s : tie.Start) → let a = s .args in Left (a .out .now) (a .from) (deep (a .phrase .now) (a .other) (a .depth)) (a .out .now) (a .from) (said (a .phrase .now) (a .other) ++ said
+    (bytes " at depth ") (a .depth))
 unfolding deep
 whole s = left-first (s .pre)
 
 put-said-requires : tie.Need-put-said-requires
-put-said-requires c κs = fits (said (c .before .before .before .args .phrase .now) (c .before .before .before .args .other)) (said (bytes " at depth ") (c .before .before .before .args .depth)) (whole (c .before .before .before))
+put-said-requires c κs =
+    let a = c .before .before .before in
+    fits (said (a .args .phrase .now) (a .args .other)) (said (bytes " at depth ") (a .args .depth)) (whole a)
 
 slice-aggregate-put-said : tie.Need-slice-aggregate-put-said
 slice-aggregate-put-said c = search needs
 
 put-said-requires-2 : tie.Need-put-said-requires-2
-put-said-requires-2 c κs = last-fits (left-next (said (c .before .before .before .before .before .before .before .before .args .phrase .now) (c .before .before .before .before .before .before .before .before .args .other)) (said (bytes " at depth ") (c .before .before .before .before .before .before .before .before .args .depth)) (whole (c .before .before .before .before .before .before .before .before)) (c .before .before .before .before .put-said .ensures))
+put-said-requires-2 c κs =
+    let a = c .before .before .before .before .before .before .before .before in
+    last-fits (left-next (said (a .args .phrase .now) (a .args .other)) (said (bytes " at depth ") (a .args .depth)) (whole a) (c .before .before .before .before .put-said .ensures))
 
 same-length : tie.Need-same-length
 same-length c = search needs

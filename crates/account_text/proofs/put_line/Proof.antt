@@ -14,7 +14,8 @@ use Rattle.account_text.proofs.put_line.Tie as tie
 whole : (s : tie.Start) → let a = s .args in Left (a .out .now) (a .from) (headText (a .extent)) (a .out .now) (a .from) (said (bytes "line ") (a .extent) ++ (10 ∷ []))
 whole s = rows.extent-left (s .args .extent) (rows.head-fits (headText (s .args .extent)) (s .pre))
 
-head : (c : tie.After-put-byte) → let a = c .before .before .before .before .before .before .before .before .before .args in Wrote (a .out .now) (a .from) (headText (a .extent)) (c .put-byte .result) (c .put-byte .last .0)
+head : (c : tie.After-put-byte) → let a = c .before .before .before .before .before .before .before .before .before .args in Wrote (a .out .now) (a .from) (headText (a .extent))
+    (c .put-byte .result) (c .put-byte .last .0)
 unfolding headText
 head c = then (c .before .before .before .before .put-said .ensures) (c .put-byte .ensures)
 
@@ -25,10 +26,14 @@ put-said-requires : tie.Need-put-said-requires
 put-said-requires c κs = fits (said (bytes "line ") (c .before .before .before .before .args .extent)) (10 ∷ []) (whole (c .before .before .before .before))
 
 put-byte-requires : tie.Need-put-byte-requires
-put-byte-requires c κs = byte-fits (left-next (said (bytes "line ") (c .before .before .before .before .before .before .before .before .args .extent)) (10 ∷ []) (whole (c .before .before .before .before .before .before .before .before)) (c .before .before .before .put-said .ensures))
+put-byte-requires c κs =
+    let a = c .before .before .before .before .before .before .before .before in
+    byte-fits (left-next (said (bytes "line ") (a .args .extent)) (10 ∷ []) (whole a) (c .before .before .before .put-said .ensures))
 
 put-rows-requires : tie.Need-put-rows-requires
-put-rows-requires c κs = rows.rest-ready (headText (c .before .before .before .before .before .before .before .before .before .before .before .before .args .extent)) (c .before .before .before .before .before .before .before .before .before .before .before .before .pre) (head (c .before .before .before))
+put-rows-requires c κs =
+    let a = c .before .before .before .before .before .before .before .before .before .before .before .before in
+    rows.rest-ready (headText (a .args .extent)) (a .pre) (head (c .before .before .before))
 
 same-length : tie.Need-same-length
 same-length c = search needs

@@ -27,17 +27,27 @@ mul-put-said : tie.Need-mul-put-said
 mul-put-said c = omega (arith, c .before .before .before .before .before .before .before .before .pre .1)
 
 put-said-requires-2 : tie.Need-put-said-requires-2
-put-said-requires-2 c κs = fits (parts.measure (c .before .before .before .before .before .before .before .before .args .measure)) (10 ∷ []) (left-next (parts.needs (c .before .before .before .before .before .before .before .before .args .needed)) (parts.measure (c .before .before .before .before .before .before .before .before .args .measure) ++ (10 ∷ [])) (whole (c .before .before .before .before .before .before .before .before)) (c .before .before .before .before .put-said .ensures))
+put-said-requires-2 c κs =
+    let a = c .before .before .before .before .before .before .before .before in
+    fits (parts.measure (a .args .measure)) (10 ∷ []) (left-next (parts.needs (a .args .needed)) (parts.measure (a .args .measure) ++ (10 ∷ [])) (whole a)
+    (c .before .before .before .before .put-said .ensures))
 
 put-byte-requires : tie.Need-put-byte-requires
-put-byte-requires c κs = byte-fits (left-next (parts.measure (c .before .before .before .before .before .before .before .before .before .before .before .before .args .measure)) (10 ∷ []) (left-next (parts.needs (c .before .before .before .before .before .before .before .before .before .before .before .before .args .needed)) (parts.measure (c .before .before .before .before .before .before .before .before .before .before .before .before .args .measure) ++ (10 ∷ [])) (whole (c .before .before .before .before .before .before .before .before .before .before .before .before)) (c .before .before .before .before .before .before .before .before .put-said .ensures)) (c .before .before .before .put-said2 .ensures))
+put-byte-requires c κs =
+    let b = c .before .before .before .before .before .before .before .before in
+    let a = b .before .before .before .before in
+    byte-fits (left-next (parts.measure (a .args .measure)) (10 ∷ []) (left-next (parts.needs (a .args .needed)) (parts.measure (a .args .measure) ++ (10 ∷ [])) (whole a) (b .put-said .ensures))
+    (c .before .before .before .put-said2 .ensures))
 
 same-length : tie.Need-same-length
 same-length c = search needs
 
 returns : tie.Need-returns
 unfolding needsText
-returns c = then (c .before .before .before .before .before .before .before .before .before .before .before .put-said .ensures) (then (c .before .before .before .before .before .before .put-said2 .ensures) (c .before .before .put-byte .ensures))
+returns c =
+    let b = c .before .before .before .before .before .before in
+    let a = b .before .before .before .before .before in
+    then (a .put-said .ensures) (then (b .put-said2 .ensures) (c .before .before .put-byte .ensures))
 
 pub put-needs-spec : {M : Type 1} → statement M
 put-needs-spec =

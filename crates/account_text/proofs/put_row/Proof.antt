@@ -27,77 +27,145 @@ shared-slice-read-put-said : tie.Need-shared-slice-read-put-said
 shared-slice-read-put-said c = omega (arith, c .before .before .before .before .before .pre .0, c .before .before .before .before .before .pre .1)
 
 put-said-requires : tie.Need-put-said-requires
-put-said-requires c κs = fits (rows.index (c .before .before .before .before .before .args .rows .now) (c .before .before .before .before .before .args .q)) (rows.start (c .before .before .before .before .before .args .rows .now) (c .before .before .before .before .before .args .q) ++ (rows.gap (c .before .before .before .before .before .args .rows .now) (c .before .before .before .before .before .args .q) ++ (rows.reason (c .before .before .before .before .before .args .rows .now) (c .before .before .before .before .before .args .q) ++ (10 ∷ [])))) (whole (c .before .before .before .before .before))
+put-said-requires c κs =
+    let a = c .before .before .before .before .before in
+    fits (rows.index (a .args .rows .now) (a .args .q)) (rows.start (a .args .rows .now) (a .args .q) ++ (rows.gap (a .args .rows .now) (a .args .q) ++ (rows.reason (a .args .rows .now)
+    (a .args .q) ++ (10 ∷ [])))) (whole a)
 
 slice-aggregate-put-said-2 : tie.Need-slice-aggregate-put-said-2
 slice-aggregate-put-said-2 c = search needs
 
 add-put-said : tie.Need-add-put-said
-add-put-said c = omega (arith, c .before .before .before .before .before .before .before .before .before .before .pre .0, c .before .before .before .before .before .before .before .before .before .before .pre .1)
+add-put-said c =
+    let a = c .before .before .before .before .before .before .before .before .before .before in
+    omega (arith, a .pre .0, a .pre .1)
 
 mul-put-said-2 : tie.Need-mul-put-said-2
-mul-put-said-2 c = omega (arith, c .before .before .before .before .before .before .before .before .before .before .pre .0, c .before .before .before .before .before .before .before .before .before .before .pre .1)
+mul-put-said-2 c =
+    let a = c .before .before .before .before .before .before .before .before .before .before in
+    omega (arith, a .pre .0, a .pre .1)
 
 shared-slice-read-put-said-2 : tie.Need-shared-slice-read-put-said-2
-shared-slice-read-put-said-2 c = omega (arith, c .before .before .before .before .before .before .before .before .before .before .before .pre .0, c .before .before .before .before .before .before .before .before .before .before .before .pre .1)
+shared-slice-read-put-said-2 c =
+    let a = c .before .before .before .before .before .before .before .before .before .before .before in
+    omega (arith, a .pre .0, a .pre .1)
 
 put-said-requires-2 : tie.Need-put-said-requires-2
-put-said-requires-2 c κs = fits (rows.start (c .before .before .before .before .before .before .before .before .before .before .before .args .rows .now) (c .before .before .before .before .before .before .before .before .before .before .before .args .q)) (rows.gap (c .before .before .before .before .before .before .before .before .before .before .before .args .rows .now) (c .before .before .before .before .before .before .before .before .before .before .before .args .q) ++ (rows.reason (c .before .before .before .before .before .before .before .before .before .before .before .args .rows .now) (c .before .before .before .before .before .before .before .before .before .before .before .args .q) ++ (10 ∷ []))) (left-next (rows.index (c .before .before .before .before .before .before .before .before .before .before .before .args .rows .now) (c .before .before .before .before .before .before .before .before .before .before .before .args .q)) (rows.start (c .before .before .before .before .before .before .before .before .before .before .before .args .rows .now) (c .before .before .before .before .before .before .before .before .before .before .before .args .q) ++ (rows.gap (c .before .before .before .before .before .before .before .before .before .before .before .args .rows .now) (c .before .before .before .before .before .before .before .before .before .before .before .args .q) ++ (rows.reason (c .before .before .before .before .before .before .before .before .before .before .before .args .rows .now) (c .before .before .before .before .before .before .before .before .before .before .before .args .q) ++ (10 ∷ [])))) (whole (c .before .before .before .before .before .before .before .before .before .before .before)) (c .before .before .before .before .before .put-said .ensures))
+put-said-requires-2 c κs =
+    let a = c .before .before .before .before .before .before .before .before .before .before .before in
+    fits (rows.start (a .args .rows .now) (a .args .q)) (rows.gap (a .args .rows .now) (a .args .q) ++ (rows.reason (a .args .rows .now) (a .args .q) ++ (10 ∷ []))) (left-next (rows.index
+    (a .args .rows .now) (a .args .q)) (rows.start (a .args .rows .now) (a .args .q) ++ (rows.gap (a .args .rows .now) (a .args .q) ++ (rows.reason (a .args .rows .now) (a .args .q) ++
+    (10 ∷ [])))) (whole a) (c .before .before .before .before .before .put-said .ensures))
 
 slice-aggregate-put-said-3 : tie.Need-slice-aggregate-put-said-3
 slice-aggregate-put-said-3 c = search needs
 
 add-put-said-2 : tie.Need-add-put-said-2
-add-put-said-2 c = omega (arith, c .before .before .before .before .before .before .before .before .before .before .before .before .before .before .before .before .pre .0, c .before .before .before .before .before .before .before .before .before .before .before .before .before .before .before .before .pre .1)
+add-put-said-2 c =
+    let a = c .before .before .before .before .before .before .before .before .before .before .before .before .before .before .before .before in
+    omega (arith, a .pre .0, a .pre .1)
 
 mul-put-said-3 : tie.Need-mul-put-said-3
-mul-put-said-3 c = omega (arith, c .before .before .before .before .before .before .before .before .before .before .before .before .before .before .before .before .pre .0, c .before .before .before .before .before .before .before .before .before .before .before .before .before .before .before .before .pre .1)
+mul-put-said-3 c =
+    let a = c .before .before .before .before .before .before .before .before .before .before .before .before .before .before .before .before in
+    omega (arith, a .pre .0, a .pre .1)
 
 shared-slice-read-put-said-3 : tie.Need-shared-slice-read-put-said-3
-shared-slice-read-put-said-3 c = omega (arith, c .before .before .before .before .before .before .before .before .before .before .before .before .before .before .before .before .before .pre .0, c .before .before .before .before .before .before .before .before .before .before .before .before .before .before .before .before .before .pre .1)
+shared-slice-read-put-said-3 c =
+    let a = c .before .before .before .before .before .before .before .before .before .before .before .before .before .before .before .before .before in
+    omega (arith, a .pre .0, a .pre .1)
 
 put-said-requires-3 : tie.Need-put-said-requires-3
-put-said-requires-3 c κs = fits (rows.gap (c .before .before .before .before .before .before .before .before .before .before .before .before .before .before .before .before .before .args .rows .now) (c .before .before .before .before .before .before .before .before .before .before .before .before .before .before .before .before .before .args .q)) (rows.reason (c .before .before .before .before .before .before .before .before .before .before .before .before .before .before .before .before .before .args .rows .now) (c .before .before .before .before .before .before .before .before .before .before .before .before .before .before .before .before .before .args .q) ++ (10 ∷ [])) (left-next (rows.start (c .before .before .before .before .before .before .before .before .before .before .before .before .before .before .before .before .before .args .rows .now) (c .before .before .before .before .before .before .before .before .before .before .before .before .before .before .before .before .before .args .q)) (rows.gap (c .before .before .before .before .before .before .before .before .before .before .before .before .before .before .before .before .before .args .rows .now) (c .before .before .before .before .before .before .before .before .before .before .before .before .before .before .before .before .before .args .q) ++ (rows.reason (c .before .before .before .before .before .before .before .before .before .before .before .before .before .before .before .before .before .args .rows .now) (c .before .before .before .before .before .before .before .before .before .before .before .before .before .before .before .before .before .args .q) ++ (10 ∷ []))) (left-next (rows.index (c .before .before .before .before .before .before .before .before .before .before .before .before .before .before .before .before .before .args .rows .now) (c .before .before .before .before .before .before .before .before .before .before .before .before .before .before .before .before .before .args .q)) (rows.start (c .before .before .before .before .before .before .before .before .before .before .before .before .before .before .before .before .before .args .rows .now) (c .before .before .before .before .before .before .before .before .before .before .before .before .before .before .before .before .before .args .q) ++ (rows.gap (c .before .before .before .before .before .before .before .before .before .before .before .before .before .before .before .before .before .args .rows .now) (c .before .before .before .before .before .before .before .before .before .before .before .before .before .before .before .before .before .args .q) ++ (rows.reason (c .before .before .before .before .before .before .before .before .before .before .before .before .before .before .before .before .before .args .rows .now) (c .before .before .before .before .before .before .before .before .before .before .before .before .before .before .before .before .before .args .q) ++ (10 ∷ [])))) (whole (c .before .before .before .before .before .before .before .before .before .before .before .before .before .before .before .before .before)) (c .before .before .before .before .before .before .before .before .before .before .before .put-said .ensures)) (c .before .before .before .before .before .put-said2 .ensures))
+put-said-requires-3 c κs =
+    let b = c .before .before .before .before .before .before .before .before .before .before .before in
+    let a = b .before .before .before .before .before .before in
+    fits (rows.gap (a .args .rows .now) (a .args .q)) (rows.reason (a .args .rows .now) (a .args .q) ++ (10 ∷ [])) (left-next (rows.start (a .args .rows .now) (a .args .q)) (rows.gap
+    (a .args .rows .now) (a .args .q) ++ (rows.reason (a .args .rows .now) (a .args .q) ++ (10 ∷ []))) (left-next (rows.index (a .args .rows .now) (a .args .q)) (rows.start (a .args .rows .now)
+    (a .args .q) ++ (rows.gap (a .args .rows .now) (a .args .q) ++ (rows.reason (a .args .rows .now) (a .args .q) ++ (10 ∷ [])))) (whole a) (b .put-said .ensures))
+    (c .before .before .before .before .before .put-said2 .ensures))
 
 add-put-reason : tie.Need-add-put-reason
-add-put-reason c = omega (arith, c .before .before .before .before .before .before .before .before .before .before .before .before .before .before .before .before .before .before .before .before .before .pre .0, c .before .before .before .before .before .before .before .before .before .before .before .before .before .before .before .before .before .before .before .before .before .pre .1)
+add-put-reason c =
+    let a = c .before .before .before .before .before .before .before .before .before .before .before .before .before .before .before .before .before .before .before .before .before in
+    omega (arith, a .pre .0, a .pre .1)
 
 mul-put-reason : tie.Need-mul-put-reason
-mul-put-reason c = omega (arith, c .before .before .before .before .before .before .before .before .before .before .before .before .before .before .before .before .before .before .before .before .before .pre .0, c .before .before .before .before .before .before .before .before .before .before .before .before .before .before .before .before .before .before .before .before .before .pre .1)
+mul-put-reason c =
+    let a = c .before .before .before .before .before .before .before .before .before .before .before .before .before .before .before .before .before .before .before .before .before in
+    omega (arith, a .pre .0, a .pre .1)
 
 shared-slice-read-put-reason : tie.Need-shared-slice-read-put-reason
-shared-slice-read-put-reason c = omega (arith, c .before .before .before .before .before .before .before .before .before .before .before .before .before .before .before .before .before .before .before .before .before .before .pre .0, c .before .before .before .before .before .before .before .before .before .before .before .before .before .before .before .before .before .before .before .before .before .before .pre .1)
+shared-slice-read-put-reason c =
+    let a = c .before .before .before .before .before .before .before .before .before .before .before .before .before .before .before .before .before .before .before .before .before .before in
+    omega (arith, a .pre .0, a .pre .1)
 
 add-put-reason-2 : tie.Need-add-put-reason-2
-add-put-reason-2 c = omega (arith, c .before .before .before .before .before .before .before .before .before .before .before .before .before .before .before .before .before .before .before .before .before .before .pre .0, c .before .before .before .before .before .before .before .before .before .before .before .before .before .before .before .before .before .before .before .before .before .before .pre .1)
+add-put-reason-2 c =
+    let a = c .before .before .before .before .before .before .before .before .before .before .before .before .before .before .before .before .before .before .before .before .before .before in
+    omega (arith, a .pre .0, a .pre .1)
 
 mul-put-reason-2 : tie.Need-mul-put-reason-2
-mul-put-reason-2 c = omega (arith, c .before .before .before .before .before .before .before .before .before .before .before .before .before .before .before .before .before .before .before .before .before .before .pre .0, c .before .before .before .before .before .before .before .before .before .before .before .before .before .before .before .before .before .before .before .before .before .before .pre .1)
+mul-put-reason-2 c =
+    let a = c .before .before .before .before .before .before .before .before .before .before .before .before .before .before .before .before .before .before .before .before .before .before in
+    omega (arith, a .pre .0, a .pre .1)
 
 shared-slice-read-put-reason-2 : tie.Need-shared-slice-read-put-reason-2
-shared-slice-read-put-reason-2 c = omega (arith, c .before .before .before .before .before .before .before .before .before .before .before .before .before .before .before .before .before .before .before .before .before .before .before .pre .0, c .before .before .before .before .before .before .before .before .before .before .before .before .before .before .before .before .before .before .before .before .before .before .before .pre .1)
+shared-slice-read-put-reason-2 c =
+    let a = c .before .before .before .before .before .before .before .before .before .before .before .before .before .before .before .before .before .before .before .before .before
+    .before .before in
+    omega (arith, a .pre .0, a .pre .1)
 
 add-put-reason-3 : tie.Need-add-put-reason-3
-add-put-reason-3 c = omega (arith, c .before .before .before .before .before .before .before .before .before .before .before .before .before .before .before .before .before .before .before .before .before .before .before .pre .0, c .before .before .before .before .before .before .before .before .before .before .before .before .before .before .before .before .before .before .before .before .before .before .before .pre .1)
+add-put-reason-3 c =
+    let a = c .before .before .before .before .before .before .before .before .before .before .before .before .before .before .before .before .before .before .before .before .before
+    .before .before in
+    omega (arith, a .pre .0, a .pre .1)
 
 mul-put-reason-3 : tie.Need-mul-put-reason-3
-mul-put-reason-3 c = omega (arith, c .before .before .before .before .before .before .before .before .before .before .before .before .before .before .before .before .before .before .before .before .before .before .before .pre .0, c .before .before .before .before .before .before .before .before .before .before .before .before .before .before .before .before .before .before .before .before .before .before .before .pre .1)
+mul-put-reason-3 c =
+    let a = c .before .before .before .before .before .before .before .before .before .before .before .before .before .before .before .before .before .before .before .before .before
+    .before .before in
+    omega (arith, a .pre .0, a .pre .1)
 
 shared-slice-read-put-reason-3 : tie.Need-shared-slice-read-put-reason-3
-shared-slice-read-put-reason-3 c = omega (arith, c .before .before .before .before .before .before .before .before .before .before .before .before .before .before .before .before .before .before .before .before .before .before .before .before .pre .0, c .before .before .before .before .before .before .before .before .before .before .before .before .before .before .before .before .before .before .before .before .before .before .before .before .pre .1)
+shared-slice-read-put-reason-3 c =
+    let a = c .before .before .before .before .before .before .before .before .before .before .before .before .before .before .before .before .before .before .before .before .before
+    .before .before .before in
+    omega (arith, a .pre .0, a .pre .1)
 
 put-reason-requires : tie.Need-put-reason-requires
-put-reason-requires c κs = fits (rows.reason (c .before .before .before .before .before .before .before .before .before .before .before .before .before .before .before .before .before .before .before .before .before .before .before .before .args .rows .now) (c .before .before .before .before .before .before .before .before .before .before .before .before .before .before .before .before .before .before .before .before .before .before .before .before .args .q)) (10 ∷ []) (left-next (rows.gap (c .before .before .before .before .before .before .before .before .before .before .before .before .before .before .before .before .before .before .before .before .before .before .before .before .args .rows .now) (c .before .before .before .before .before .before .before .before .before .before .before .before .before .before .before .before .before .before .before .before .before .before .before .before .args .q)) (rows.reason (c .before .before .before .before .before .before .before .before .before .before .before .before .before .before .before .before .before .before .before .before .before .before .before .before .args .rows .now) (c .before .before .before .before .before .before .before .before .before .before .before .before .before .before .before .before .before .before .before .before .before .before .before .before .args .q) ++ (10 ∷ [])) (left-next (rows.start (c .before .before .before .before .before .before .before .before .before .before .before .before .before .before .before .before .before .before .before .before .before .before .before .before .args .rows .now) (c .before .before .before .before .before .before .before .before .before .before .before .before .before .before .before .before .before .before .before .before .before .before .before .before .args .q)) (rows.gap (c .before .before .before .before .before .before .before .before .before .before .before .before .before .before .before .before .before .before .before .before .before .before .before .before .args .rows .now) (c .before .before .before .before .before .before .before .before .before .before .before .before .before .before .before .before .before .before .before .before .before .before .before .before .args .q) ++ (rows.reason (c .before .before .before .before .before .before .before .before .before .before .before .before .before .before .before .before .before .before .before .before .before .before .before .before .args .rows .now) (c .before .before .before .before .before .before .before .before .before .before .before .before .before .before .before .before .before .before .before .before .before .before .before .before .args .q) ++ (10 ∷ []))) (left-next (rows.index (c .before .before .before .before .before .before .before .before .before .before .before .before .before .before .before .before .before .before .before .before .before .before .before .before .args .rows .now) (c .before .before .before .before .before .before .before .before .before .before .before .before .before .before .before .before .before .before .before .before .before .before .before .before .args .q)) (rows.start (c .before .before .before .before .before .before .before .before .before .before .before .before .before .before .before .before .before .before .before .before .before .before .before .before .args .rows .now) (c .before .before .before .before .before .before .before .before .before .before .before .before .before .before .before .before .before .before .before .before .before .before .before .before .args .q) ++ (rows.gap (c .before .before .before .before .before .before .before .before .before .before .before .before .before .before .before .before .before .before .before .before .before .before .before .before .args .rows .now) (c .before .before .before .before .before .before .before .before .before .before .before .before .before .before .before .before .before .before .before .before .before .before .before .before .args .q) ++ (rows.reason (c .before .before .before .before .before .before .before .before .before .before .before .before .before .before .before .before .before .before .before .before .before .before .before .before .args .rows .now) (c .before .before .before .before .before .before .before .before .before .before .before .before .before .before .before .before .before .before .before .before .before .before .before .before .args .q) ++ (10 ∷ [])))) (whole (c .before .before .before .before .before .before .before .before .before .before .before .before .before .before .before .before .before .before .before .before .before .before .before .before)) (c .before .before .before .before .before .before .before .before .before .before .before .before .before .before .before .before .before .before .put-said .ensures)) (c .before .before .before .before .before .before .before .before .before .before .before .before .put-said2 .ensures)) (c .before .before .before .before .before .before .put-said3 .ensures))
+put-reason-requires c κs =
+    let b = c .before .before .before .before .before .before in
+    let d = b .before .before .before .before .before .before in
+    let e = d .before .before .before .before .before .before in
+    let a = e .before .before .before .before .before .before in
+    fits (rows.reason (a .args .rows .now) (a .args .q)) (10 ∷ []) (left-next (rows.gap (a .args .rows .now) (a .args .q)) (rows.reason (a .args .rows .now) (a .args .q) ++ (10 ∷ [])) (left-next
+    (rows.start (a .args .rows .now) (a .args .q)) (rows.gap (a .args .rows .now) (a .args .q) ++ (rows.reason (a .args .rows .now) (a .args .q) ++ (10 ∷ []))) (left-next (rows.index
+    (a .args .rows .now) (a .args .q)) (rows.start (a .args .rows .now) (a .args .q) ++ (rows.gap (a .args .rows .now) (a .args .q) ++ (rows.reason (a .args .rows .now) (a .args .q) ++
+    (10 ∷ [])))) (whole a) (e .put-said .ensures)) (d .put-said2 .ensures)) (b .put-said3 .ensures))
 
 put-byte-requires : tie.Need-put-byte-requires
-put-byte-requires c κs = byte-fits (left-next (rows.reason (c .before .before .before .before .before .before .before .before .before .before .before .before .before .before .before .before .before .before .before .before .before .before .before .before .before .before .before .before .args .rows .now) (c .before .before .before .before .before .before .before .before .before .before .before .before .before .before .before .before .before .before .before .before .before .before .before .before .before .before .before .before .args .q)) (10 ∷ []) (left-next (rows.gap (c .before .before .before .before .before .before .before .before .before .before .before .before .before .before .before .before .before .before .before .before .before .before .before .before .before .before .before .before .args .rows .now) (c .before .before .before .before .before .before .before .before .before .before .before .before .before .before .before .before .before .before .before .before .before .before .before .before .before .before .before .before .args .q)) (rows.reason (c .before .before .before .before .before .before .before .before .before .before .before .before .before .before .before .before .before .before .before .before .before .before .before .before .before .before .before .before .args .rows .now) (c .before .before .before .before .before .before .before .before .before .before .before .before .before .before .before .before .before .before .before .before .before .before .before .before .before .before .before .before .args .q) ++ (10 ∷ [])) (left-next (rows.start (c .before .before .before .before .before .before .before .before .before .before .before .before .before .before .before .before .before .before .before .before .before .before .before .before .before .before .before .before .args .rows .now) (c .before .before .before .before .before .before .before .before .before .before .before .before .before .before .before .before .before .before .before .before .before .before .before .before .before .before .before .before .args .q)) (rows.gap (c .before .before .before .before .before .before .before .before .before .before .before .before .before .before .before .before .before .before .before .before .before .before .before .before .before .before .before .before .args .rows .now) (c .before .before .before .before .before .before .before .before .before .before .before .before .before .before .before .before .before .before .before .before .before .before .before .before .before .before .before .before .args .q) ++ (rows.reason (c .before .before .before .before .before .before .before .before .before .before .before .before .before .before .before .before .before .before .before .before .before .before .before .before .before .before .before .before .args .rows .now) (c .before .before .before .before .before .before .before .before .before .before .before .before .before .before .before .before .before .before .before .before .before .before .before .before .before .before .before .before .args .q) ++ (10 ∷ []))) (left-next (rows.index (c .before .before .before .before .before .before .before .before .before .before .before .before .before .before .before .before .before .before .before .before .before .before .before .before .before .before .before .before .args .rows .now) (c .before .before .before .before .before .before .before .before .before .before .before .before .before .before .before .before .before .before .before .before .before .before .before .before .before .before .before .before .args .q)) (rows.start (c .before .before .before .before .before .before .before .before .before .before .before .before .before .before .before .before .before .before .before .before .before .before .before .before .before .before .before .before .args .rows .now) (c .before .before .before .before .before .before .before .before .before .before .before .before .before .before .before .before .before .before .before .before .before .before .before .before .before .before .before .before .args .q) ++ (rows.gap (c .before .before .before .before .before .before .before .before .before .before .before .before .before .before .before .before .before .before .before .before .before .before .before .before .before .before .before .before .args .rows .now) (c .before .before .before .before .before .before .before .before .before .before .before .before .before .before .before .before .before .before .before .before .before .before .before .before .before .before .before .before .args .q) ++ (rows.reason (c .before .before .before .before .before .before .before .before .before .before .before .before .before .before .before .before .before .before .before .before .before .before .before .before .before .before .before .before .args .rows .now) (c .before .before .before .before .before .before .before .before .before .before .before .before .before .before .before .before .before .before .before .before .before .before .before .before .before .before .before .before .args .q) ++ (10 ∷ [])))) (whole (c .before .before .before .before .before .before .before .before .before .before .before .before .before .before .before .before .before .before .before .before .before .before .before .before .before .before .before .before)) (c .before .before .before .before .before .before .before .before .before .before .before .before .before .before .before .before .before .before .before .before .before .before .put-said .ensures)) (c .before .before .before .before .before .before .before .before .before .before .before .before .before .before .before .before .put-said2 .ensures)) (c .before .before .before .before .before .before .before .before .before .before .put-said3 .ensures)) (c .before .before .before .put-reason .ensures))
+put-byte-requires c κs =
+    let b = c .before .before .before .before .before .before .before .before .before .before in
+    let d = b .before .before .before .before .before .before in
+    let e = d .before .before .before .before .before .before in
+    let a = e .before .before .before .before .before .before in
+    byte-fits (left-next (rows.reason (a .args .rows .now) (a .args .q)) (10 ∷ []) (left-next (rows.gap (a .args .rows .now) (a .args .q)) (rows.reason (a .args .rows .now) (a .args .q) ++
+    (10 ∷ [])) (left-next (rows.start (a .args .rows .now) (a .args .q)) (rows.gap (a .args .rows .now) (a .args .q) ++ (rows.reason (a .args .rows .now) (a .args .q) ++ (10 ∷ []))) (left-next
+    (rows.index (a .args .rows .now) (a .args .q)) (rows.start (a .args .rows .now) (a .args .q) ++ (rows.gap (a .args .rows .now) (a .args .q) ++ (rows.reason (a .args .rows .now)
+    (a .args .q) ++ (10 ∷ [])))) (whole a) (e .put-said .ensures)) (d .put-said2 .ensures)) (b .put-said3 .ensures)) (c .before .before .before .put-reason .ensures))
 
 same-length : tie.Need-same-length
 same-length c = search needs
 
 returns : tie.Need-returns
 unfolding rowText
-returns c = then (c .before .before .before .before .before .before .before .before .before .before .before .before .before .before .before .before .before .before .before .before .before .before .before .before .before .put-said .ensures) (then (c .before .before .before .before .before .before .before .before .before .before .before .before .before .before .before .before .before .before .before .put-said2 .ensures) (then (c .before .before .before .before .before .before .before .before .before .before .before .before .before .put-said3 .ensures) (then (c .before .before .before .before .before .before .put-reason .ensures) (c .before .before .put-byte .ensures))))
+returns c =
+    let b = c .before .before .before .before .before .before in
+    let d = b .before .before .before .before .before .before .before in
+    let e = d .before .before .before .before .before .before in
+    let a = e .before .before .before .before .before .before in
+    then (a .put-said .ensures) (then (e .put-said2 .ensures) (then (d .put-said3 .ensures) (then (b .put-reason .ensures) (c .before .before .put-byte .ensures))))
 
 pub put-row-spec : {M : Type 1} → statement M
 put-row-spec =

@@ -17,7 +17,9 @@ put-word-requires : tie.Need-put-word-requires
 put-word-requires c κs = fits (c .before .before .before .args .phrase .now) (decimal (c .before .before .before .args .n)) (whole (c .before .before .before))
 
 put-number-requires : tie.Need-put-number-requires
-put-number-requires c κs = last-fits (left-next (c .before .before .before .before .before .before .before .args .phrase .now) (decimal (c .before .before .before .before .before .before .before .args .n)) (whole (c .before .before .before .before .before .before .before)) (c .before .before .before .put-word .ensures))
+put-number-requires c κs =
+    let a = c .before .before .before .before .before .before .before in
+    last-fits (left-next (a .args .phrase .now) (decimal (a .args .n)) (whole a) (c .before .before .before .put-word .ensures))
 
 same-length : tie.Need-same-length
 same-length c = search needs

@@ -17,29 +17,49 @@ slice-aggregate-put-said : tie.Need-slice-aggregate-put-said
 slice-aggregate-put-said c = search needs
 
 put-said-requires : tie.Need-put-said-requires
-put-said-requires c κs = fits (parts.lines (c .before .before .before .args .lines)) (parts.elements (c .before .before .before .args .elements) ++ (parts.readings (c .before .before .before .args .readings) ++ (10 ∷ []))) (whole (c .before .before .before))
+put-said-requires c κs =
+    let a = c .before .before .before in
+    fits (parts.lines (a .args .lines)) (parts.elements (a .args .elements) ++ (parts.readings (a .args .readings) ++ (10 ∷ []))) (whole a)
 
 slice-aggregate-put-said-2 : tie.Need-slice-aggregate-put-said-2
 slice-aggregate-put-said-2 c = search needs
 
 put-said-requires-2 : tie.Need-put-said-requires-2
-put-said-requires-2 c κs = fits (parts.elements (c .before .before .before .before .before .before .before .before .args .elements)) (parts.readings (c .before .before .before .before .before .before .before .before .args .readings) ++ (10 ∷ [])) (left-next (parts.lines (c .before .before .before .before .before .before .before .before .args .lines)) (parts.elements (c .before .before .before .before .before .before .before .before .args .elements) ++ (parts.readings (c .before .before .before .before .before .before .before .before .args .readings) ++ (10 ∷ []))) (whole (c .before .before .before .before .before .before .before .before)) (c .before .before .before .before .put-said .ensures))
+put-said-requires-2 c κs =
+    let a = c .before .before .before .before .before .before .before .before in
+    fits (parts.elements (a .args .elements)) (parts.readings (a .args .readings) ++ (10 ∷ [])) (left-next (parts.lines (a .args .lines)) (parts.elements (a .args .elements) ++ (parts.readings
+    (a .args .readings) ++ (10 ∷ []))) (whole a) (c .before .before .before .before .put-said .ensures))
 
 slice-aggregate-put-said-3 : tie.Need-slice-aggregate-put-said-3
 slice-aggregate-put-said-3 c = search needs
 
 put-said-requires-3 : tie.Need-put-said-requires-3
-put-said-requires-3 c κs = fits (parts.readings (c .before .before .before .before .before .before .before .before .before .before .before .before .before .args .readings)) (10 ∷ []) (left-next (parts.elements (c .before .before .before .before .before .before .before .before .before .before .before .before .before .args .elements)) (parts.readings (c .before .before .before .before .before .before .before .before .before .before .before .before .before .args .readings) ++ (10 ∷ [])) (left-next (parts.lines (c .before .before .before .before .before .before .before .before .before .before .before .before .before .args .lines)) (parts.elements (c .before .before .before .before .before .before .before .before .before .before .before .before .before .args .elements) ++ (parts.readings (c .before .before .before .before .before .before .before .before .before .before .before .before .before .args .readings) ++ (10 ∷ []))) (whole (c .before .before .before .before .before .before .before .before .before .before .before .before .before)) (c .before .before .before .before .before .before .before .before .before .put-said .ensures)) (c .before .before .before .before .put-said2 .ensures))
+put-said-requires-3 c κs =
+    let b = c .before .before .before .before .before .before .before .before .before in
+    let a = b .before .before .before .before in
+    fits (parts.readings (a .args .readings)) (10 ∷ []) (left-next (parts.elements (a .args .elements)) (parts.readings (a .args .readings) ++ (10 ∷ [])) (left-next (parts.lines
+    (a .args .lines)) (parts.elements (a .args .elements) ++ (parts.readings (a .args .readings) ++ (10 ∷ []))) (whole a) (b .put-said .ensures))
+    (c .before .before .before .before .put-said2 .ensures))
 
 put-byte-requires : tie.Need-put-byte-requires
-put-byte-requires c κs = byte-fits (left-next (parts.readings (c .before .before .before .before .before .before .before .before .before .before .before .before .before .before .before .before .before .args .readings)) (10 ∷ []) (left-next (parts.elements (c .before .before .before .before .before .before .before .before .before .before .before .before .before .before .before .before .before .args .elements)) (parts.readings (c .before .before .before .before .before .before .before .before .before .before .before .before .before .before .before .before .before .args .readings) ++ (10 ∷ [])) (left-next (parts.lines (c .before .before .before .before .before .before .before .before .before .before .before .before .before .before .before .before .before .args .lines)) (parts.elements (c .before .before .before .before .before .before .before .before .before .before .before .before .before .before .before .before .before .args .elements) ++ (parts.readings (c .before .before .before .before .before .before .before .before .before .before .before .before .before .before .before .before .before .args .readings) ++ (10 ∷ []))) (whole (c .before .before .before .before .before .before .before .before .before .before .before .before .before .before .before .before .before)) (c .before .before .before .before .before .before .before .before .before .before .before .before .before .put-said .ensures)) (c .before .before .before .before .before .before .before .before .put-said2 .ensures)) (c .before .before .before .put-said3 .ensures))
+put-byte-requires c κs =
+    let b = c .before .before .before .before .before .before .before .before in
+    let d = b .before .before .before .before .before in
+    let a = d .before .before .before .before in
+    byte-fits (left-next (parts.readings (a .args .readings)) (10 ∷ []) (left-next (parts.elements (a .args .elements)) (parts.readings (a .args .readings) ++ (10 ∷ [])) (left-next (parts.lines
+    (a .args .lines)) (parts.elements (a .args .elements) ++ (parts.readings (a .args .readings) ++ (10 ∷ []))) (whole a) (d .put-said .ensures)) (b .put-said2 .ensures))
+    (c .before .before .before .put-said3 .ensures))
 
 same-length : tie.Need-same-length
 same-length c = search needs
 
 returns : tie.Need-returns
 unfolding verdictText
-returns c = then (c .before .before .before .before .before .before .before .before .before .before .before .before .before .before .before .before .put-said .ensures) (then (c .before .before .before .before .before .before .before .before .before .before .before .put-said2 .ensures) (then (c .before .before .before .before .before .before .put-said3 .ensures) (c .before .before .put-byte .ensures)))
+returns c =
+    let b = c .before .before .before .before .before .before in
+    let d = b .before .before .before .before .before in
+    let a = d .before .before .before .before .before in
+    then (a .put-said .ensures) (then (d .put-said2 .ensures) (then (b .put-said3 .ensures) (c .before .before .put-byte .ensures)))
 
 pub put-verdict-spec : {M : Type 1} → statement M
 put-verdict-spec =

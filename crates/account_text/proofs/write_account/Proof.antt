@@ -52,19 +52,27 @@ put-line-requires : tie.Need-put-line-requires Inv-loop μ-loop
 put-line-requires c κs = lists.line-ready (c .before .before .before .before .loop .inv) (c .before .before .before .loop-test .taken)
 
 add-l : tie.Need-add-l Inv-loop μ-loop
-add-l c = omega (arith, c .before .before .before .before .before .before .loop-test .taken, c .before .before .before .before .before .before .before .before .before .before .before .before .before .before .before .before .pre .few)
+add-l c =
+    let b = c .before .before .before .before .before .before in
+    let a = b .before .before .before .before .before .before .before .before .before .before in
+    omega (arith, b .loop-test .taken, a .pre .few)
 
 loop-less : tie.Need-loop-less Inv-loop μ-loop
 loop-less c = omega (arith, c .before .before .before .before .before .before .loop-test .taken)
 
 loop-again : tie.Need-loop-again Inv-loop μ-loop
-loop-again c = lists.going-next (c .before .before .before .before .before .before .before .loop .inv) (c .before .before .before .before .before .before .loop-test .taken) (c .before .before .put-line .ensures)
+loop-again c =
+    let b = c .before .before .before .before .before .before in
+    let a = b .before in
+    lists.going-next (a .loop .inv) (b .loop-test .taken) (c .before .before .put-line .ensures)
 
 same-length : tie.Need-same-length Inv-loop μ-loop
 same-length c = c .before .loop .inv .left .long ∙ same-long (c .before .before .before .before .put-verdict .ensures)
 
 returns : tie.Need-returns Inv-loop μ-loop
-returns c = lists.written (c .before .before .before .before .before .before .before .before .before .before .pre) (c .before .before .before .before .put-verdict .ensures) (lists.going-end (c .before .loop .inv) (c .loop-test .left))
+returns c =
+    let a = c .before .before .before .before .before .before .before .before .before .before in
+    lists.written (a .pre) (c .before .before .before .before .put-verdict .ensures) (lists.going-end (c .before .loop .inv) (c .loop-test .left))
 
 pub write-account-spec : {M : Type 1} → statement M
 write-account-spec =

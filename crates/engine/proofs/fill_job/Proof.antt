@@ -27,7 +27,8 @@ start c = c .before .before .before .before .before .before .before .before .bef
 abbrev job : tie.Start → Job
 job a =
     let x = a .args in
-    jobOf (x .em) (x .measure) (x .ratios) (x .profile) (x .class .now) (x .width .now) (x .before .now) (x .after .now) (x .flag .now) (x .rclass .now) (x .rwidth .now) (x .lclass .now) (x .lwidth .now) (x .kind .now) (x .ebase .now)
+    jobOf (x .em) (x .measure) (x .ratios) (x .profile) (x .class .now) (x .width .now) (x .before .now) (x .after .now) (x .flag .now) (x .rclass .now) (x .rwidth .now) (x .lclass .now)
+    (x .lwidth .now) (x .kind .now) (x .ebase .now)
     (x .eruby .now) (x .lkind .now) (x .eleft .now) (x .runs .now) (x .lruns .now)
 
 -- what the door says of the characters
@@ -144,10 +145,12 @@ returns-3 c =
     let a = start (p .before .before) in
     let x = a .args in
     let t = l .layout .last .0 in
-    filled.fills (job a) (x .base) (x .ruby) (x .left) (x .lines) (passes p) (elements-pass e) t (l .layout .ensures .1 (laid e)) (x .ends .now) (f .fill-lines .last .1 .1 .0) (x .extents .now) (f .fill-lines .last .1 .1 .1 .0)
+    filled.fills (job a) (x .base) (x .ruby) (x .left) (x .lines) (passes p) (elements-pass e) t (l .layout .ensures .1 (laid e)) (x .ends .now) (f .fill-lines .last .1 .1 .0) (x .extents .now)
+    (f .fill-lines .last .1 .1 .1 .0)
     (f .fill-lines .result)
     (subst (λ n. let es = linesOf (x .em) (2 * x .measure) t n in
-    (f .fill-lines .result ≡ toldOf n es) × (f .fill-lines .last .1 .1 .0 ≡ over es (x .ends .now)) × (f .fill-lines .last .1 .1 .1 .0 ≡ over (extentsOf (x .em) t 0 es) (x .extents .now))) (bases b) (f .fill-lines .ensures))
+    (f .fill-lines .result ≡ toldOf n es) × (f .fill-lines .last .1 .1 .0 ≡ over es (x .ends .now)) × (f .fill-lines .last .1 .1 .1 .0 ≡ over (extentsOf (x .em) t 0 es) (x .extents .now)))
+    (bases b) (f .fill-lines .ensures))
 
 pub fill-job-spec : {M : Type 1} → statement M
 fill-job-spec =

@@ -10,10 +10,13 @@ use Rattle.engine.proofs.set_right.Tie as tie
 abbrev job : tie.Start → Job
 job a =
     let x = a .args in
-    jobOf (x .em) (x .measure) (x .ratios) (x .profile) (x .class .now) (x .width .now) (x .before .now) (x .after .now) (x .flag .now) (x .rclass .now) (x .rwidth .now) (x .lclass .now) (x .lwidth .now) (x .kind .now) (x .ebase .now)
+    jobOf (x .em) (x .measure) (x .ratios) (x .profile) (x .class .now) (x .width .now) (x .before .now) (x .after .now) (x .flag .now) (x .rclass .now) (x .rwidth .now) (x .lclass .now)
+    (x .lwidth .now) (x .kind .now) (x .ebase .now)
     (x .eruby .now) (x .lkind .now) (x .eleft .now) (x .runs .now) (x .lruns .now)
 
-small : (c : tie.After-set-table-arg4) → baseCount (job (c .before .before .before .before .before .before .before .before .before .before .before .before .before .before .before .before .before .before .before .before .before .before .before .before .before .before .before .before .before)) ≤ 128
+small : (c : tie.After-set-table-arg4) → baseCount (job
+    (c .before .before .before .before .before .before .before .before .before .before .before .before .before .before .before .before .before .before .before .before .before .before
+    .before .before .before .before .before .before .before)) ≤ 128
 unfolding baseCount
 small c = subst (λ n. n ≤ 128) (c .before .before .before .before .before .before .before .before .base-count .ensures) (c .before .before .before .before .before .before .before .if1 .taken)
 
@@ -30,7 +33,10 @@ slice-aggregate-set-table-3 : tie.Need-slice-aggregate-set-table-3
 slice-aggregate-set-table-3 c = search needs
 
 set-table-requires : tie.Need-set-table-requires
-set-table-requires c κs = record { rows = λ _. omega (arith, small c); left = λ _ h. absurd (omega (arith, h, c .before .before .before .before .before .before .before .before .before .before .before .before .before .before .before .before .before .before .before .before .before .before .before .before .before .before .before .before .before .pre)); ends = λ _. small c; extents = λ _. small c }
+set-table-requires c κs =
+    let a = c .before .before .before .before .before .before .before .before .before .before .before .before .before .before .before .before .before .before .before .before .before
+    .before .before .before .before .before .before .before .before in
+    record { rows = λ _. omega (arith, small c); left = λ _ h. absurd (omega (arith, h, a .pre)); ends = λ _. small c; extents = λ _. small c }
 
 same-length : tie.Need-same-length
 same-length c = search needs
@@ -57,7 +63,10 @@ slice-aggregate-set-table-6 : tie.Need-slice-aggregate-set-table-6
 slice-aggregate-set-table-6 c = search needs
 
 set-table-requires-2 : tie.Need-set-table-requires-2
-set-table-requires-2 c κs = record { rows = λ h. omega (arith, h); left = λ _ h. absurd (omega (arith, h, c .before .before .before .before .before .before .before .before .before .before .before .before .before .before .before .before .before .before .before .before .before .before .before .before .before .before .before .before .before .pre)); ends = λ h. h; extents = λ h. h }
+set-table-requires-2 c κs =
+    let a = c .before .before .before .before .before .before .before .before .before .before .before .before .before .before .before .before .before .before .before .before .before
+    .before .before .before .before .before .before .before .before in
+    record { rows = λ h. omega (arith, h); left = λ _ h. absurd (omega (arith, h, a .pre)); ends = λ h. h; extents = λ h. h }
 
 same-length-5 : tie.Need-same-length-5
 same-length-5 c = search needs

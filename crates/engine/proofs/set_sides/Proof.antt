@@ -10,10 +10,13 @@ use Rattle.engine.proofs.set_sides.Tie as tie
 abbrev job : tie.Start → Job
 job a =
     let x = a .args in
-    jobOf (x .em) (x .measure) (x .ratios) (x .profile) (x .class .now) (x .width .now) (x .before .now) (x .after .now) (x .flag .now) (x .rclass .now) (x .rwidth .now) (x .lclass .now) (x .lwidth .now) (x .kind .now) (x .ebase .now)
+    jobOf (x .em) (x .measure) (x .ratios) (x .profile) (x .class .now) (x .width .now) (x .before .now) (x .after .now) (x .flag .now) (x .rclass .now) (x .rwidth .now) (x .lclass .now)
+    (x .lwidth .now) (x .kind .now) (x .ebase .now)
     (x .eruby .now) (x .lkind .now) (x .eleft .now) (x .runs .now) (x .lruns .now)
 
-small : (c : tie.After-set-table-arg4) → baseCount (job (c .before .before .before .before .before .before .before .before .before .before .before .before .before .before .before .before .before .before .before .before .before .before .before .before .before .before .before .before .before)) ≤ 128
+small : (c : tie.After-set-table-arg4) → baseCount (job
+    (c .before .before .before .before .before .before .before .before .before .before .before .before .before .before .before .before .before .before .before .before .before .before
+    .before .before .before .before .before .before .before)) ≤ 128
 unfolding baseCount
 small c = subst (λ n. n ≤ 128) (c .before .before .before .before .before .before .before .before .base-count .ensures) (c .before .before .before .before .before .before .before .if1 .taken)
 

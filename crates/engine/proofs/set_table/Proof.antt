@@ -11,25 +11,30 @@ use Rattle.engine.proofs.set_table.Statement.{statement}
 use Rattle.engine.proofs.set_table.Tie as tie
 
 abbrev start : tie.After-fill-job → tie.Start
-start c = c .before .before .before .before .before .before .before .before .before .before .before .before .before .before .before .before .before .before .before .before .before .before .before .before .before .before .before
+start c = c .before .before .before .before .before .before .before .before .before .before .before .before .before .before .before .before .before .before .before .before .before .before
+    .before .before .before .before .before
 
 abbrev job : tie.Start → Job
 job a =
     let x = a .args in
-    jobOf (x .em) (x .measure) (x .ratios) (x .profile) (x .class .now) (x .width .now) (x .before .now) (x .after .now) (x .flag .now) (x .rclass .now) (x .rwidth .now) (x .lclass .now) (x .lwidth .now) (x .kind .now) (x .ebase .now)
+    jobOf (x .em) (x .measure) (x .ratios) (x .profile) (x .class .now) (x .width .now) (x .before .now) (x .after .now) (x .flag .now) (x .rclass .now) (x .rwidth .now) (x .lclass .now)
+    (x .lwidth .now) (x .kind .now) (x .ebase .now)
     (x .eruby .now) (x .lkind .now) (x .eleft .now) (x .runs .now) (x .lruns .now)
 
 -- what was found
 told : (c : tie.After-fill-job) {r : Lines} → c .fill-job .result ≡ r →
     let x = start c .args in
-    Fills (job (start c)) (length (x .base .now)) (length (x .ruby .now)) (length (x .left .now)) (length (x .lines .now)) (x .extents .now) (c .fill-job .last .0) (c .fill-job .last .1 .0) (c .fill-job .last .1 .1 .0) r
+    Fills (job (start c)) (length (x .base .now)) (length (x .ruby .now)) (length (x .left .now)) (length (x .lines .now)) (x .extents .now) (c .fill-job .last .0) (c .fill-job .last .1 .0)
+    (c .fill-job .last .1 .1 .0) r
 told c e =
     let x = start c .args in
-    subst (Fills (job (start c)) (length (x .base .now)) (length (x .ruby .now)) (length (x .left .now)) (length (x .lines .now)) (x .extents .now) (c .fill-job .last .0) (c .fill-job .last .1 .0) (c .fill-job .last .1 .1 .0)) e
+    subst (Fills (job (start c)) (length (x .base .now)) (length (x .ruby .now)) (length (x .left .now)) (length (x .lines .now)) (x .extents .now) (c .fill-job .last .0)
+    (c .fill-job .last .1 .0) (c .fill-job .last .1 .1 .0)) e
     (c .fill-job .ensures)
 
 fill-job-requires : tie.Need-fill-job-requires
-fill-job-requires c κs = c .before .before .before .before .before .before .before .before .before .before .before .before .before .before .before .before .before .before .before .before .before .before .before .before .before .before .pre
+fill-job-requires c κs = c .before .before .before .before .before .before .before .before .before .before .before .before .before .before .before .before .before .before .before .before
+    .before .before .before .before .before .before .pre
 
 enum-known-why : tie.Need-enum-known-why
 enum-known-why c = search needs
@@ -42,7 +47,8 @@ put-lines-requires c κs =
     let n = c .before .before .before .before .before .before in
     let f = n .before .before .before .before .before .before .before .before in
     let x = start f .args in
-    whole.ready (job (start f)) (x .base .now) (x .ruby .now) (x .left .now) (x .lines .now) (x .extents .now) (f .fill-job .last .0) (f .fill-job .last .1 .0) (f .fill-job .last .1 .1 .0) (n .n .given .0 .0)
+    whole.ready (job (start f)) (x .base .now) (x .ruby .now) (x .left .now) (x .lines .now) (x .extents .now) (f .fill-job .last .0) (f .fill-job .last .1 .0) (f .fill-job .last .1 .1 .0)
+    (n .n .given .0 .0)
     (told f (n .n .given .1))
 
 put-ends-requires : tie.Need-put-ends-requires
@@ -50,7 +56,8 @@ put-ends-requires c κs =
     let n = c .before .before .before .before .before .before .before .before .before .before .before .before .before .before .before in
     let f = n .before .before .before .before .before .before .before .before in
     let x = start f .args in
-    whole.room (job (start f)) (x .base .now) (x .ruby .now) (x .left .now) (x .lines .now) (x .extents .now) (f .fill-job .last .0) (f .fill-job .last .1 .0) (f .fill-job .last .1 .1 .0) (n .n .given .0 .0)
+    whole.room (job (start f)) (x .base .now) (x .ruby .now) (x .left .now) (x .lines .now) (x .extents .now) (f .fill-job .last .0) (f .fill-job .last .1 .0) (f .fill-job .last .1 .1 .0)
+    (n .n .given .0 .0)
     (told f (n .n .given .1))
 
 same-length : tie.Need-same-length
@@ -96,7 +103,8 @@ returns-2 c =
     let n = p .before .before .before .before .before .before .before in
     let f = n .before .before .before .before .before .before .before .before in
     let x = start f .args in (
-      whole.sets (job (start f)) (x .base .now) (x .ruby .now) (x .left .now) (x .lines .now) (x .extents .now) (f .fill-job .last .0) (f .fill-job .last .1 .0) (f .fill-job .last .1 .1 .0) (n .n .given .0 .0)
+      whole.sets (job (start f)) (x .base .now) (x .ruby .now) (x .left .now) (x .lines .now) (x .extents .now) (f .fill-job .last .0) (f .fill-job .last .1 .0) (f .fill-job .last .1 .1 .0)
+          (n .n .given .0 .0)
           (told f (n .n .given .1)) _ _ _ _ (p .put-lines .ensures) (e .put-ends .ensures),
       told f (n .n .given .1),
     )

@@ -48,14 +48,16 @@ far c =
 more : (c : tie.Else1 Inv-loop μ-loop) →
     let l = c .before .before .before in
     let a = l .before .before .before .before .args in
-    (l .loop .s < c .before .line-end .result .at) × (c .before .line-end .result .at ≤ a .n) × (a .n ≤ 1024) × (l .loop .k < length (l .loop .ends)) × (l .loop .k < length (l .loop .extents)) × (l .loop .s < a .n) × (l .loop .k < 1024)
+    (l .loop .s < c .before .line-end .result .at) × (c .before .line-end .result .at ≤ a .n) × (a .n ≤ 1024) × (l .loop .k < length (l .loop .ends)) × (l .loop .k < length (l .loop .extents)) ×
+    (l .loop .s < a .n) × (l .loop .k < 1024)
 more c =
     let l = c .before .before .before in
     let a = l .before .before .before .before .args in
     let q = l .loop .inv in
     let h = c .before .before .loop-test .taken in
     let e = c .before .line-end .result .at in
-    let f = lines.further (a .em) (a .limit) (a .t .now) (a .n) (a .ends .now) (l .loop .ends) (a .extents .now) (l .loop .extents) (l .loop .s) (l .loop .k) q h e (found (c .before)) (c .if1 .left) in
+    let f = lines.further (a .em) (a .limit) (a .t .now) (a .n) (a .ends .now) (l .loop .ends) (a .extents .now) (l .loop .extents) (l .loop .s) (l .loop .k) q h e (found (c .before))
+    (c .if1 .left) in
     let long = lines.long (a .em) (a .limit) (a .t .now) (a .n) (a .ends .now) (l .loop .ends) (a .extents .now) (l .loop .extents) (l .loop .s) (l .loop .k) q in
     let longFar = lines.long-far (a .em) (a .limit) (a .t .now) (a .n) (a .ends .now) (l .loop .ends) (a .extents .now) (l .loop .extents) (l .loop .s) (l .loop .k) q in
     (f .0, f .1, q .sound .few, omega (arith, long, q .room, q .few), omega (arith, longFar, q .roomFar, q .few), h, omega (arith, q .few, q .sound .few))
@@ -117,8 +119,10 @@ loop-again c =
     let l = x .before .before in
     let a = l .before .before .before .before .args in
     let e = x .line-end .result .at in
-    subst (λ z. lines.Sofar (a .em) (a .limit) (a .t .now) (a .n) (a .ends .now) (set (l .loop .ends) (l .loop .k) e) (a .extents .now) (set (l .loop .extents) (l .loop .k) z) e (l .loop .k + 1)) (sym (far x))
-    (lines.sofar-next (a .em) (a .limit) (a .t .now) (a .n) (a .ends .now) (l .loop .ends) (a .extents .now) (l .loop .extents) (l .loop .s) (l .loop .k) (l .loop .inv) (x .before .loop-test .taken) e (found x) (c .if1 .left))
+    subst (λ z. lines.Sofar (a .em) (a .limit) (a .t .now) (a .n) (a .ends .now) (set (l .loop .ends) (l .loop .k) e) (a .extents .now) (set (l .loop .extents) (l .loop .k) z) e
+    (l .loop .k + 1)) (sym (far x))
+    (lines.sofar-next (a .em) (a .limit) (a .t .now) (a .n) (a .ends .now) (l .loop .ends) (a .extents .now) (l .loop .extents) (l .loop .s) (l .loop .k) (l .loop .inv)
+    (x .before .loop-test .taken) e (found x) (c .if1 .left))
 
 same-length-3 : tie.Need-same-length-3 Inv-loop μ-loop
 same-length-3 c =

@@ -1,16 +1,16 @@
--- Number 5, then 16, then 6, each its row; past them stands the piece, and is laid with its left reading or without one.
+-- Number 5, then 6, each its row: without a left kind the right counts are all, and number 16 is not asked. Past them the left rows of none are written, and the piece is laid.
 use mathlib.Core.Path.{_≡_, refl, sym, ap, _∙_, subst}
 use mathlib.Core.Bool.{Bool, true, false, _||_}
 use Prim.Native.Nat.{ℕ, _+_, _≤_, _<_}
 use lib.Dec.{ltb}
-use lib.ListN.{length}
-use borrow.Author.Tests.{not-true, not-false}
+use lib.ListN.{length, getD}
 use borrow.Author.Needs.{needs}
 use native.Mathlib.Omega.{arith}
 use Rattle.word.specs.Both.{takes}
 use Rattle.door.specs.declared.Piece.{Piece}
 use Rattle.door.specs.declared.Counted.the-variants.{Is}
 use Rattle.door.specs.Job.{Job, jobOf, baseCount, rubyCount, leftCount}
+use Rattle.door.specs.Elements.{right-only}
 use Rattle.door.specs.Refusals.{runOut}
 use Rattle.door.specs.Whole.{element-within}
 use Rattle.door.specs.Walk as walk
@@ -38,15 +38,23 @@ few a = let s = standing a .stands in omega (arith, s .index, s .clean .fewEleme
 
 there : (a : tie.Start) →
     let x = a .args in
-    (x .k < length (x .kind .now)) × (x .k < length (x .ebase .now)) × (x .k < length (x .eruby .now)) × (x .k < length (x .lkind .now)) × (x .k < length (x .eleft .now))
+    (x .k < length (x .kind .now)) × (x .k < length (x .ebase .now)) × (x .k < length (x .eruby .now))
 there a =
     let i = standing a .stands .index in
     let e = element-within (job a) in
-    (omega (arith, i, e .0), omega (arith, i, e .1), omega (arith, i, e .2), omega (arith, i, e .3), omega (arith, i, e .4))
+    (omega (arith, i, e .0), omega (arith, i, e .1), omega (arith, i, e .2))
 
--- the entry, from the counting on
-abbrev start : tie.After-count-element → tie.Start
-start c = first (c .before .before .before .before .before .before)
+-- the entry, from the counting on: the right counts are all
+abbrev start : tie.After-count-right → tie.Start
+start c = first (c .before .before .before .before)
+
+counted : (c : tie.After-count-right) → let a = start c in walk.counting (job a) (a .args .k) (a .args .at) ≡ c .count-right .result
+counted c =
+    let a = start c in
+    let x = a .args in
+    sym (right-only (getD (x .kind .now) (x .k) 0) (getD (x .ebase .now) (x .k) 0) (getD (x .eruby .now) (x .k) 0) (getD (x .lkind .now) (x .k) 0) (getD (x .eleft .now) (x .k) 0)
+    (x .runs .now) (x .lruns .now) (x .at) (a .pre .4))
+    ∙ sym (c .count-right .ensures)
 
 -- the piece that was counted
 abbrev entry : tie.After-known-told → tie.Start
@@ -56,62 +64,50 @@ abbrev piece : tie.After-known-told → Piece
 piece c = c .before .counted .given .0 .0
 
 is : (c : tie.After-known-told) → let a = entry c in walk.counting (job a) (a .args .k) (a .args .at) ≡ Is (piece c)
-is c = sym (c .before .before .before .count-element .ensures) ∙ c .before .counted .given .1
+is c = counted (c .before .before .before) ∙ c .before .counted .given .1
+
+takes-it : (c : tie.After-known-told) → takes (piece c .form) (piece c .gloss) ≡ true
+takes-it c = let a = entry c in let x = a .args in one.bare-taken (job a) (x .k) (x .at) (x .t .now) (standing a) (piece c) (is c) (a .pre .4)
+
+none : (c : tie.After-known-told) → piece c .lefts ≡ 0
+none c = let a = entry c in let x = a .args in one.bare-none (job a) (x .k) (x .at) (x .t .now) (standing a) (piece c) (is c) (a .pre .4)
 
 -- what it takes is there
-abbrev known : tie.After-runs-out → tie.After-known-told
-known c = c .before .before .before
-
-takes-it : (c : tie.Else1) → let p = piece (c .before .before) in takes (p .form) (p .gloss) ≡ true
-takes-it c = sym (c .before .takes-left .ensures) ∙ not-false (c .before .takes-left .result) (c .if1 .left)
-
-out : (c : tie.After-runs-out) → c .runs-out .result ≡ runOut (job (entry (known c))) (piece (known c))
-out c = let a = entry (known c) in c .runs-out .ensures ∙ counted _ _ _ _ _ _ (a .pre .0) (a .pre .1) (a .pre .2)
+out : (c : tie.After-runs-out) → c .runs-out .result ≡ runOut (job (entry (c .before))) (piece (c .before))
+out c = let a = entry (c .before) in c .runs-out .ensures ∙ by-counts _ _ _ _ _ _ (a .pre .0) (a .pre .1) (a .pre .2)
   where
-    counted : (x y z b r l : ℕ) {b' r' l' : ℕ} → b ≡ b' → r ≡ r' → l ≡ l' → (ltb b x || (ltb r y || ltb l z)) ≡ (ltb b' x || (ltb r' y || ltb l' z))
-    counted x y z b r l e f g = rw (e, f, g)
+    by-counts : (x y z b r l : ℕ) {b' r' l' : ℕ} → b ≡ b' → r ≡ r' → l ≡ l' → (ltb b x || (ltb r y || ltb l z)) ≡ (ltb b' x || (ltb r' y || ltb l' z))
+    by-counts x y z b r l e f g = rw (e, f, g)
 
-supplied : (c : tie.Else2) → let k = known (c .before) in runOut (job (entry k)) (piece k) ≡ false
-supplied c = sym (out (c .before)) ∙ c .if2 .left
+supplied : (c : tie.Else1) → let k = c .before .before in runOut (job (entry k)) (piece k) ≡ false
+supplied c = sym (out (c .before)) ∙ c .if1 .left
 
 cast-place : tie.Need-cast-place
 cast-place c = omega (arith, few (first c))
 
-mul-count-element : tie.Need-mul-count-element
-mul-count-element c = omega (arith, few (first c))
+mul-count-right : tie.Need-mul-count-right
+mul-count-right c = omega (arith, few (first c))
 
-shared-slice-read-count-element : tie.Need-shared-slice-read-count-element
-shared-slice-read-count-element c = omega (arith, there (first (c .before)) .0)
+shared-slice-read-count-right : tie.Need-shared-slice-read-count-right
+shared-slice-read-count-right c = omega (arith, there (first (c .before)) .0)
 
-mul-count-element-2 : tie.Need-mul-count-element-2
-mul-count-element-2 c = omega (arith, few (first (c .before)))
+mul-count-right-2 : tie.Need-mul-count-right-2
+mul-count-right-2 c = omega (arith, few (first (c .before)))
 
-shared-slice-read-count-element-2 : tie.Need-shared-slice-read-count-element-2
-shared-slice-read-count-element-2 c = omega (arith, there (first (c .before .before)) .1)
+shared-slice-read-count-right-2 : tie.Need-shared-slice-read-count-right-2
+shared-slice-read-count-right-2 c = omega (arith, there (first (c .before .before)) .1)
 
-mul-count-element-3 : tie.Need-mul-count-element-3
-mul-count-element-3 c = omega (arith, few (first (c .before .before)))
+mul-count-right-3 : tie.Need-mul-count-right-3
+mul-count-right-3 c = omega (arith, few (first (c .before .before)))
 
-shared-slice-read-count-element-3 : tie.Need-shared-slice-read-count-element-3
-shared-slice-read-count-element-3 c = omega (arith, there (first (c .before .before .before)) .2)
+shared-slice-read-count-right-3 : tie.Need-shared-slice-read-count-right-3
+shared-slice-read-count-right-3 c = omega (arith, there (first (c .before .before .before)) .2)
 
-mul-count-element-4 : tie.Need-mul-count-element-4
-mul-count-element-4 c = omega (arith, few (first (c .before .before .before)))
-
-shared-slice-read-count-element-4 : tie.Need-shared-slice-read-count-element-4
-shared-slice-read-count-element-4 c = omega (arith, there (first (c .before .before .before .before)) .3)
-
-mul-count-element-5 : tie.Need-mul-count-element-5
-mul-count-element-5 c = omega (arith, few (first (c .before .before .before .before)))
-
-shared-slice-read-count-element-5 : tie.Need-shared-slice-read-count-element-5
-shared-slice-read-count-element-5 c = omega (arith, there (first (c .before .before .before .before .before)) .4)
-
-count-element-requires : tie.Need-count-element-requires
-count-element-requires c κs =
-    let s = standing (first (c .before .before .before .before .before)) .stands in
+count-right-requires : tie.Need-count-right-requires
+count-right-requires c κs =
+    let s = standing (first (c .before .before .before)) .stands in
     let w = s .within in
-    (omega (arith, w .runs, w .base, s .clean .few), omega (arith, w .leftRuns, w .base, s .clean .few))
+    omega (arith, w .runs, w .base, s .clean .few)
 
 enum-known-counted : tie.Need-enum-known-counted
 enum-known-counted c = search needs
@@ -124,134 +120,81 @@ returns c =
     let n = c .before .before in
     let a = start n in
     let x = a .args in
-    one.stopped (job a) (x .k) (x .at) (x .t .now) (standing a) (walk.out-stops (job a) (x .k) (x .at) (sym (n .count-element .ensures) ∙ c .enum-told .given .1))
-
-takes-left-requires : tie.Need-takes-left-requires
-takes-left-requires c κs = tt
-
-returns-2 : tie.Need-returns-2
-returns-2 c =
-    let t = c .before in
-    let k = t .before in
-    let a = entry k in
-    let x = a .args in
-    one.kind-stops (job a) (x .k) (x .at) (x .t .now) (standing a) (piece k) (is k) (sym (t .takes-left .ensures) ∙ not-true (t .takes-left .result) (c .if1 .taken))
+    one.stopped (job a) (x .k) (x .at) (x .t .now) (standing a) (walk.out-stops (job a) (x .k) (x .at) (counted n ∙ c .enum-told .given .1))
 
 runs-out-requires : tie.Need-runs-out-requires
 runs-out-requires c κs =
-    let k = c .before .before in
-    let a = entry k in
+    let a = entry c in
     let x = a .args in
-    one.small (job a) (x .k) (x .at) (x .t .now) (standing a) (piece k) (is k)
+    one.small (job a) (x .k) (x .at) (x .t .now) (standing a) (piece c) (is c)
 
-returns-3 : tie.Need-returns-3
-returns-3 c =
+returns-2 : tie.Need-returns-2
+returns-2 c =
     let r = c .before in
-    let k = known r in
+    let k = r .before in
     let a = entry k in
     let x = a .args in
-    one.short-stops (job a) (x .k) (x .at) (x .t .now) (standing a) (piece k) (is k) (takes-it (r .before)) (sym (out r) ∙ c .if2 .taken)
+    one.short-stops (job a) (x .k) (x .at) (x .t .now) (standing a) (piece k) (is k) (takes-it k) (sym (out r) ∙ c .if1 .taken)
 
-lay-left-requires : tie.Need-lay-left-requires
-lay-left-requires c κs =
-    let t = c .before in
-    let e = t .before .before in
-    let k = known (e .before) in
-    let a = entry k in
-    let x = a .args in
-    one.both-ready (job a) (x .k) (x .at) (x .t .now) (standing a) (piece k) (is k) (takes-it (e .before .before)) (supplied e) (t .if3 .taken)
-
-same-length : tie.Need-same-length
-same-length c = c .before .before .lay-left .ensures .long
-
-returns-4 : tie.Need-returns-4
-returns-4 c =
-    let m = c .before .before in
-    let t = m .before .before in
-    let e = t .before .before in
-    let k = known (e .before) in
-    let a = entry k in
-    let x = a .args in
-    one.both-judged (job a) (x .k) (x .at) (x .t .now) (standing a) (piece k) (is k) (takes-it (e .before .before)) (supplied e) (t .if3 .taken) (m .lay-left .ensures)
-
--- a word without left characters: its left rows are written first
-abbrev supply : tie.Else3 → tie.Else2
-supply o = o .before .before
-
-none : (o : tie.Else3) → piece (known (supply o .before)) .lefts ≡ 0
-none o = omega (arith, o .if3 .left)
-
+-- its left rows are written first
 add-put-bare : tie.Need-add-put-bare
 add-put-bare c =
-    let e = supply (c .before .before) in
-    let k = known (e .before) in
+    let k = c .before .before .before .before in
     let a = entry k in
     let x = a .args in
     omega (arith, one.small (job a) (x .k) (x .at) (x .t .now) (standing a) (piece k) (is k) .0)
 
 put-bare-requires : tie.Need-put-bare-requires
 put-bare-requires c κs =
-    let o = c .before .before in
-    let e = supply o in
-    let k = known (e .before) in
+    let e = c .before .before in
+    let k = e .before .before in
     let a = entry k in
     let x = a .args in
     let p = piece k in
     subst (λ n. BareReady (p .left) (p .base) (p .base + p .bases) n (x .t .now)) (sym (a .pre .2))
-    (one.bare-ready (job a) (x .k) (x .at) (x .t .now) (standing a) p (is k) (takes-it (e .before .before)) (supplied e) (none o))
+    (one.bare-ready (job a) (x .k) (x .at) (x .t .now) (standing a) p (is k) (takes-it k) (supplied e) (none k))
 
 lay-alone-requires : tie.Need-lay-alone-requires
 lay-alone-requires c κs =
     let b = c .before .before .before in
-    let o = b .before .before .before in
-    let e = supply o in
-    let k = known (e .before) in
+    let e = b .before .before .before in
+    let k = e .before .before in
     let a = entry k in
     let x = a .args in
-    one.alone-ready (job a) (x .k) (x .at) (x .t .now) (standing a) (piece k) (is k) (takes-it (e .before .before)) (supplied e) (none o) (b .put-bare .last .0) (b .put-bare .ensures)
+    one.alone-ready (job a) (x .k) (x .at) (x .t .now) (standing a) (piece k) (is k) (takes-it k) (supplied e) (none k) (b .put-bare .last .0) (b .put-bare .ensures)
 
-same-length-2 : tie.Need-same-length-2
-same-length-2 c = let m = c .before .before in m .lay-alone .ensures .long ∙ m .before .before .before .before .put-bare .ensures .long
+same-length : tie.Need-same-length
+same-length c = let m = c .before .before in m .lay-alone .ensures .long ∙ m .before .before .before .before .put-bare .ensures .long
 
-returns-5 : tie.Need-returns-5
-returns-5 c =
+returns-3 : tie.Need-returns-3
+returns-3 c =
     let m = c .before .before in
     let b = m .before .before .before .before in
-    let o = b .before .before .before in
-    let e = supply o in
-    let k = known (e .before) in
+    let e = b .before .before .before in
+    let k = e .before .before in
     let a = entry k in
     let x = a .args in
-    one.alone-judged (job a) (x .k) (x .at) (x .t .now) (standing a) (piece k) (is k) (takes-it (e .before .before)) (supplied e) (none o) (b .put-bare .ensures) (m .lay-alone .ensures)
+    one.alone-judged (job a) (x .k) (x .at) (x .t .now) (standing a) (piece k) (is k) (takes-it k) (supplied e) (none k) (b .put-bare .ensures) (m .lay-alone .ensures)
 
 pub lay-word-spec : {M : Type 1} → statement M
 lay-word-spec =
     tie.close
     (tie.spec
     cast-place
-    mul-count-element
-    shared-slice-read-count-element
-    mul-count-element-2
-    shared-slice-read-count-element-2
-    mul-count-element-3
-    shared-slice-read-count-element-3
-    mul-count-element-4
-    shared-slice-read-count-element-4
-    mul-count-element-5
-    shared-slice-read-count-element-5
-    count-element-requires
+    mul-count-right
+    shared-slice-read-count-right
+    mul-count-right-2
+    shared-slice-read-count-right-2
+    mul-count-right-3
+    shared-slice-read-count-right-3
+    count-right-requires
     enum-known-counted
     enum-told
     returns
-    takes-left-requires
-    returns-2
     runs-out-requires
-    returns-3
-    lay-left-requires
-    same-length
-    returns-4
+    returns-2
     add-put-bare
     put-bare-requires
     lay-alone-requires
-    same-length-2
-    returns-5)
+    same-length
+    returns-3)

@@ -2,7 +2,7 @@
 use mathlib.Core.Path.{_≡_, refl, sym, ap, ap₂, _∙_, subst}
 use mathlib.Core.Bool.{Bool, true, false, _&&_, _||_, false≢true}
 use mathlib.Core.List.{List}
-use Prim.Native.Nat.{ℕ, _+_, _-_, _≤_, _<_}
+use Prim.Native.Nat.{ℕ, _+_, _-_, _^_, _≤_, _<_}
 use lib.Dec.{ltb, eqb}
 use lib.ListN.{length, getD}
 use borrow.Author.Tests.{lt-ltb, ltb-true, eq-eqb, eqb-true}
@@ -14,6 +14,7 @@ use Rattle.refusal.specs.declared.Refusal.the-variants.{Supply}
 use Rattle.door.specs.declared.Checked.the-variants.{Passed, Refused}
 use Rattle.door.specs.declared.Piece.{Piece}
 use Rattle.door.specs.declared.Taken.{Taken}
+use Rattle.door.specs.declared.Step.{Step}
 use Rattle.door.specs.declared.Step.the-variants.{Next, Stop}
 use Rattle.door.specs.Job.{Job, jobOf, baseCount, rubyCount, leftCount, elementCount}
 use Rattle.door.specs.Job as door
@@ -25,7 +26,7 @@ use Rattle.door.specs.Loop as loop
 use Rattle.door.specs.Loop.{partFaults, Along}
 use Rattle.cells.specs.Put.{headed, length-headed}
 use Rattle.layout.specs.Table.{leftFrom, BareReady}
-use Rattle.layout.specs.Lay.{Stepped}
+use Rattle.layout.specs.Lay.{Standing, Stepped}
 use Rattle.layout.specs.Walk as walk
 use Rattle.layout.specs.Walk.{Walking}
 use Rattle.layout.proofs.layout.Statement.{statement}
@@ -151,18 +152,41 @@ left c = omega (arith, c .if3 .left, bases-are (counts (outer (c .before .before
 few : (l : tie.At-loop Inv-loop2 μ-loop2 Inv-loop μ-loop) → elementCount (job (start l)) ≤ 1024
 few l = l .loop .inv .ready .fewElements
 
--- one element, by the job's own counts
-stepped : (c : tie.After-lay-word Inv-loop2 μ-loop2 Inv-loop μ-loop) →
-    let l = c .before .before .before .before .before in
-    Stepped (job (start l)) (l .loop .k) (l .loop .at) (l .loop .t) (c .lay-word .last .0) (c .lay-word .result)
-stepped c = c .lay-word .ensures
+-- One element, however it was laid.
 
--- a word that passed takes the walk on
-went : (c : tie.After-known-told2 Inv-loop2 μ-loop2 Inv-loop μ-loop) →
-    let w = c .before .before .before .before .before in
-    let l = w .before .before .before .before .before in
-    Next (c .before .p .given .0 .0) ≡ elementStep (job (start l)) (l .loop .k) (l .loop .at)
-went c = sym (c .before .p .given .1) ∙ stepped (c .before .before .before .before .before) .step
+abbrev Laid : tie.In-loop Inv-loop2 μ-loop2 Inv-loop μ-loop → List ℕ → Step → Type 0
+Laid i v s = let l = i .before in Stepped (job (start l)) (l .loop .k) (l .loop .at) (l .loop .t) v s
+
+laid-long : (i : tie.In-loop Inv-loop2 μ-loop2 Inv-loop μ-loop) {v : List ℕ} {s : Step} → Laid i v s → length v ≡ length (start (i .before) .args .t .now)
+laid-long i h = h .long ∙ i .before .loop .inv .long ∙ long (i .before)
+
+-- a refusal ends the walk
+laid-stops : (i : tie.In-loop Inv-loop2 μ-loop2 Inv-loop μ-loop) {v : List ℕ} {s : Step} → Laid i v s → {q : Refusal} → s ≡ Stop q → Refused q ≡ verdict (partFaults (job (start (i .before))))
+laid-stops i h e = refuses (i .before) (i .before .loop .inv) (before-end i) _ (sym e ∙ h .step)
+
+-- a piece takes it on
+module _ (i : tie.In-loop Inv-loop2 μ-loop2 Inv-loop μ-loop) {v : List ℕ} {s : Step} (h : Laid i v s) {p : Piece} (e : s ≡ Next p) where
+  abbrev l : tie.At-loop Inv-loop2 μ-loop2 Inv-loop μ-loop
+  l = i .before
+
+  abbrev j : Job
+  j = job (start l)
+
+  went : Next p ≡ elementStep j (l .loop .k) (l .loop .at)
+  went = sym e ∙ h .step
+
+  laid-small : (l .loop .at .base + p .bases < 2 ^ 40) × (l .loop .at .ruby + p .rubies < 2 ^ 40) × (l .loop .at .run + p .bases < 2 ^ 40) × (l .loop .at .left + p .lefts < 2 ^ 40)
+      × (l .loop .at .leftrun + p .bases < 2 ^ 40)
+  laid-small = loop.past-small j (l .loop .k) (l .loop .at) (l .loop .inv .along) (stands i) went
+
+  laid-again : {at : Taken} → at ≡ door.past (l .loop .at) p → Walking j (table l) v (l .loop .k + 1) at
+  laid-again f =
+      let along = l .loop .inv .along in
+      let same = loop.same j (l .loop .k) (l .loop .at) along (stands i) went in
+      subst (Walking j (table l) v (l .loop .k + 1)) (sym f)
+      (subst (λ z. Walking j (table l) v (l .loop .k + 1) (door.past (l .loop .at) z)) (sym same)
+      (walk.walking-next j (table l) (l .loop .t) (l .loop .k) (l .loop .at) (l .loop .inv) (before-end i) v (h .laid p e)
+      (subst (λ z. Along j (l .loop .k + 1) (door.past (l .loop .at) z)) same (loop.along-next j (l .loop .k) (l .loop .at) along (stands i) went))))
 
 element-count-requires : tie.Need-element-count-requires Inv-loop2 μ-loop2 Inv-loop μ-loop
 element-count-requires c κs = search needs
@@ -205,8 +229,8 @@ is-plain-requires-2 c κs =
     let n = elements-are (counts l) in
     (omega (arith, walking c .along .upto, few l), omega (arith, n, e .0), omega (arith, n, e .3))
 
-cast-t37 : tie.Need-cast-t37 Inv-loop2 μ-loop2 Inv-loop μ-loop
-cast-t37 c = let p = c .before .before in omega (arith, plain p .0, few (outer (p .before .before)))
+cast-t39 : tie.Need-cast-t39 Inv-loop2 μ-loop2 Inv-loop μ-loop
+cast-t39 c = let p = c .before .before in omega (arith, plain p .0, few (outer (p .before .before)))
 
 same-length : tie.Need-same-length Inv-loop2 μ-loop2 Inv-loop μ-loop
 same-length c = let m = c .before .before .before .before in walking m .long ∙ long (outer m)
@@ -302,68 +326,97 @@ loop-less c = omega (arith, passed c, inner (c .before .before) .loop-test .take
 loop-again : tie.Need-loop-again Inv-loop2 μ-loop2 Inv-loop μ-loop
 loop-again c = walking (c .before .before)
 
-lay-word-requires : tie.Need-lay-word-requires Inv-loop2 μ-loop2 Inv-loop μ-loop
-lay-word-requires c κs =
-    let e = c .before in
+mul-if4 : tie.Need-mul-if4 Inv-loop2 μ-loop2 Inv-loop μ-loop
+mul-if4 c = let i = c .before .before in omega (arith, before-end i, few (i .before))
+
+shared-slice-read-if4 : tie.Need-shared-slice-read-if4 Inv-loop2 μ-loop2 Inv-loop μ-loop
+shared-slice-read-if4 c = let i = c .before .before .before in omega (arith, before-end i, element-within (job (start (i .before))) .3)
+
+-- it is no P without a left reading
+standing : (e : tie.Else1 Inv-loop2 μ-loop2 Inv-loop μ-loop) → let l = e .before .before .before in Standing (job (start l)) (l .loop .k) (l .loop .at) (l .loop .t)
+standing e =
     let i = e .before .before in
     let l = i .before in
-    let n = counts l in
-    let a = start l .args in (
-      bases-are n,
-      rubies-are n,
-      lefts-are n,
-      walk.standing (job (start l)) (table l) (l .loop .t) (l .loop .k) (l .loop .at) (l .loop .inv) (before-end i)
-          (λ p q. neither (l .loop .k) _ (a .kind .now) (a .lkind .now) (i .loop-test .taken) p q (sym (e .before .is-plain .ensures) ∙ e .if1 .left)),
-    )
+    let a = start l .args in
+    walk.standing (job (start l)) (table l) (l .loop .t) (l .loop .k) (l .loop .at) (l .loop .inv) (before-end i)
+    (λ p q. neither (l .loop .k) _ (a .kind .now) (a .lkind .now) (i .loop-test .taken) p q (sym (e .before .is-plain .ensures) ∙ e .if1 .left))
   where
     neither : (k n : ℕ) (ks ls : List ℕ) → k < n → getD ks k 0 ≡ 80 → getD ls k 0 ≡ 78 → (ltb k n && (eqb (getD ks k 0) 80 && eqb (getD ls k 0) 78)) ≡ false → ⊥
     neither k n ks ls h p q e = false≢true (sym e ∙ rw (lt-ltb k n h, eq-eqb (getD ks k 0) 80 p, eq-eqb (getD ls k 0) 78 q))
+
+-- without a left kind
+abbrev alone : tie.After-lay-word Inv-loop2 μ-loop2 Inv-loop μ-loop → tie.In-loop Inv-loop2 μ-loop2 Inv-loop μ-loop
+alone w = w .before .before .before .before .before .before
+
+lay-word-requires : tie.Need-lay-word-requires Inv-loop2 μ-loop2 Inv-loop μ-loop
+lay-word-requires c κs =
+    let t = c .before in
+    let e = t .before .before in
+    let n = counts (e .before .before .before) in
+    (bases-are n, rubies-are n, lefts-are n, standing e, t .if4 .taken)
 
 enum-known-why : tie.Need-enum-known-why Inv-loop2 μ-loop2 Inv-loop μ-loop
 enum-known-why c = search needs
 
 same-length-2 : tie.Need-same-length-2 Inv-loop2 μ-loop2 Inv-loop μ-loop
-same-length-2 c =
-    let w = c .before .before .before .before .before in
-    let l = w .before .before .before .before .before in
-    stepped w .long ∙ l .loop .inv .long ∙ long l
+same-length-2 c = let w = c .before .before .before .before .before in laid-long (alone w) (w .lay-word .ensures)
 
 returns-2 : tie.Need-returns-2 Inv-loop2 μ-loop2 Inv-loop μ-loop
-returns-2 c =
-    let w = c .before .before .before .before .before in
-    let i = w .before .before .before .before in
-    (refuses (i .before) (i .before .loop .inv) (before-end i) _ (sym (c .before .why .given .1) ∙ stepped w .step), λ e. absurd (refused-passed e))
+returns-2 c = let w = c .before .before .before .before .before in (laid-stops (alone w) (w .lay-word .ensures) (c .before .why .given .1), λ e. absurd (refused-passed e))
 
 enum-known-p : tie.Need-enum-known-p Inv-loop2 μ-loop2 Inv-loop μ-loop
 enum-known-p c = search needs
 
 past-requires : tie.Need-past-requires Inv-loop2 μ-loop2 Inv-loop μ-loop
-past-requires c κs =
-    let i = c .before .before .before .before .before .before .before .before .before in
-    let l = i .before in
-    loop.past-small (job (start l)) (l .loop .k) (l .loop .at) (l .loop .inv .along) (stands i) (went c)
+past-requires c κs = let w = c .before .before .before .before .before in laid-small (alone w) (w .lay-word .ensures) (c .before .p .given .1)
 
 add-k-2 : tie.Need-add-k-2 Inv-loop2 μ-loop2 Inv-loop μ-loop
-add-k-2 c = let i = c .before .before .before .before .before .before .before .before .before .before in omega (arith, before-end i, few (i .before))
+add-k-2 c = let i = alone (c .before .before .before .before .before .before) in omega (arith, before-end i, few (i .before))
 
 loop-less-2 : tie.Need-loop-less-2 Inv-loop2 μ-loop2 Inv-loop μ-loop
-loop-less-2 c = omega (arith, (c .before .before .before .before .before .before .before .before .before .before) .loop-test .taken)
+loop-less-2 c = omega (arith, alone (c .before .before .before .before .before .before) .loop-test .taken)
 
 loop-again-2 : tie.Need-loop-again-2 Inv-loop2 μ-loop2 Inv-loop μ-loop
 loop-again-2 c =
-    let p = c .before in
-    let w = p .before .before .before .before .before in
-    let i = w .before .before .before .before in
-    let l = i .before in
-    let j = job (start l) in
-    let along = l .loop .inv .along in
-    let same = loop.same j (l .loop .k) (l .loop .at) along (stands i) (went p) in
-    let x = p .before .p .given .0 .0 in
-    let v = w .lay-word .last .0 in
-    subst (Walking j (table l) v (l .loop .k + 1)) (sym (c .past .ensures))
-    (subst (λ z. Walking j (table l) v (l .loop .k + 1) (door.past (l .loop .at) z)) (sym same)
-    (walk.walking-next j (table l) (l .loop .t) (l .loop .k) (l .loop .at) (l .loop .inv) (before-end i) v (stepped w .laid x (p .before .p .given .1))
-    (subst (λ z. Along j (l .loop .k + 1) (door.past (l .loop .at) z)) same (loop.along-next j (l .loop .k) (l .loop .at) along (stands i) (went p)))))
+    let w = c .before .before .before .before .before .before in
+    laid-again (alone w) (w .lay-word .ensures) (c .before .before .p .given .1) (c .past .ensures)
+
+-- with one
+abbrev glossed : tie.After-lay-both Inv-loop2 μ-loop2 Inv-loop μ-loop → tie.In-loop Inv-loop2 μ-loop2 Inv-loop μ-loop
+glossed w = w .before .before .before .before .before .before
+
+lay-both-requires : tie.Need-lay-both-requires Inv-loop2 μ-loop2 Inv-loop μ-loop
+lay-both-requires c κs =
+    let t = c .before in
+    let e = t .before .before in
+    let n = counts (e .before .before .before) in
+    (bases-are n, rubies-are n, lefts-are n, standing e, t .if4 .left)
+
+enum-known-why-2 : tie.Need-enum-known-why-2 Inv-loop2 μ-loop2 Inv-loop μ-loop
+enum-known-why-2 c = search needs
+
+same-length-3 : tie.Need-same-length-3 Inv-loop2 μ-loop2 Inv-loop μ-loop
+same-length-3 c = let w = c .before .before .before .before .before in laid-long (glossed w) (w .lay-both .ensures)
+
+returns-3 : tie.Need-returns-3 Inv-loop2 μ-loop2 Inv-loop μ-loop
+returns-3 c = let w = c .before .before .before .before .before in (laid-stops (glossed w) (w .lay-both .ensures) (c .before .why2 .given .1), λ e. absurd (refused-passed e))
+
+enum-known-p-2 : tie.Need-enum-known-p-2 Inv-loop2 μ-loop2 Inv-loop μ-loop
+enum-known-p-2 c = search needs
+
+past-requires-2 : tie.Need-past-requires-2 Inv-loop2 μ-loop2 Inv-loop μ-loop
+past-requires-2 c κs = let w = c .before .before .before .before .before in laid-small (glossed w) (w .lay-both .ensures) (c .before .p2 .given .1)
+
+add-k-3 : tie.Need-add-k-3 Inv-loop2 μ-loop2 Inv-loop μ-loop
+add-k-3 c = let i = glossed (c .before .before .before .before .before .before) in omega (arith, before-end i, few (i .before))
+
+loop-less-3 : tie.Need-loop-less-3 Inv-loop2 μ-loop2 Inv-loop μ-loop
+loop-less-3 c = omega (arith, glossed (c .before .before .before .before .before .before) .loop-test .taken)
+
+loop-again-3 : tie.Need-loop-again-3 Inv-loop2 μ-loop2 Inv-loop μ-loop
+loop-again-3 c =
+    let w = c .before .before .before .before .before .before in
+    laid-again (glossed w) (w .lay-both .ensures) (c .before .before .p2 .given .1) (c .past2 .ensures)
 
 -- what is left over decides
 ended : (c : tie.After-left-over Inv-loop2 μ-loop2 Inv-loop μ-loop) → let j = job (start (c .before .before)) in verdict (Supply (elementCount j) when c .left-over .result) ≡ verdict (partFaults j)
@@ -381,20 +434,8 @@ ended c =
 left-over-requires : tie.Need-left-over-requires Inv-loop2 μ-loop2 Inv-loop μ-loop
 left-over-requires c κs = search needs
 
-cast-t49 : tie.Need-cast-t49 Inv-loop2 μ-loop2 Inv-loop μ-loop
-cast-t49 c = let l = c .before .before .before in omega (arith, elements-are (counts l), few l)
-
-same-length-3 : tie.Need-same-length-3 Inv-loop2 μ-loop2 Inv-loop μ-loop
-same-length-3 c = let l = c .before .before .before in l .loop .inv .long ∙ long l
-
-returns-3 : tie.Need-returns-3 Inv-loop2 μ-loop2 Inv-loop μ-loop
-returns-3 c =
-    let o = c .before in
-    let l = o .before .before in
-    let j = job (start l) in (
-      ap (λ n. Refused (Supply n)) (elements-are (counts l)) ∙ subst (λ z. verdict (Supply (elementCount j) when z) ≡ verdict (partFaults j)) (c .if4 .taken) (ended o),
-      λ e. absurd (refused-passed e),
-    )
+cast-t57 : tie.Need-cast-t57 Inv-loop2 μ-loop2 Inv-loop μ-loop
+cast-t57 c = let l = c .before .before .before in omega (arith, elements-are (counts l), few l)
 
 same-length-4 : tie.Need-same-length-4 Inv-loop2 μ-loop2 Inv-loop μ-loop
 same-length-4 c = let l = c .before .before .before in l .loop .inv .long ∙ long l
@@ -402,10 +443,22 @@ same-length-4 c = let l = c .before .before .before in l .loop .inv .long ∙ lo
 returns-4 : tie.Need-returns-4 Inv-loop2 μ-loop2 Inv-loop μ-loop
 returns-4 c =
     let o = c .before in
+    let l = o .before .before in
+    let j = job (start l) in (
+      ap (λ n. Refused (Supply n)) (elements-are (counts l)) ∙ subst (λ z. verdict (Supply (elementCount j) when z) ≡ verdict (partFaults j)) (c .if5 .taken) (ended o),
+      λ e. absurd (refused-passed e),
+    )
+
+same-length-5 : tie.Need-same-length-5 Inv-loop2 μ-loop2 Inv-loop μ-loop
+same-length-5 c = let l = c .before .before .before in l .loop .inv .long ∙ long l
+
+returns-5 : tie.Need-returns-5 Inv-loop2 μ-loop2 Inv-loop μ-loop
+returns-5 c =
+    let o = c .before in
     let e = o .before in
     let l = e .before in
     let j = job (start l) in (
-      subst (λ z. verdict (Supply (elementCount j) when z) ≡ verdict (partFaults j)) (c .if4 .left) (ended o),
+      subst (λ z. verdict (Supply (elementCount j) when z) ≡ verdict (partFaults j)) (c .if5 .left) (ended o),
       λ _. walk.walking-end j (table l) (l .loop .t) (l .loop .k) (l .loop .at) (l .loop .inv) (omega (arith, e .loop-test .left, elements-are (counts l))),
     )
 
@@ -427,7 +480,7 @@ layout-spec =
     is-plain-requires
     loop2-holds
     is-plain-requires-2
-    cast-t37
+    cast-t39
     same-length
     returns
     add-put-bare
@@ -439,6 +492,8 @@ layout-spec =
     loop2-again
     loop-less
     loop-again
+    mul-if4
+    shared-slice-read-if4
     lay-word-requires
     enum-known-why
     same-length-2
@@ -448,9 +503,18 @@ layout-spec =
     add-k-2
     loop-less-2
     loop-again-2
-    left-over-requires
-    cast-t49
+    lay-both-requires
+    enum-known-why-2
     same-length-3
     returns-3
+    enum-known-p-2
+    past-requires-2
+    add-k-3
+    loop-less-3
+    loop-again-3
+    left-over-requires
+    cast-t57
     same-length-4
-    returns-4)
+    returns-4
+    same-length-5
+    returns-5)

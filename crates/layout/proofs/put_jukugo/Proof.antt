@@ -1,25 +1,21 @@
--- Of one character it has one row with its word, of more one by its run for each. Both are the rows of a J that is laid by runs.
+-- Of one character it has one row with its word, which is its row by runs; of more one by its run for each.
 use mathlib.Core.Path.{_≡_}
 use Prim.Native.Nat.{ℕ, _+_, _<_}
 use native.Mathlib.Omega.{arith}
-use Rattle.join.specs.Rows.{none}
 use Rattle.door.specs.Job.{Job}
 use Rattle.layout.specs.Table.{filled-one, filled-as}
-use Rattle.layout.specs.Runs.{runsOnly, singleRow, jukugoRow, runs-any, single-row, cut-row}
+use Rattle.layout.specs.Runs.{runsOnly, singleRow, jukugoRow, runs-any, single-row}
 use Rattle.layout.proofs.put_jukugo.Statement.{statement}
 use Rattle.layout.proofs.put_jukugo.Tie as tie
 
 abbrev job : tie.Start → Job
 job a = let x = a .args in runsOnly (x .em) (x .rclass .now) (x .rwidth .now) (x .runs .now)
 
-several : (e : tie.Else1) → 1 < e .before .before .before .before .before .before .args .p .bases
-several e = omega (arith, e .if1 .left, e .before .before .before .before .before .before .pre .0)
-
 put-single-requires : tie.Need-put-single-requires
 put-single-requires c κs = let t = c .before in (t .if1 .taken, runs-any (t .before .before .before .before .before .before .pre .1))
 
 put-runs-requires : tie.Need-put-runs-requires
-put-runs-requires c κs = let e = c .before in (several e, e .before .before .before .before .before .before .pre .1)
+put-runs-requires c κs = c .before .before .before .before .before .before .before .pre .1
 
 same-length : tie.Need-same-length
 same-length c = c .before .before .put-single .ensures .long
@@ -40,14 +36,7 @@ same-length-2 : tie.Need-same-length-2
 same-length-2 c = c .before .before .put-runs .ensures .long
 
 returns-2 : tie.Need-returns-2
-returns-2 c =
-    let put = c .before .before in
-    let e = put .before .before in
-    let a = e .before .before .before .before .before .before in
-    let x = a .args in
-    let p = x .p in
-    filled-as (jukugoRow (job a) p none (x .ends)) (jukugoRow (job a) p (x .w) (x .ends)) (p .base) (p .base + p .bases) (x .t .now) (put .put-runs .last .0)
-    (λ i l m. cut-row (job a) p (x .w) (x .ends) i (several e)) (put .put-runs .ensures)
+returns-2 c = c .before .before .put-runs .ensures
 
 pub put-jukugo-spec : {M : Type 1} → statement M
 put-jukugo-spec =

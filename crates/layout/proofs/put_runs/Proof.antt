@@ -8,7 +8,7 @@ use native.Mathlib.Omega.{arith}
 use Rattle.cells.specs.Put.{Puts}
 use Rattle.door.specs.Job.{Job}
 use Rattle.line.specs.declared.Side.the-variants.{Right}
-use Rattle.join.specs.Rows.{runAt, runWidth, none}
+use Rattle.join.specs.Rows.{runAt, runWidth}
 use Rattle.layout.specs.declared.Cursor.{Cursor}
 use Rattle.layout.specs.Table.{Filled, filled-none, filled-more, upto-end}
 use Rattle.layout.specs.Runs.{runsOnly, cursorAt, jukugoRow, run-row, past-run, RunReads, reads-at, class-at, own-at, past-ready, cursor-first, cursor-next}
@@ -16,12 +16,12 @@ use Rattle.layout.proofs.put_runs.Statement.{statement}
 use Rattle.layout.proofs.put_runs.Tie as tie
 
 abbrev Inv-loop : tie.InvT-loop
-Inv-loop t₀ p ends em rclass rwidth runs n at₀ i₀ t at i =
+Inv-loop t₀ p w ends em rclass rwidth runs n at₀ i₀ t at i =
     let job = runsOnly em rclass rwidth runs in
-    (p .base ≤ i) × (i ≤ n) × (at ≡ cursorAt job p (i - p .base)) × Filled (jukugoRow job p none ends) (p .base) i t₀ t
+    (p .base ≤ i) × (i ≤ n) × (at ≡ cursorAt job p (i - p .base)) × Filled (jukugoRow job p w ends) (p .base) i t₀ t
 
 abbrev μ-loop : tie.MeasureT-loop
-μ-loop t₀ p ends em rclass rwidth runs n at₀ i₀ t at i = n - i
+μ-loop t₀ p w ends em rclass rwidth runs n at₀ i₀ t at i = n - i
 
 abbrev job : tie.Start Inv-loop μ-loop → Job
 job a = runsOnly (a .args .em) (a .args .rclass .now) (a .args .rwidth .now) (a .args .runs .now)
@@ -37,7 +37,7 @@ reads : (c : tie.In-loop Inv-loop μ-loop) →
 reads c =
     let l = c .before in
     let a = l .before .before .before .before .before .before in
-    reads-at (job a) (a .args .p) (a .args .t .now) (a .pre .1) (l .loop .i - a .args .p .base) (inside c) (l .loop .at) (l .loop .inv .2)
+    reads-at (job a) (a .args .p) (a .args .t .now) (a .pre) (l .loop .i - a .args .p .base) (inside c) (l .loop .at) (l .loop .inv .2)
 
 -- its width
 wide : (c : tie.After-run-width Inv-loop μ-loop) →
@@ -48,16 +48,16 @@ wide c =
     let i = c .before .before .before .before in
     let l = i .before in
     let a = l .before .before .before .before .before .before in
-    c .run-width .ensures ∙ own-at (job a) (a .args .p) (a .args .t .now) (a .pre .1) (l .loop .i - a .args .p .base) (inside i) (l .loop .at) (l .loop .inv .2)
+    c .run-width .ensures ∙ own-at (job a) (a .args .p) (a .args .t .now) (a .pre) (l .loop .i - a .args .p .base) (inside i) (l .loop .at) (l .loop .inv .2)
 
 add-n : tie.Need-add-n Inv-loop μ-loop
-add-n c = omega (arith, c .before .before .before .before .before .pre .1 .own .small)
+add-n c = omega (arith, c .before .before .before .before .before .pre .own .small)
 
 loop-holds : tie.Need-loop-holds Inv-loop μ-loop
 loop-holds c =
     let a = c .before .before .before .before .before in
     let x = a .args in
-    (omega arith, omega arith, cursor-first (job a) (x .p), filled-none (jukugoRow (job a) (x .p) none (x .ends)) (x .p .base) (x .t .now))
+    (omega arith, omega arith, cursor-first (job a) (x .p), filled-none (jukugoRow (job a) (x .p) (x .w) (x .ends)) (x .p .base) (x .t .now))
 
 sub-run : tie.Need-sub-run Inv-loop μ-loop
 sub-run c = omega (arith, c .before .before .loop .inv .0)
@@ -66,19 +66,19 @@ add-run : tie.Need-add-run Inv-loop μ-loop
 add-run c =
     let i = c .before .before in
     let a = i .before .before .before .before .before .before .before in
-    omega (arith, inside i, a .pre .1 .own .few, a .pre .1 .own .fewRuns)
+    omega (arith, inside i, a .pre .own .few, a .pre .own .fewRuns)
 
 mul-run : tie.Need-mul-run Inv-loop μ-loop
 mul-run c =
     let i = c .before .before in
     let a = i .before .before .before .before .before .before .before in
-    omega (arith, inside i, a .pre .1 .own .few, a .pre .1 .own .fewRuns)
+    omega (arith, inside i, a .pre .own .few, a .pre .own .fewRuns)
 
 shared-slice-read-run : tie.Need-shared-slice-read-run Inv-loop μ-loop
 shared-slice-read-run c =
     let i = c .before .before .before in
     let a = i .before .before .before .before .before .before .before in
-    omega (arith, inside i, a .pre .1 .own .runs)
+    omega (arith, inside i, a .pre .own .runs)
 
 cast-run-width : tie.Need-cast-run-width Inv-loop μ-loop
 cast-run-width c = omega (arith, reads (c .before .before .before) .few)
@@ -97,7 +97,7 @@ shared-slice-read-is-western c =
     let i = c .before .before .before .before .before in
     let l = i .before in
     let a = l .before .before .before .before .before .before in
-    class-at (job a) (a .args .p) (a .args .t .now) (a .pre .1) (l .loop .i - a .args .p .base) (inside i) (l .loop .at) (l .loop .inv .2)
+    class-at (job a) (a .args .p) (a .args .t .now) (a .pre) (l .loop .i - a .args .p .base) (inside i) (l .loop .at) (l .loop .inv .2)
 
 is-western-requires : tie.Need-is-western-requires Inv-loop μ-loop
 is-western-requires c κs = search needs
@@ -106,14 +106,14 @@ run-row-requires : tie.Need-run-row-requires Inv-loop μ-loop
 run-row-requires c κs =
     let i = c .before .before .before .before .before .before in
     let a = i .before .before .before .before .before .before .before in
-    (a .pre .0, omega (arith, i .before .loop .inv .1), a .pre .1 .own .small, omega (arith, reads i .few))
+    (omega (arith, i .before .loop .inv .1), a .pre .own .small, omega (arith, reads i .few))
 
 put-cell-requires : tie.Need-put-cell-requires Inv-loop μ-loop
 put-cell-requires c κs =
     let i = c .before .before .before .before .before .before .before .before in
     let l = i .before in
     let a = l .before .before .before .before .before .before in
-    omega (arith, a .pre .1 .held, l .loop .inv .3 .long, i .loop-test .taken)
+    omega (arith, a .pre .held, l .loop .inv .3 .long, i .loop-test .taken)
 
 past-run-requires : tie.Need-past-run-requires Inv-loop μ-loop
 past-run-requires c κs =
@@ -121,13 +121,13 @@ past-run-requires c κs =
     let i = w .before .before .before .before in
     let l = i .before in
     let a = l .before .before .before .before .before .before in
-    past-ready (job a) (a .args .p) (a .args .t .now) (a .pre .1) (l .loop .i - a .args .p .base) (inside i) (l .loop .at) (l .loop .inv .2) (w .run-width .result) (wide w)
+    past-ready (job a) (a .args .p) (a .args .t .now) (a .pre) (l .loop .i - a .args .p .base) (inside i) (l .loop .at) (l .loop .inv .2) (w .run-width .result) (wide w)
 
 add-i : tie.Need-add-i Inv-loop μ-loop
 add-i c =
     let i = c .before .before .before .before .before .before .before .before .before .before .before .before in
     let a = i .before .before .before .before .before .before .before in
-    omega (arith, i .loop-test .taken, a .pre .1 .own .small)
+    omega (arith, i .loop-test .taken, a .pre .own .small)
 
 loop-less : tie.Need-loop-less Inv-loop μ-loop
 loop-less c =
@@ -145,12 +145,12 @@ loop-again c =
     let a = l .before .before .before .before .before .before in
     let x = a .args in
     let q = l .loop .inv in
-    let row = run-row (job a) (x .p) none (x .ends) (l .loop .i) (l .loop .at) (runAt Right (job a) (x .p) (l .loop .i - x .p .base)) (w .run-width .result) (west .is-western .result)
+    let row = run-row (job a) (x .p) (x .w) (x .ends) (l .loop .i) (l .loop .at) (runAt Right (job a) (x .p) (l .loop .i - x .p .base)) (w .run-width .result) (west .is-western .result)
     (q .2) refl (wide w) (west .is-western .ensures) in (
       omega (arith, q .0),
       omega (arith, i .loop-test .taken),
       c .past-run .ensures ∙ past-run (job a) (x .p) (l .loop .i - x .p .base) (l .loop .at) _ (w .run-width .result) (q .2) refl (wide w) ∙ cursor-next (job a) (x .p) (l .loop .i) (q .0),
-      filled-more (jukugoRow (job a) (x .p) none (x .ends)) (x .p .base) (l .loop .i) (x .t .now) (l .loop .t) (put .put-cell .last .0) (q .0) (q .3)
+      filled-more (jukugoRow (job a) (x .p) (x .w) (x .ends)) (x .p .base) (l .loop .i) (x .t .now) (l .loop .t) (put .put-cell .last .0) (q .0) (q .3)
           (subst (λ r. Puts (l .loop .t) (l .loop .i) r (put .put-cell .last .0)) (made .run-row .ensures ∙ row) (put .put-cell .ensures)),
     )
 
@@ -162,7 +162,7 @@ returns c =
     let l = c .before in
     let a = l .before .before .before .before .before .before in
     let x = a .args in
-    upto-end (jukugoRow (job a) (x .p) none (x .ends)) (omega (arith, c .loop-test .left, l .loop .inv .1)) (l .loop .inv .3)
+    upto-end (jukugoRow (job a) (x .p) (x .w) (x .ends)) (omega (arith, c .loop-test .left, l .loop .inv .1)) (l .loop .inv .3)
 
 pub put-runs-spec : {M : Type 1} → statement M
 put-runs-spec =

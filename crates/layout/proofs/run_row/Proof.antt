@@ -1,23 +1,28 @@
--- It may be cut, and has no word.
+-- Its numbers are those of its cursor and its run; its word is its own.
+use mathlib.Core.Path.{_≡_}
 use borrow.Author.Tests.{lt-ltb}
+use borrow.Author.Needs.{needs}
 use native.Mathlib.Omega.{arith}
 use Rattle.layout.proofs.run_row.Statement.{statement}
 use Rattle.layout.proofs.run_row.Tie as tie
 
-add-t8 : tie.Need-add-t8
-add-t8 c = omega (arith, c .before .pre)
+add-t9 : tie.Need-add-t9
+add-t9 c = omega (arith, c .before .pre)
 
-sub-t9 : tie.Need-sub-t9
-sub-t9 c = omega (arith, c .before .pre)
+sub-t10 : tie.Need-sub-t10
+sub-t10 c = omega (arith, c .before .pre)
 
-cast-t10 : tie.Need-cast-t10
-cast-t10 c = omega (arith, c .before .pre)
+cast-t11 : tie.Need-cast-t11
+cast-t11 c = omega (arith, c .before .pre)
+
+own-word-requires : tie.Need-own-word-requires
+own-word-requires c κs = search needs
 
 cast-t14 : tie.Need-cast-t14
-cast-t14 c = omega (arith, c .before .before .pre)
+cast-t14 c = omega (arith, c .before .before .before .before .pre)
 
 returns : tie.Need-returns
-returns c = rw (lt-ltb _ _ (c .before .before .pre .0))
+returns c = rw (c .before .own-word .ensures)
 
 pub run-row-spec : {M : Type 1} → statement M
-run-row-spec = tie.close (tie.spec add-t8 sub-t9 cast-t10 cast-t14 returns)
+run-row-spec = tie.close (tie.spec add-t9 sub-t10 cast-t11 own-word-requires cast-t14 returns)

@@ -45,8 +45,11 @@ loop-less c = search needs
 
 loop-again : tie.Need-loop-again Inv-loop μ-loop
 loop-again c =
-    let at = c .before .before .before .before in
-    (omega arith, any-pass wrong (at .before .before .args .cs .now) (at .loop .i) (at .loop .inv .1) (c .before .before .before .loop-test .taken) (sym (ap not (c .before .is-kana .ensures)) ∙ c .if1 .left))
+    let at = c .before .before .before .before in (
+      omega arith,
+      any-pass wrong (at .before .before .args .cs .now) (at .loop .i) (at .loop .inv .1) (c .before .before .before .loop-test .taken) (sym (ap not (c .before .is-kana .ensures))
+          ∙ c .if1 .left),
+    )
 
 returns-2 : tie.Need-returns-2 Inv-loop μ-loop
 returns-2 c = any-end wrong (c .before .before .before .args .cs .now) (c .before .loop .i) (c .before .loop .inv .1) (c .loop-test .left)

@@ -13,13 +13,18 @@ use Rattle.word.proofs.jukugo_answer.Statement.{statement}
 use Rattle.word.proofs.jukugo_answer.Tie as tie
 
 kana : (c : tie.Else2) → any (λ k. not (kanaLike k)) (c .before .before .before .before .before .before .before .before .before .before .before .before .args .bc .now) ≡ false
-kana c = not-kana-by (c .before .before .before .before .before .before .before .before .before .before .before .before .args .bc .now) (c .before .before .mix-of .ensures) (c .before .not-kana .ensures) ∙ c .if2 .left
+kana c =
+    let a = c .before .before .before .before .before .before .before .before .before .before .before .before in
+    not-kana-by (a .args .bc .now) (c .before .before .mix-of .ensures) (c .before .not-kana .ensures) ∙ c .if2 .left
 
 base : (c : tie.Else2) → mixed (c .before .before .before .before .before .before .before .before .before .before .before .before .args .bc .now) ≡ false
 base c = kana-unmixed (c .before .before .before .before .before .before .before .before .before .before .before .before .args .bc .now) (kana c)
 
-ruby : (c : tie.After-is-mixed) → mixed (c .before .before .before .before .before .before .before .before .before .before .before .before .before .before .before .before .args .rc .now) ≡ c .is-mixed .result
-ruby c = mixed-by (c .before .before .before .before .before .before .before .before .before .before .before .before .before .before .before .before .args .rc .now) (c .before .mix-of2 .ensures) (c .is-mixed .ensures)
+ruby : (c : tie.After-is-mixed) → mixed (c .before .before .before .before .before .before .before .before .before .before .before .before .before .before .before
+    .before .args .rc .now) ≡ c .is-mixed .result
+ruby c =
+    let a = c .before .before .before .before .before .before .before .before .before .before .before .before .before .before .before .before in
+    mixed-by (a .args .rc .now) (c .before .mix-of2 .ensures) (c .is-mixed .ensures)
 
 blank-inside-requires : tie.Need-blank-inside-requires
 blank-inside-requires c κs = search needs
@@ -36,14 +41,24 @@ not-kana-requires c κs = search needs
 
 returns-2 : tie.Need-returns-2
 unfolding answer
-returns-2 c = rw (← c .before .before .before .before .blank-inside .ensures, c .before .before .before .if1 .left, not-kana-by (c .before .before .before .before .before .before .before .before .before .before .before .before .args .bc .now) (c .before .before .mix-of .ensures) (c .before .not-kana .ensures), c .if2 .taken)
+returns-2 c =
+    let a = c .before .before .before .before .before .before .before .before .before .before .before .before in
+    rw (
+      ← c .before .before .before .before .blank-inside .ensures,
+      c .before .before .before .if1 .left,
+      not-kana-by (a .args .bc .now) (c .before .before .mix-of .ensures)
+          (c .before .not-kana .ensures),
+      c .if2 .taken,
+    )
 
 any-but-requires : tie.Need-any-but-requires
 any-but-requires c κs = search needs
 
 returns-3 : tie.Need-returns-3
 unfolding answer
-returns-3 c = rw (← c .before .before .before .before .before .before .blank-inside .ensures, c .before .before .before .before .before .if1 .left, kana (c .before .before), ← c .before .any-but .ensures, c .if3 .taken)
+returns-3 c =
+    let a = c .before .before .before .before .before .before in
+    rw (← a .blank-inside .ensures, c .before .before .before .before .before .if1 .left, kana (c .before .before), ← c .before .any-but .ensures, c .if3 .taken)
 
 mix-of-requires-2 : tie.Need-mix-of-requires-2
 mix-of-requires-2 c κs = search needs
@@ -53,7 +68,11 @@ is-mixed-requires c κs = search needs
 
 returns-4 : tie.Need-returns-4
 unfolding answer
-returns-4 c = rw (← c .before .before .before .before .before .before .before .before .before .blank-inside .ensures, c .before .before .before .before .before .before .before .before .if1 .left, kana (c .before .before .before .before .before), ← c .before .before .before .before .any-but .ensures, c .before .before .before .if3 .left, base (c .before .before .before .before .before), ruby (c .before), c .if4 .taken)
+returns-4 c =
+    let b = c .before .before .before .before .before in
+    let d = b .before .before .before in
+    let a = d .before in
+    rw (← a .blank-inside .ensures, d .if1 .left, kana b, ← c .before .before .before .before .any-but .ensures, c .before .before .before .if3 .left, base b, ruby (c .before), c .if4 .taken)
 
 script-of-requires : tie.Need-script-of-requires
 script-of-requires c κs = search needs
@@ -67,7 +86,19 @@ jukugo-of-requires c κs =
 returns-5 : tie.Need-returns-5
 unfolding answer wordOf mixOf
 returns-5 c =
-    rw (← c .before .before .before .before .before .before .before .before .before .before .before .blank-inside .ensures, c .before .before .before .before .before .before .before .before .before .before .if1 .left, kana (c .before .before .before .before .before .before .before), ← c .before .before .before .before .before .before .any-but .ensures, c .before .before .before .before .before .if3 .left, base (c .before .before .before .before .before .before .before), ruby (c .before .before .before), c .before .before .if4 .left)
+    rw (
+      ← c .before .before .before .before .before .before .before .before .before .before .before .blank-inside .ensures,
+      c .before .before .before .before .before .before .before
+          .before .before .before .if1 .left,
+      kana
+          (c .before .before .before .before .before .before .before),
+      ← c .before .before .before .before .before .before .any-but .ensures,
+      c .before .before .before .before .before .if3 .left,
+      base
+          (c .before .before .before .before .before .before .before),
+      ruby (c .before .before .before),
+      c .before .before .if4 .left,
+    )
     (ap Set (c .jukugo-of .ensures ∙ rw (c .before .script-of .ensures, c .before .before .before .before .mix-of2 .ensures)))
 
 pub jukugo-answer-spec : {M : Type 1} → statement M

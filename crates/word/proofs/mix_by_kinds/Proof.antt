@@ -36,7 +36,10 @@ loop-less : tie.Need-loop-less Inv-loop μ-loop
 loop-less c = search needs
 
 loop-again : tie.Need-loop-again Inv-loop μ-loop
-loop-again c = (omega arith, rw (c .with-kind .ensures, c .before .kind-of .ensures) (mix-step (c .before .before .before .before .before .before .args .cs .now) (c .before .before .before .before .loop .i) (c .before .before .before .before .loop .m) (c .before .before .before .loop-test .taken) (c .before .before .before .before .loop .inv .1)))
+loop-again c =
+    let b = c .before .before .before .before in
+    let a = b .before .before in
+    (omega arith, rw (c .with-kind .ensures, c .before .kind-of .ensures) (mix-step (a .args .cs .now) (b .loop .i) (b .loop .m) (c .before .before .before .loop-test .taken) (b .loop .inv .1)))
 
 returns : tie.Need-returns Inv-loop μ-loop
 returns c = mix-end (c .before .before .before .args .cs .now) (c .before .loop .i) (c .before .loop .m) (c .loop-test .left) (c .before .loop .inv .1)

@@ -12,9 +12,9 @@ use Rattle.cells.specs.Cells.{beside}
 use Rattle.door.specs.Job.{Job}
 use Rattle.job.specs.Line.{cuts}
 use Rattle.layout.specs.Table.{Written, written-as}
-use Rattle.layout.specs.Runs.{bothOnly, runsOnly, leftsOnly, jukugoRow, right-as, left-as}
+use Rattle.layout.specs.Runs.{bothOnly, runsOnly, leftsOnly, ownWord, jukugoRow, right-as, left-as}
 use Rattle.layout.specs.Lay.{wordRow, flagged, word-row, jukugo-row}
-use Rattle.layout.specs.Left.{leftRow, leftRunRow, ownLeft, left-word, left-run, ownRow, characterBoth, laidRow, cut-j, apart-runs}
+use Rattle.layout.specs.Left.{leftRow, leftRunRow, left-word, left-run, ownRow, characterBoth, laidRow, cut-j, apart-runs}
 use Rattle.layout.proofs.left.put_both.Statement.{statement}
 use Rattle.layout.proofs.left.put_both.Tie as tie
 
@@ -101,7 +101,7 @@ returns-2 c =
     let x = a .args in
     let p = x .p in
     let yes = parted r ∙ t .if2 .taken in
-    let rows : Bool → ℕ → Cell = λ z i. beside (jukugoRow (job a) p (x .w) z i) (leftRunRow (job a) p (ownLeft p (x .w)) i) in
+    let rows : Bool → ℕ → Cell = λ z i. beside (jukugoRow (job a) p (x .w) z i) (leftRunRow (job a) p (ownWord p (x .w) .left) i) in
     in-one e (put .put-cut .last .0)
     (written-as (rows (flagged (job a) p)) (ownRow (job a) p (x .w) (flagged (job a) p)) (p .base) (p .base + p .bases) (x .t .now) (put .put-cut .last .0)
     (λ i l m. ap₂ beside (jukugo-row (job a) p (x .w) (flagged (job a) p) i yes) (left-run (job a) p (x .w) i yes (a .pre .here)))

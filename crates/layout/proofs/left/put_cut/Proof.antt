@@ -5,44 +5,46 @@ use native.Mathlib.Omega.{arith}
 use borrow.Author.Needs.{needs}
 use Rattle.door.specs.Job.{Job}
 use Rattle.layout.specs.Table.{room-stays, LeftFilled, both-written}
-use Rattle.layout.specs.Runs.{runsOnly, leftsOnly, jukugoRow}
-use Rattle.layout.specs.Left.{leftRunRow, ownLeft}
+use Rattle.layout.specs.Runs.{runsOnly, leftsOnly, ownWord, jukugoRow}
+use Rattle.layout.specs.Left.{leftRunRow}
 use Rattle.layout.proofs.left.put_cut.Statement.{statement}
 use Rattle.layout.proofs.left.put_cut.Tie as tie
 
-abbrev start : tie.After-put-jukugo → tie.Start
+abbrev start : tie.After-put-runs → tie.Start
 start c = c .before .before .before .before .before .before .before .before
 
-put-jukugo-requires : tie.Need-put-jukugo-requires
-put-jukugo-requires c κs = let h = c .before .before .before .before .before .before .before .pre in (h .0, h .1)
+put-runs-requires : tie.Need-put-runs-requires
+put-runs-requires c κs = let h = c .before .before .before .before .before .before .before .pre in h .1
 
-own-left-requires : tie.Need-own-left-requires
-own-left-requires c κs = search needs
+own-word-requires : tie.Need-own-word-requires
+own-word-requires c κs = search needs
 
 put-left-runs-requires : tie.Need-put-left-runs-requires
 put-left-runs-requires c κs =
-    let put = c .before .before .before .before in
+    let put = c .before .before .before .before .before in
     let a = start put in
     let p = a .args .p in
-    let q = put .put-jukugo .ensures in
-    (a .pre .2, room-stays (p .base + p .bases) (a .args .t .now) (put .put-jukugo .last .0) (q .long) (q .lefts) (a .pre .3))
+    let q = put .put-runs .ensures in
+    (a .pre .2, room-stays (p .base + p .bases) (a .args .t .now) (put .put-runs .last .0) (q .long) (q .lefts) (a .pre .3))
 
 same-length : tie.Need-same-length
-same-length c = let l = c .before .before in l .put-left-runs .ensures .long ∙ l .before .before .before .before .before .put-jukugo .ensures .long
+same-length c = let l = c .before .before in l .put-left-runs .ensures .long ∙ l .before .before .before .before .before .before .put-runs .ensures .long
 
 returns : tie.Need-returns
 returns c =
     let l = c .before .before in
-    let v = l .before .before in
+    let v = l .before .before .before in
     let put = v .before .before .before in
     let a = start put in
     let x = a .args in
     let p = x .p in
     let job = leftsOnly (x .lwidth .now) (x .lruns .now) in
-    both-written (jukugoRow (runsOnly (x .em) (x .rclass .now) (x .rwidth .now) (x .runs .now)) p (x .w) (x .ends)) (leftRunRow job p (ownLeft p (x .w))) (p .base) (p .base + p .bases) (x .t .now)
-    (put .put-jukugo .last .0) (l .put-left-runs .last .0) (omega (arith, a .pre .3 .behind)) (λ _. a .pre .3 .behind) (put .put-jukugo .ensures)
-    (subst (λ z. LeftFilled (leftRunRow job p z) (p .base) (p .base + p .bases) (put .put-jukugo .last .0) (l .put-left-runs .last .0)) (v .own-left .ensures) (l .put-left-runs .ensures))
+    both-written (jukugoRow (runsOnly (x .em) (x .rclass .now) (x .rwidth .now) (x .runs .now)) p (x .w) (x .ends)) (leftRunRow job p (ownWord p (x .w) .left)) (p .base) (p .base + p .bases)
+    (x .t .now)
+    (put .put-runs .last .0) (l .put-left-runs .last .0) (omega (arith, a .pre .3 .behind)) (λ _. a .pre .3 .behind) (put .put-runs .ensures)
+    (subst (λ z. LeftFilled (leftRunRow job p z) (p .base) (p .base + p .bases) (put .put-runs .last .0) (l .put-left-runs .last .0)) (ap (λ z. z .left) (v .own-word .ensures))
+    (l .put-left-runs .ensures))
 
 pub put-cut-spec : {M : Type 1} → statement M
 put-cut-spec =
-    tie.close (tie.spec put-jukugo-requires own-left-requires put-left-runs-requires same-length returns)
+    tie.close (tie.spec put-runs-requires own-word-requires put-left-runs-requires same-length returns)

@@ -23,14 +23,26 @@ start c = c .before .before .before .before .before .before .before .before .bef
 abbrev given : tie.Start → Given
 given s =
     let a = s .args in
-    record { em = a .em; ratios = ratiosOf (a .ratios); class = a .bc .now; width = a .bs .now; before = a .before .now; after = a .after .now; rubyClass = a .rc .now; rubyWidth = a .rs .now; run = a .runs .now }
+    record {
+      em = a .em;
+      ratios = ratiosOf (a .ratios);
+      class = a .bc .now;
+      width = a .bs .now;
+      before = a
+          .before .now;
+      after = a .after .now;
+      rubyClass = a .rc .now;
+      rubyWidth = a .rs .now;
+      run = a .runs .now;
+    }
 
 abbrev gloss : tie.Start → Gloss
 gloss s = let a = s .args in record { kind = a .left; class = a .lc .now; width = a .ls .now; run = a .lruns .now }
 
 -- the answer by the row that was found
 by : (c : tie.After-row-of) {q : Row} → c .row-of .result ≡ q →
-    answerBoth (start c .args .form) (start c .args .place) (given (start c)) (gloss (start c)) ≡ answered (start c .args .form) (start c .args .place) (given (start c)) (gloss (start c)) (start c .pre .0 .ruby) q
+    answerBoth (start c .args .form) (start c .args .place) (given (start c)) (gloss (start c)) ≡ answered (start c .args .form) (start c .args .place) (given (start c)) (gloss (start c))
+    (start c .pre .0 .ruby) q
 by c e =
     let s = start c in
     by-row (s .args .form) (s .args .place) (given s) (gloss s) (s .pre .0 .ruby)

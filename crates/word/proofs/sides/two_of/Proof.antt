@@ -54,8 +54,17 @@ enum-told-4 c = search needs
 jukugos-of-requires : tie.Need-jukugos-of-requires
 jukugos-of-requires c κs =
     let s = c .before .before .before .before .before .before .before in
-    let z = s .pre .0 in
-    (record { small = z .small; gloss = z .gloss; ems = z .ems (rw (c .enum-told4 .given .1)); whole = z .whole (rw (c .enum-told4 .given .1)); wholeLeft = z .wholeLeft (rw (c .enum-told4 .given .1)) }, s .pre .1)
+    let z = s .pre .0 in (
+      record {
+        small = z .small;
+        gloss = z .gloss;
+        ems = z .ems (rw (c .enum-told4 .given .1));
+        whole = z .whole (rw (c .enum-told4 .given .1));
+        wholeLeft = z .wholeLeft (rw
+            (c .enum-told4 .given .1));
+      },
+      s .pre .1,
+    )
 
 returns : tie.Need-returns
 unfolding twoBy
