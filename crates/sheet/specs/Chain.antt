@@ -1,6 +1,6 @@
 -- Each section begins where the one before it ended: what a call answers, handed to the next.
 use mathlib.Core.Bool.{Bool, true, false, cond}
-use mathlib.Core.List.{List, [], _∷_, _++_, append-nil}
+use mathlib.Core.List.{List, [], _++_, append-nil}
 use mathlib.Core.Path.{_≡_, refl, _∙_, ap, ap₂, sym, subst}
 use Prim.Native.Nat.{ℕ, _+_}
 use native.Mathlib.Nat.{zero-add}
@@ -9,7 +9,7 @@ use lib.Dec.{eqb}
 use lib.ListN.{length}
 use Rattle.rows.specs.declared.Part.{Part}
 use Rattle.rows.specs.declared.Part.the-variants.{Read, Refused}
-use Rattle.rows.specs.Section.{Rows, rowsOf, section, headOf, countOf}
+use Rattle.rows.specs.Section.{rowsOf, section, headOf}
 use Rattle.rows.specs.Table.{laid, laid-append}
 use Rattle.rows.specs.Determined.{RowsRead, SectionRead}
 use Rattle.rows.specs.Whole.{rows-whole}
@@ -18,7 +18,7 @@ use Rattle.elements.specs.declared.Elements.{Elements}
 use Rattle.elements.specs.Elements.{Listed, elements}
 use Rattle.elements.specs.Determined.{ListRead}
 use Rattle.sheet.specs.declared.Reading.{Reading}
-use Rattle.sheet.specs.Sheet.{baseWord, rubyWord, elemWord, opening, formBy, formOf, setOf, plain, singles, house, leftHead, leftFrom, baseOf, rubyOf, leftOf, elemOf, endOf, reading}
+use Rattle.sheet.specs.Sheet.{baseWord, rubyWord, elemWord, opening, formBy, formOf, setOf, plain, singles, house, leftHead, baseOf, rubyOf, leftOf, elemOf, endOf, reading}
 
 module _ (s : List ℕ) where
   pub form-told : {o : Part} {f : SheetForm} → o ≡ opening s → f ≡ formBy o → f ≡ formOf s
