@@ -49,7 +49,7 @@ converted, and form two goes back only if it has no left reading, both ratios ar
   --help   this text
 
 Status 0: converted. 1: refused. 2: could not be run; one line on standard error says why, and there is no answer.
-The first run proves and builds the program, which takes some minutes. bin/batch --convert converts many sheets; docs/MANUAL.md, "Two forms", has both.
+The first run proves and builds the program, which takes some minutes. bin/batch --convert converts many sheets; docs/MANUAL.md, "From one form to the other", says more.
 """),
 }
 
