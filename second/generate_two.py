@@ -320,6 +320,22 @@ def exact_length(rng):
     return joined(head + [b'elem %d' % count] + rows)
 
 
+def many_counts(rng):
+    """One line with more left counts than any element that is accepted.
+
+    A left M or J has as many as its element has base characters, and b of a
+    G is free in form: up to the 32,700 for which a sheet has room.
+    """
+    b = rng.choice((32, 33, 64, 65, 1000, 32000, 32700, 32760, TOO_BIG))
+    counts = rng.choice((b, b, b, b - 1, b + 1, 1))
+    if counts > 33000:
+        counts = 33000
+    return joined([b'set 9', b'10', b'100', b'1', b'2', b'1', b'1', b'2', b'1',
+                   b'0', b'base 0', b'ruby 0', b'left 0', b'elem 1',
+                   b'G %d 1 %s' % (b, rng.choice((b'M', b'J')))
+                   + b' 1' * counts])
+
+
 def form_two(rng):
     return pick(rng, (10, with_left), (5, without_left), (3, one_line_off),
                 (1, small), (6, damaged), (1, more_than_form_one))(rng)
@@ -331,7 +347,7 @@ def form_two(rng):
 
 def one_sheet(rng):
     return pick(rng, (300, generate.one_sheet), (300, form_two),
-                (1, exact_length))(rng)
+                (1, exact_length), (1, many_counts))(rng)
 
 
 def sheets(seed, count):

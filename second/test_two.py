@@ -205,6 +205,22 @@ class Reading(Case):
                 else [b'refused 6 0\n', b'refused 5 0\n']))
         self.assertEqual(seen, {65534, 65535, 65536, 65537})
 
+    def test_many_left_counts(self):
+        # b of a G is free in form, and a left M or J has b counts: 32,000 of
+        # them stand on a sheet, and the element is 5.  One count more or less
+        # is 13 in line 15.
+        def sheet(b, counts):
+            return (b'set 9\n10\n100\n1\n2\n1\n1\n2\n1\n0\nbase 0\nruby 0\n'
+                    b'left 0\nelem 1\nG %d 1 J' % b + b' 1' * counts + b'\n')
+        for b in (33, 1000, 32000):
+            self.answered(b'refused 5 0\n', sheet(b, b))
+            self.answered(b'refused 13 15\n', sheet(b, b - 1))
+            self.answered(b'refused 13 15\n', sheet(b, b + 1))
+        self.answered(b'refused 13 15\n', sheet(4294967295, 32000))
+        self.answered(b'refused 13 0\n', sheet(33000, 33000))
+        # 32 are in range: 16, ahead of the 6 for want of characters.
+        self.answered(b'refused 16 0\n', sheet(32, 32))
+
     def test_refusals_of_the_list_level(self):
         # A ratio number over 7 is no fault of form, nor is a profile over 1.
         for number, place in ((4, 0), (5, 0), (6, 0), (7, 1), (8, 1), (9, 1)):
