@@ -22,8 +22,8 @@ MEANINGS = {
         'a count is over its maximum',
         '0 base, 1 ruby, 2 elements, 3 left',
         'This job is too large for one sheet: please split it, so that each '
-        'has at most 1,024 base characters, 2,048 ruby characters and 1,024 '
-        'elements.'),
+        'has at most 1,024 base characters, 2,048 ruby characters, 2,048 left '
+        'characters and 1,024 elements.'),
     3: Meaning(
         'a class, width or flag is not accepted',
         'the base character; 1,024 + index for a ruby character, 3,072 + '

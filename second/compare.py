@@ -177,7 +177,8 @@ def compare(command, folder, seed, count, answers=engine_answers,
         given = answers(command, batch)
         # "takes every form one sheet whose job is accepted to form two and
         # back to the same bytes"
-        back = taken_back(command, batch, given, answers) if converts else batch
+        back = (taken_back(command, batch, given, answers) if converts
+                else batch)
         for sheet, engine, returned in zip(batch, given, back):
             expected = (convert.converted if converts
                         else second.answer)(sheet)

@@ -167,7 +167,8 @@ def change_letter(rng, text):
                   for place, field in enumerate(fields)]
     elif way == 5:
         fields = rng.choice((
-            b'P N', b'P', b'K 1 5', b'K 2 5', b'K 1 5 N', b'M 1', b'M 1 M', b'M 1 M 1', b'M 1 M 1 1',
+            b'P N', b'P', b'K 1 5', b'K 2 5', b'K 1 5 N', b'M 1', b'M 1 M',
+            b'M 1 M 1', b'M 1 M 1 1',
             b'M 1 J 1', b'M 1 G 1', b'M 1 G 0', b'M 1 N 0', b'M N', b'N',
             b'G 2 3 M 1', b'G 2 3 M 1 1', b'G 2 3 G 1', b'G 2 3 G 1 1',
             b'G 0 1 M', b'G 0 1 J', b'G 2 3 J 2 1 1', b'J 2 1 1 J 2 1 1',

@@ -43,13 +43,14 @@ The first run proves and builds the program, which takes some minutes. docs/MANU
 usage: bin/convert [FILE]
 
 Takes a job sheet of form one to form two, and a sheet of form two back to form one; its first line says which it is. FILE is the sheet; without FILE,
-or with -, it is read from standard input. The other sheet goes to standard output, whole, or one line `refused N P`: a sheet whose job is refused is not
-converted, and form two goes back only if it has no left reading, both ratios are 1:2:1 and the profile is 0 (number 17). FILE is never written to.
+or with -, it is read from standard input. The other sheet goes to standard output, whole, or one line `refused N P`. A sheet whose job is refused is
+not converted, and form two goes back only if it has no left reading, both ratios are 1:2:1 and the profile is 0 (number 17).
 
   --help   this text
 
 Status 0: converted. 1: refused. 2: could not be run; one line on standard error says why, and there is no answer.
-The first run proves and builds the program, which takes some minutes. bin/batch --convert converts many sheets; docs/MANUAL.md, "From one form to the other", says more.
+The first run proves and builds the program, which takes some minutes. bin/batch --convert converts many sheets; docs/MANUAL.md, "From one form to the
+other", says more.
 """),
 }
 
@@ -97,7 +98,7 @@ def run(program, given):
 
 
 def refused(answer, heads):
-    """The number of a refusal; 0 where it is none. An answer is whole if it begins with one of these words or is a refusal, and its last line has an end."""
+    """The number of a refusal; 0 where it is none. An answer is whole if it begins with one of these words or is a refusal, and its last line ends."""
     words = answer.split(b'\n', 1)[0].split(b' ')
     if answer.endswith(b'\n') and words[0] in heads:
         return 0
