@@ -302,6 +302,46 @@ class Reading(Case):
             b'line 20\nelement 2 at 0 gap 0 rule 4 block touches start\n'))
 
 
+class Bilingual(unittest.TestCase):
+    """examples/bilingual, by the positions that bilingual.txt works out."""
+
+    # Letter, first index, positions in half units.
+    BY_HAND = (
+        ('b', 0, (30,)), ('r', 0, (0, 20, 40, 60, 80)),
+        ('l', 0, (18, 34, 50, 66)), ('b', 1, (80,)),
+        # Base 5 in front and 9 within; reading 1 in front, gaps 4, 5, 5.
+        ('b', 2, (120, 169)), ('r', 5, (116, 140, 165, 190)),
+        ('l', 4, (115, 131, 147, 163, 179, 195)), ('b', 4, (209,)),
+        # One M for each character: 249 - 12 = 237, and 301 + 44 = 345.
+        ('b', 5, (249, 345)), ('r', 9, (259, 345, 365)),
+        ('l', 10, (237, 253, 269, 285)),
+        ('l', 14, (301, 317, 333, 349, 365, 381, 397, 413)),
+        ('b', 7, (429,)), ('b', 8, (469,)), ('r', 12, (469, 489)),
+        ('l', 22, (479,)),
+        # The second line.
+        ('b', 9, (0, 40)), ('b', 12, (120, 160, 200)),
+        ('r', 18, (121, 145, 170, 194, 219)),
+        ('l', 25, (124, 140, 156, 172, 188, 204, 220)))
+
+    def content(self, ending):
+        with open(os.path.join(HERE, '..', 'examples',
+                               'bilingual.' + ending), 'rb') as file:
+            return file.read()
+
+    def test_positions(self):
+        rows = answer(self.content('sheet')).decode().split('\n')
+        self.assertEqual(rows[:2], ['lines 2', 'line 509'])
+        for letter, first, positions in self.BY_HAND:
+            for index, position in enumerate(positions, first):
+                self.assertIn('%s %d %d' % (letter, index, position), rows)
+        # A line of the text for each character, and three for the lines.
+        self.assertEqual(len(rows), 1 + 2 + 17 + 23 + 32 + 1)
+
+    def test_what_form_one_cannot_hold(self):
+        # Line 5 is the second number of the ruby ratio, 3.
+        self.assertEqual(converted(self.content('sheet')), b'refused 17 5\n')
+
+
 # ---------------------------------------------------------------------------
 # The converter
 # ---------------------------------------------------------------------------
