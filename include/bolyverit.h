@@ -115,7 +115,7 @@ typedef struct bv_answer {
  *
  * Of a ratio a is for the gap in front of the string, m for each gap between two of its characters, c for the gap behind it.
  * Each is 0 to 7, and not all three are 0; else the job is refused with number 15, after 1 and before 2. 1:2:1 is the usual
- * ratio and what a sheet means; 0:0:1 is shoulder-set, no space before, none between, all after:
+ * ratio and what a sheet of form one means; 0:0:1 is shoulder-set, no space before, none between, all after:
  *
  *     static const uint32_t usual[3] = {1, 2, 1}, shoulder[3] = {0, 0, 1};
  *
@@ -126,7 +126,7 @@ typedef struct bv_answer {
  * of half an em at either end, for ruby of two or more characters, kana-like over kana-like, holds only if m is not 0. Left
  * characters are ruby to all of this.
  *
- * Profile 0 is what a sheet means: ruby may lie on the blanks of the plain elements just before and just after it, as document
+ * Profile 0 is what a sheet of form one means: ruby may lie on the blanks of the plain elements just before and just after it, as document
  * 01 says, and on no space that is the job's first character (R-1). Profile 1, for older children, permits all that, and ruby
  * may also lie on a kana, class 15 or 16, that is a plain element just before or just after it: to half an em, and at most
  * the kana's width. Small kana and the prolonged sound mark, classes 11 and 10, take none, nor does a kana with a reading of
