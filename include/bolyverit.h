@@ -311,8 +311,8 @@ BV_INLINE bv_answer bv_account(const bv_job *j, const bv_reasons *to)
 /*
  * Sets a job sheet of `length` bytes, as the setting program does, and writes what the program writes, `refused N P` or the
  * result, to the front of `out`. `out` has room for BV_MOST_TEXT bytes, always; those past the answer stay as they were.
- * A sheet has no ratios, no profile and no left readings: its job is set with 1:2:1 for both and with profile 0. Returns the length
- * of the answer in bytes.
+ * A sheet of form two has ratios, a profile and left readings; one of form one has none: its job is set with 1:2:1 for both and
+ * with profile 0. Returns the length of the answer in bytes.
  */
 size_t bv_set_sheet(const uint8_t *sheet, size_t length, uint8_t *out);
 
