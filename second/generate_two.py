@@ -145,11 +145,15 @@ def change_letter(rng, text):
     elem = [at for at, line in enumerate(lines) if line[:5] == b'elem ']
     if not elem or elem[0] + 1 >= len(lines):
         return text
-    way = rng.randrange(12)
+    way = rng.randrange(14)
     places = list(range(elem[0] + 1, len(lines)))
     if way in (8, 9, 10):
         # Where there is no left reading.
         places = [at for at in places if lines[at].endswith(b' N')] or places
+    elif way > 11:
+        # Where a J has left counts.
+        places = [at for at in places if lines[at][:2] == b'J '
+                  and lines[at][-1:].isdigit()] or places
     at = rng.choice(places)
     fields = lines[at].split(b' ')
     if way == 0:
@@ -189,13 +193,13 @@ def change_letter(rng, text):
     elif way == 10:
         fields.insert(rng.randrange(len(fields) + 1),
                       rng.choice((b'', b'1', b'M', b'N')))
-    elif fields[0] == b'J' and fields[-1] != b'N':
+    elif way > 11 and fields[0] == b'J' and len(fields) > 2:
         # The b of the J ahead of its left counts.
         letter = max(k for k, field in enumerate(fields) if field.isalpha())
         fields.insert(letter + 1, fields[1])
     else:
         # An element that no sheet has yet (R-13), or a left letter.
-        fields = rng.choice((b'K 1 5', b'M 1 K 1', b'G 1 1 K 1',
+        fields = rng.choice((b'K 1 5', b'K 2 5', b'M 1 K 1', b'G 1 1 K 1',
                              b'J 1 1 K 1')).split(b' ')
     lines[at] = b' '.join(fields)
     return joined(lines)
@@ -204,17 +208,20 @@ def change_letter(rng, text):
 def change_left_section(rng, text):
     """The `left` section misplaced, miscounted, or not there."""
     lines = lines_of(text)
-    at = [at for at, line in enumerate(lines) if line[:5] == b'left ']
-    if not at:
+    # A text that was changed before may lack a section's line, or its count.
+    heads = {line[:5]: at for at, line in enumerate(lines)
+             if line[:5] in (b'ruby ', b'left ', b'elem ')
+             and line[5:].isdigit()}
+    if len(heads) < 3:
         return text
-    at = at[0]
+    at = heads[b'left ']
+    count = int(lines[at][5:])
     way = rng.randrange(7)
     if way == 0:
         del lines[at]
     elif way == 1:
         # Ahead of the ruby section.
-        ruby = [k for k, line in enumerate(lines) if line[:5] == b'ruby '][0]
-        count = int(lines[at].split(b' ')[1])
+        ruby = heads[b'ruby ']
         part = lines[at:at + 1 + count]
         del lines[at:at + 1 + count]
         lines[ruby:ruby] = part
@@ -226,12 +233,11 @@ def change_left_section(rng, text):
         lines[at] = rng.choice((b'left', b'left ', b'left 00', b'Left 0',
                                 b'ruby 0', b'right 0'))
     elif way == 4:
-        lines[at] = b'left %d' % (int(lines[at].split(b' ')[1]) + 1)
+        lines[at] = b'left %d' % (count + 1)
     elif way == 5:
         # Both counts over their maximum: the one that is met first.
         lines[at] = b'left 2049'
-        elem = [k for k, line in enumerate(lines) if line[:5] == b'elem ']
-        lines[elem[0]] = b'elem 1025'
+        lines[heads[b'elem ']] = b'elem 1025'
     else:
         lines.append(lines.pop(at))
     return joined(lines)
@@ -273,12 +279,11 @@ def small(rng):
 def damaged(rng):
     """A text of form two with something wrong, mostly of its own form."""
     text = rng.choice((small, small, small, with_left, without_left))(rng)
+    if rng.randrange(5) == 0:
+        return generate.damage(rng, text)
     for _ in range(rng.choice((1, 1, 1, 2))):
         text = pick(rng, (6, change_letter), (4, change_left_section),
-                    (2, change_set_section), (3, generate.damage))(rng, text)
-        if not text or b' ' not in text or b'\n' not in text or (
-                b'elem' not in text):
-            break
+                    (2, change_set_section))(rng, text)
     return text
 
 

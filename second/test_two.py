@@ -553,6 +553,14 @@ class Generated(unittest.TestCase):
         self.assertEqual(kinds, {(kind, left) for kind, taken
                                  in second.TAKEN.items() for left in taken})
 
+    def test_none_stops_the_generator(self):
+        # Texts that are changed twice, and those of a few lines.
+        rng = random.Random(4)
+        for _ in range(500):
+            generate_two.damaged(rng)
+            generate_two.more_than_form_one(rng)
+            generate_two.one_line_off(rng)
+
     def test_repeats_itself(self):
         first = list(generate_two.sheets(2, 50))
         self.assertEqual(first, list(generate_two.sheets(2, 50)))
