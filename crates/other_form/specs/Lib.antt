@@ -1,0 +1,9 @@
+pub mod Other
+pub mod Bytes
+pub mod Lines
+pub mod Text
+pub mod Steps
+pub mod Known
+pub mod Parts
+pub mod Ready
+pub mod Joined
