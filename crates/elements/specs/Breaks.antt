@@ -1,6 +1,6 @@
 -- Where the section `elem` breaks its form, form one or form two, and on which line: no element's text stands where the next line must begin. Theorems `section-stuck` and `stuck-section`: the section is
 -- refused with 13 and a line exactly so.
-use mathlib.Core.List.{List, [], _∷_, _++_}
+use mathlib.Core.List.{List, [], _∷_}
 use mathlib.Core.Path.{_≡_, refl, _∙_, ap, sym}
 use Prim.Native.Nat.{ℕ, zero, suc, _+_, _≤_, _<_}
 use native.Mathlib.Nat.{add-zero, le-of-suc-le-suc}

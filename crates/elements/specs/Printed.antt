@@ -2,7 +2,7 @@
 -- stand (`section-is`, `stands-section`). What is stored of the elements says them (`entries-back`).
 use mathlib.Core.Bool.{Bool, true, false, cond}
 use mathlib.Core.List.{List, [], _∷_, _++_, append-assoc}
-use mathlib.Core.Path.{_≡_, refl, _∙_, ap, ap₂, sym, subst}
+use mathlib.Core.Path.{_≡_, refl, _∙_, ap, ap₂, sym}
 use Prim.Native.Nat.{ℕ, zero, suc, _+_, _*_, _≤_, _<_}
 use native.Mathlib.Nat.{add-zero}
 use native.Mathlib.Omega.{arith}
@@ -22,7 +22,7 @@ use Rattle.text.specs.Stands.{Stands, stands-none, stands-then, stands-cut, sta
 use Rattle.rows.specs.declared.Part.{Part}
 use Rattle.rows.specs.declared.Part.the-variants.{Read as PartRead}
 use Rattle.rows.specs.Section as rows
-use Rattle.rows.specs.Section.{onNumber, onPlace, onPart, Fields, fields, headOf}
+use Rattle.rows.specs.Section.{onNumber, onPlace, onPart, fields, headOf}
 use Rattle.rows.specs.Whole.{fields-count}
 use Rattle.rows.specs.Print.{spaced, numbersText, headText, Small, Counted}
 use Rattle.rows.specs.Printed.{on-word, on-number, spaced-numbers, numbers-cons, spaced-long, fields-stands, stands-fields, HeadIs, head-is, head-back}
@@ -32,7 +32,7 @@ use Rattle.elements.specs.declared.SheetForm.the-variants.{One, Two}
 use Rattle.elements.specs.declared.Line.{Line}
 use Rattle.elements.specs.declared.Line.the-variants.{Holds, Broken}
 use Rattle.elements.specs.declared.Elements.the-variants.{Read, Refused}
-use Rattle.elements.specs.Element.{rowOf, bare, withLeft, onLine, plainAt, monoAt, groupAt, Got, nothing, held, jukugoAt, either, orRuns, rightAt, countsOf, countedAt, listedAt, leftBy, leftAt}
+use Rattle.elements.specs.Element.{bare, withLeft, onLine, plainAt, monoAt, groupAt, Got, nothing, held, jukugoAt, either, orRuns, rightAt, countsOf, countedAt, listedAt, leftBy, leftAt}
 use Rattle.elements.specs.Element.{stopBy, endBy, Taken, wordAt, orWord, element}
 use Rattle.elements.specs.Elements.{Listed, broke, joined, lines, elements}
 use Rattle.elements.specs.Print.{Right, M, G, J, Left, none, mono, group, jukugo, Entry, P, word, rightText, leftText, elementText, RightFit, basesOf, LeftFit, Fit, rightOf, rightRuns, letterOf}

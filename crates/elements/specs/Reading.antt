@@ -1,5 +1,5 @@
 -- How the loop over the elements comes along: what is left to read, stored after what was read, makes up the whole. A run takes two bytes of the sheet at least, so that the tables have room.
-use mathlib.Core.List.{List, [], _∷_, _++_}
+use mathlib.Core.List.{List, [], _++_}
 use mathlib.Core.Path.{_≡_, refl, _∙_, ap, ap₂, sym}
 use Prim.Native.Nat.{ℕ, suc, _+_, _-_, _*_, _^_, _≤_, _<_}
 use native.Mathlib.Nat.{sub-zero}
@@ -14,12 +14,11 @@ use Rattle.rows.specs.Section.{onPart}
 use Rattle.rows.specs.Table.{strided, laid, length-strided}
 use Rattle.elements.specs.declared.Element.{Element}
 use Rattle.elements.specs.declared.SheetForm.{SheetForm}
-use Rattle.elements.specs.declared.Line.{Line}
 use Rattle.elements.specs.declared.Line.the-variants.{Holds, Broken}
 use Rattle.elements.specs.declared.Elements.the-variants.{Read, Refused}
 use Rattle.elements.specs.Element.{onLine, Taken, element, rowOf}
 use Rattle.elements.specs.Elements.{Listed, broke, joined, lines, elements}
-use Rattle.elements.specs.Ready.{RunsReady, LineReady, PutReady, LinesReady, ElementsReady}
+use Rattle.elements.specs.Ready.{LineReady, PutReady, LinesReady, ElementsReady}
 use Rattle.elements.specs.Print.{elementOf, takenOf}
 use Rattle.elements.specs.Printed.{ElementIs, broken, stands, element-is, element-long, runs-counted}
 use Rattle.elements.specs.Determined.{ListRead}

@@ -11,7 +11,7 @@ use Rattle.text.specs.Text.{stopOf}
 use Rattle.text.specs.Print.{bytes}
 use Rattle.text.specs.Stands.{word-stands, number-past}
 use Rattle.rows.specs.Section as rows
-use Rattle.rows.specs.Section.{numberAt, onNumber, onPlace, fields}
+use Rattle.rows.specs.Section.{numberAt, fields}
 use Rattle.elements.specs.declared.Element.{Element}
 use Rattle.elements.specs.declared.SheetForm.{SheetForm}
 use Rattle.elements.specs.declared.SheetForm.the-variants.{One, Two}

@@ -1,7 +1,7 @@
 -- Theorems: a section is read exactly where its text stands (`section-is`, `stands-section`), its numbers are those that were read, and its count is refused exactly where a count over
 -- the maximum stands (`over-section`). Generic in the word, in k and in the maximum.
 use mathlib.Core.Bool.{Bool, true, false, cond}
-use mathlib.Core.List.{List, [], _∷_, _++_, map, append-nil, append-assoc}
+use mathlib.Core.List.{List, [], _∷_, _++_, map, append-assoc}
 use mathlib.Core.Path.{_≡_, refl, _∙_, ap, ap₂, sym}
 use Prim.Native.Nat.{ℕ, zero, suc, _+_, _*_, _≤_, _<_}
 use native.Mathlib.Nat.{add-zero}

@@ -1,7 +1,7 @@
 -- Each section begins where the one before it ended: what a call answers, handed to the next.
 use mathlib.Core.Bool.{Bool, true, false, cond}
-use mathlib.Core.List.{List, [], _∷_, _++_, append-nil}
-use mathlib.Core.Path.{_≡_, refl, _∙_, ap, ap₂, sym}
+use mathlib.Core.List.{List, [], _++_, append-nil}
+use mathlib.Core.Path.{_≡_, refl, _∙_, ap, ap₂, sym, subst}
 use Prim.Native.Nat.{ℕ, _+_}
 use native.Mathlib.Nat.{zero-add}
 use borrow.Author.Tests.{eqb-true}
@@ -9,11 +9,16 @@ use lib.Dec.{eqb}
 use lib.ListN.{length}
 use Rattle.rows.specs.declared.Part.{Part}
 use Rattle.rows.specs.declared.Part.the-variants.{Read, Refused}
-use Rattle.rows.specs.Section.{Rows, rowsOf, section, headOf, countOf}
+use Rattle.rows.specs.Section.{rowsOf, section, headOf}
 use Rattle.rows.specs.Table.{laid, laid-append}
+use Rattle.rows.specs.Determined.{RowsRead, SectionRead}
 use Rattle.rows.specs.Whole.{rows-whole}
 use Rattle.elements.specs.declared.SheetForm.{SheetForm}
-use Rattle.sheet.specs.Sheet.{baseWord, rubyWord, elemWord, opening, formBy, formOf, setOf, plain, singles, house, leftHead, leftFrom, baseOf, rubyOf, leftOf}
+use Rattle.elements.specs.declared.Elements.{Elements}
+use Rattle.elements.specs.Elements.{Listed, elements}
+use Rattle.elements.specs.Determined.{ListRead}
+use Rattle.sheet.specs.declared.Reading.{Reading}
+use Rattle.sheet.specs.Sheet.{baseWord, rubyWord, elemWord, opening, formBy, formOf, setOf, plain, singles, house, leftHead, baseOf, rubyOf, leftOf, elemOf, endOf, reading}
 
 module _ (s : List ℕ) where
   pub form-told : {o : Part} {f : SheetForm} → o ≡ opening s → f ≡ formBy o → f ≡ formOf s
@@ -55,6 +60,36 @@ house-by s was o (Read n at line) e =
     house-case was (rowsOf 1 s o .rows) n (eqb n 2) refl (w .1 .count)
 house-by s was o (Refused r) e = ap (laid was 0 9) (sym (append-nil (rowsOf 1 s o .rows)))
 
-pub set-holds : (s was : List ℕ) → laid (laid was 0 9 (setOf s .rows)) 2 9 (house (setOf s .end)) ≡ laid was 0 9 (setOf s .rows ++ house (setOf s .end))
+set-laid : (s was : List ℕ) → laid (laid was 0 9 (setOf s .rows)) 2 9 (house (setOf s .end)) ≡ laid was 0 9 (setOf s .rows ++ house (setOf s .end))
 unfolding setOf
-set-holds s was = house-by s was (opening s) (rowsOf 1 s (opening s) .end) refl
+set-laid s was = house-by s was (opening s) (rowsOf 1 s (opening s) .end) refl
+
+-- what the tables hold, and the answer, by what each section began behind
+module _ (s was : List ℕ) {t : List ℕ} where
+  pub set-holds : {o a : Part} {u : List ℕ} → o ≡ opening s → RowsRead 1 9 s o was a t → u ≡ laid t 2 9 (house a) → u ≡ laid was 0 9 (reading s .set)
+  unfolding reading setOf
+  set-holds {o} {a} h e i =
+      let t-is : t ≡ laid was 0 9 (setOf s .rows) = e .1 ∙ ap (λ p. laid was 0 9 (rowsOf 1 s p .rows)) h in
+      let a-is : a ≡ setOf s .end = set-end s h (e .0) in
+      i ∙ ap₂ (λ v p. laid v 2 9 (house p)) t-is a-is ∙ set-laid s was
+
+  pub base-holds : {a b : Part} → a ≡ setOf s .end → SectionRead baseWord 5 1024 0 s a was b t → t ≡ laid was 0 1024 (reading s .base)
+  unfolding reading baseOf
+  base-holds h e = e .1 ∙ ap (λ p. laid was 0 1024 (section baseWord 5 1024 0 s p .rows)) h
+
+  pub ruby-holds : {b c : Part} → b ≡ baseOf s .end → SectionRead rubyWord 2 2048 1 s b was c t → t ≡ laid was 0 2048 (reading s .ruby)
+  unfolding reading rubyOf
+  ruby-holds h e = e .1 ∙ ap (λ p. laid was 0 2048 (section rubyWord 2 2048 1 s p .rows)) h
+
+  pub left-holds : {g l : Part} → g ≡ leftHead (formOf s) s (rubyOf s .end) → RowsRead 2 2048 s g was l t → t ≡ laid was 0 2048 (reading s .left)
+  unfolding reading leftOf
+  left-holds h e = e .1 ∙ ap (λ p. laid was 0 2048 (rowsOf 2 s p .rows)) h
+
+module _ (s : List ℕ) {f : SheetForm} {h : Part} {was wasRuns wasLeft t runs lruns : List ℕ} {d : Elements} where
+  pub elem-read : f ≡ formOf s → h ≡ headOf elemWord 1024 2 s (leftOf s .end) → ListRead (elements f s h) was wasRuns wasLeft d t runs lruns → ListRead (elemOf s) was wasRuns wasLeft d t runs lruns
+  unfolding elemOf
+  elem-read i e x = subst (λ (u : Listed). ListRead u was wasRuns wasLeft d t runs lruns) (ap₂ (λ f p. elements f s p) i e) x
+
+pub ended : (s : List ℕ) {b c l : Part} {d : Elements} {r : Reading} → b ≡ baseOf s .end → c ≡ rubyOf s .end → l ≡ leftOf s .end → d ≡ elemOf s .end → r ≡ endOf s b c l d → r ≡ reading s .end
+unfolding reading
+ended s g h i j e = e ∙ rw (g, h, i, j)

@@ -12,11 +12,11 @@ pub one-reading : {s : List ℕ} {was : Tables} {r r' : Reading} {t t' : Tables}
 one-reading p q = (
   p .answer ∙ sym (q .answer),
   same-tables
-  (p .setHolds ∙ sym (q .setHolds))
-  (p .baseHolds ∙ sym (q .baseHolds))
-  (p .rubyHolds ∙ sym (q .rubyHolds))
-  (p .leftHolds ∙ sym (q .leftHolds))
-  (p .elemHolds ∙ sym (q .elemHolds))
-  (p .runsHold ∙ sym (q .runsHold))
-  (p .lrunsHold ∙ sym (q .lrunsHold)),
+      (p .setHolds ∙ sym (q .setHolds))
+      (p .baseHolds ∙ sym (q .baseHolds))
+      (p .rubyHolds ∙ sym (q .rubyHolds))
+      (p .leftHolds ∙ sym (q .leftHolds))
+      (p .elemHolds ∙ sym (q .elemHolds))
+      (p .runsHold ∙ sym (q .runsHold))
+      (p .lrunsHold ∙ sym (q .lrunsHold)),
 )

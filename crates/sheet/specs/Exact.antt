@@ -11,7 +11,7 @@ use Rattle.refusal.specs.declared.Refusal.the-variants.{Form, Count}
 use Rattle.rows.specs.Table.{column}
 use Rattle.elements.specs.declared.SheetForm.{SheetForm}
 use Rattle.elements.specs.declared.SheetForm.the-variants.{One, Two}
-use Rattle.elements.specs.Print.{P, word, M, G, J, none, mono, group, jukugo}
+use Rattle.elements.specs.Print.{P, word, M, J, none, mono, jukugo}
 use Rattle.elements.specs.Printed.{entries-back}
 use Rattle.sheet.specs.declared.Counts.{Counts}
 use Rattle.sheet.specs.declared.Reading.the-variants.{Sound, Refused}

@@ -1,7 +1,7 @@
 -- "The first fault met, 13 or a count over its maximum (2)": the reading of a sheet gives no other number.
 use mathlib.Core.Bool.{Bool, true, _||_}
 use mathlib.Core.List.{List}
-use mathlib.Core.Path.{_≡_, refl, sym, subst}
+use mathlib.Core.Path.{_≡_}
 use Prim.Native.Nat.{ℕ}
 use lib.Dec.{eqb}
 use Rattle.refusal.specs.Refusal.{numberOf}

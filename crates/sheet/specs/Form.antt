@@ -9,7 +9,7 @@ use Rattle.text.specs.Text.{most}
 use Rattle.text.specs.Print.{bytes}
 use Rattle.text.specs.Stands.{Stands}
 use Rattle.rows.specs.Table.{column}
-use Rattle.rows.specs.Print.{headText, sectionText, Small, Kept, Counted}
+use Rattle.rows.specs.Print.{sectionText, Small, Kept, Counted}
 use Rattle.rows.specs.Chain.{Section, chainText, ChainKept, ChainOver}
 use Rattle.elements.specs.declared.SheetForm.{SheetForm}
 use Rattle.elements.specs.declared.SheetForm.the-variants.{One, Two}

@@ -1,13 +1,17 @@
 -- "13: job sheet text breaks its form; line from 1; 0 if over 65,535 bytes": the line is determined, and bytes that break the form are neither a sheet nor begin with a count over its maximum.
 use mathlib.Core.List.{List}
 use mathlib.Core.Path.{_≡_}
-use Prim.Native.Nat.{ℕ}
+use Prim.Native.Nat.{ℕ, _≤_}
 use native.Mathlib.Omega.{arith}
+use Rattle.basics.specs.Lists.{All}
 use Rattle.refusal.specs.declared.Refusal.the-variants.{Form, Count}
+use Rattle.rows.specs.Chain.{Section, ChainOver, here, behind}
+use Rattle.elements.specs.declared.SheetForm.{SheetForm}
+use Rattle.elements.specs.declared.SheetForm.the-variants.{One, Two}
 use Rattle.sheet.specs.declared.Reading.{Reading}
 use Rattle.sheet.specs.declared.Reading.the-variants.{Refused}
 use Rattle.sheet.specs.Sheet.{reading}
-use Rattle.sheet.specs.Form.{KeepsForm, Over}
+use Rattle.sheet.specs.Form.{sections, KeepsForm, Over, in-rows, in-elem}
 use Rattle.sheet.specs.Breaks.{Breaks}
 use Rattle.sheet.specs.Reads.{SheetIs, sheet-is, over-reads, breaks-reads}
 use Rattle.sheet.specs.Exact.{sound-not, sound-keeps}
@@ -43,3 +47,17 @@ keeps-alone s k =
 
 pub breaks-alone : (s : List ℕ) (l which : ℕ) → Breaks s l → Over s which → ⊥
 breaks-alone s l which b o = not-count (reading s .end) l which (breaks-reads s l b) (over-reads o)
+
+-- a count over its maximum has a place up to 3
+chain-which : {s : List ℕ} {xs : List Section} {at which : ℕ} → All (λ (x : Section). x .which ≤ 3) xs → ChainOver s xs at which → which ≤ 3
+chain-which h (here x xs at n next c e) = h .0
+chain-which h (behind x xs at which t p k e o) = chain-which (h .1) o
+
+few-places : (f : SheetForm) → All (λ (x : Section). x .which ≤ 3) (sections f)
+unfolding sections
+few-places One = (omega arith, (omega arith, tt))
+few-places Two = (omega arith, (omega arith, (omega arith, tt)))
+
+pub over-most : {s : List ℕ} {which : ℕ} → Over s which → which ≤ 3
+over-most (in-rows f p which b o) = chain-which (few-places f) o
+over-most (in-elem f p ts q n next b k e c h) = omega arith

@@ -1,42 +1,40 @@
 -- Every reading of a sheet is one of three (`sheet-is`): its form is broken, a count is over its maximum, or the bytes are the text of numbers in form. And such a text is read as its numbers
 -- (`sheet-reads`, `over-reads`, `breaks-reads`). Said once for both forms: the first line tells the form, and the sections between `set` and `elem` are a chain.
 use mathlib.Core.Bool.{Bool, true, false, cond}
-use mathlib.Core.List.{List, [], _∷_, _++_, map, append-nil}
+use mathlib.Core.List.{List, [], _∷_, _++_, append-nil}
 use mathlib.Core.Path.{_≡_, refl, _∙_, ap, ap₂, sym, subst}
 use Prim.Native.Nat.{ℕ, suc, _+_, _≤_, _<_}
 use native.Mathlib.Nat.{zero-add}
 use native.Mathlib.Omega.{arith}
 use borrow.Author.Tests.{ltb-true, ltb-false, lt-ltb, le-ltb, eqb-true, eqb-false, eq-eqb, ne-eqb}
 use lib.Dec.{eqb, ltb}
-use lib.ListN.{length, getD, drop, length-append, length-map}
+use lib.ListN.{length, drop, length-append, length-map}
 use Rattle.basics.specs.Lists.{All}
 use Rattle.refusal.specs.declared.Refusal.{Refusal}
 use Rattle.refusal.specs.declared.Refusal.the-variants.{Form, Count}
 use Rattle.text.specs.declared.Place.{Place}
 use Rattle.text.specs.declared.Place.the-variants.{At, Off}
-use Rattle.text.specs.Text.{most, word}
+use Rattle.text.specs.Text.{word}
 use Rattle.text.specs.Print.{bytes, decimal}
 use Rattle.text.specs.Stands.{Stands, stands-then, stands-cut, word-stands, stands-word, stands-whole, whole-stands, begins-stands}
 use Rattle.rows.specs.declared.Part.{Part}
 use Rattle.rows.specs.declared.Part.the-variants.{Read, Refused}
 use Rattle.rows.specs.Section.{onPlace, onPart, Rows, lines, headOf, rowsOf, countOf}
 use Rattle.rows.specs.Whole.{Came, rows-whole, rows-came, head-came}
-use Rattle.rows.specs.Print.{rowsText, headText, sectionText, Small, Counted}
+use Rattle.rows.specs.Print.{rowsText, headText, sectionText, Small}
 use Rattle.rows.specs.Printed as rows
 use Rattle.rows.specs.Printed.{RowsIs, lines-is, stands-lines, singles-of}
 use Rattle.rows.specs.Breaks.{RowsBreak, lines-stuck, stuck-lines}
-use Rattle.rows.specs.Chain.{Chained, chain, chainText, linesIn, ChainKept, ChainOver, ChainBreaks, section-handed, ChainIs, Tops, chain-is, ChainRead, stands-chain, over-chain}
+use Rattle.rows.specs.Chain.{Chained, chain, chainText, linesIn, ChainKept, section-handed, ChainIs, Tops, chain-is, ChainRead, stands-chain, over-chain}
 use Rattle.rows.specs.Chain.{stuck-chain}
 use Rattle.elements.specs.declared.SheetForm.{SheetForm}
 use Rattle.elements.specs.declared.SheetForm.the-variants.{One, Two}
 use Rattle.elements.specs.declared.Elements.{Elements}
 use Rattle.elements.specs.declared.Elements.the-variants.{Read as ElementsRead, Refused as ElementsRefused}
 use Rattle.elements.specs.Elements.{Listed, elements}
-use Rattle.elements.specs.Print as elems
 use Rattle.elements.specs.Print.{Entry, elemText, KeptElements, allRuns, allLeft, listedOf}
 use Rattle.elements.specs.Printed as elem
 use Rattle.elements.specs.Breaks as elem-form
-use Rattle.sheet.specs.declared.Reading.{Reading}
 use Rattle.sheet.specs.declared.Reading.the-variants.{Sound, Refused as SheetRefused}
 use Rattle.sheet.specs.Sheet.{setWord, numbersIn, elemWord, opening, formBy, formOf, setOf, plain, singles, house, baseFrom, rubyFrom, leftHead, leftFrom, elemFrom, baseOf, rubyOf, leftOf, elemOf, endOf}
 use Rattle.sheet.specs.Sheet.{Sheet, reading}

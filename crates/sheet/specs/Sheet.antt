@@ -154,8 +154,11 @@ emOf t = setAt t 0
 abbrev pub measureOf : Sheet → ℕ
 measureOf t = setAt t 1
 
+abbrev pub ratiosIn : List ℕ → List (List ℕ)
+ratiosIn set = (getD set 2 0 ∷ getD set 3 0 ∷ getD set 4 0 ∷ []) ∷ (getD set 5 0 ∷ getD set 6 0 ∷ getD set 7 0 ∷ []) ∷ []
+
 abbrev pub ratiosOf : Sheet → List (List ℕ)
-ratiosOf t = (setAt t 2 ∷ setAt t 3 ∷ setAt t 4 ∷ []) ∷ (setAt t 5 ∷ setAt t 6 ∷ setAt t 7 ∷ []) ∷ []
+ratiosOf t = ratiosIn (column 0 (t .set))
 
 abbrev pub profileOf : Sheet → ℕ
 profileOf t = setAt t 8

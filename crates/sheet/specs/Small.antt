@@ -1,7 +1,7 @@
 -- Counts and line numbers of a sheet are small: what each section asks of its caller.
 use mathlib.Core.Bool.{Bool, true, false, cond}
 use mathlib.Core.List.{List}
-use mathlib.Core.Path.{_≡_, refl, ap}
+use mathlib.Core.Path.{_≡_, refl}
 use Prim.Native.Nat.{ℕ, _+_, _≤_}
 use native.Mathlib.Omega.{arith}
 use borrow.Author.Tests.{ltb-false}
@@ -13,7 +13,7 @@ use Rattle.text.specs.declared.Place.the-variants.{At, Off}
 use Rattle.text.specs.Text.{word}
 use Rattle.rows.specs.declared.Part.{Part}
 use Rattle.rows.specs.declared.Part.the-variants.{Read, Refused}
-use Rattle.rows.specs.Section.{onPlace, onPart, countOf, lineOf, headOf, rowsOf}
+use Rattle.rows.specs.Section.{onPlace, onPart, countOf, lineOf, headOf}
 use Rattle.rows.specs.Table.{RowsReady, SectionReady}
 use Rattle.rows.specs.Reading.{head-small}
 use Rattle.rows.specs.Whole.{Came, rows-counted, section-lines, head-came, rows-came}

@@ -1,21 +1,20 @@
 -- A sound sheet: its counts are those of the lines that were read, each within its maximum, and every line has all its numbers. So it is said once for both forms: a sound sheet is the text of numbers
 -- in form, and what is read of it are these.
 use mathlib.Core.List.{List, [], _∷_, _++_}
-use mathlib.Core.Path.{_≡_, refl, _∙_, ap, sym, subst}
+use mathlib.Core.Path.{_≡_, refl, _∙_, ap, sym}
 use Prim.Native.Nat.{ℕ, suc, _≤_}
 use native.Mathlib.Omega.{arith}
-use lib.ListN.{length, length-append, length-map}
+use lib.ListN.{length, length-append}
 use Rattle.basics.specs.Lists.{All}
-use Rattle.rows.specs.Print.{Kept, headText}
+use Rattle.rows.specs.Print.{headText}
 use Rattle.rows.specs.Chain.{chainText}
 use Rattle.elements.specs.declared.SheetForm.{SheetForm}
 use Rattle.elements.specs.declared.SheetForm.the-variants.{One, Two}
-use Rattle.elements.specs.Element.{rowOf}
-use Rattle.elements.specs.Print.{Entry, elementOf, elementsText, elemText, rowsOf, allRuns, allLeft}
+use Rattle.elements.specs.Print.{Entry, elementsText, elemText, rowsOf, allRuns, allLeft}
 use Rattle.elements.specs.Printed.{elements-long}
 use Rattle.sheet.specs.declared.Counts.{Counts}
 use Rattle.sheet.specs.declared.Reading.the-variants.{Sound}
-use Rattle.sheet.specs.Sheet.{plain, singles, elemWord, Sheet, reading}
+use Rattle.sheet.specs.Sheet.{elemWord, Sheet, reading}
 use Rattle.sheet.specs.Form.{Written, InForm, Shown, numbersOf, setText, sections, tablesBy, sheetText, sheetOf}
 use Rattle.sheet.specs.Reads.{single-count, single-wide, sheet-reads}
 use Rattle.sheet.specs.Exact.{sound-keeps}

@@ -1,38 +1,41 @@
--- The reading's answer decides. Where it is a refusal its text is written and no list has moved; where it is sound the tables hold the sheet's job, and what is told of that job is the answer.
-use Rattle.result.specs.Short.{refusal-short}
-use Rattle.setter.specs.Whole.{fits, answered-refused, tables-ready, answered-sound}
 use borrow.Author.Needs.{needs}
 use native.Mathlib.Omega.{arith}
+use borrow.Author.Needs.{needs}
 use Rattle.setter.proofs.set_sheet.Statement.{statement}
 use Rattle.setter.proofs.set_sheet.Tie as tie
+use Rattle.setter.proofs.set_sheet.Reads as reads
+use Rattle.setter.proofs.set_sheet.Lts as lts
+use Rattle.result.proofs.write_refusal.Reads as write-refusal-reads
+use Rattle.setter.proofs.set_tables.Reads as set-tables-reads
+use Rattle.sheet.proofs.read_sheet.Reads as read-sheet-reads
 
+-- src/lib.rt:216:11
 read-sheet-requires : tie.Need-read-sheet-requires
 read-sheet-requires c κs = search needs
 
+-- src/lib.rt:217:33
 enum-known-why : tie.Need-enum-known-why
 enum-known-why c = search needs
 
+-- src/lib.rt:217:41
 write-refusal-requires : tie.Need-write-refusal-requires
-write-refusal-requires c κs = omega (arith, refusal-short (c .before .before .why .given .0 .0), c .write-refusal-arg .given .0 .1)
+write-refusal-requires c κs = search needs
 
+-- src/lib.rt:218:31
 enum-known-n : tie.Need-enum-known-n
 enum-known-n c = search needs
 
+-- src/lib.rt:218:37
 set-tables-requires : tie.Need-set-tables-requires
-set-tables-requires c κs =
-    tables-ready (c .before .before .before .before .before .before .before .before .before .before .before .before .before .before .before .before .before .read-sheet .ensures) (c .before .before .before .before .before .before .before .before .before .before .before .before .before .before .before .n .given .1) (c .before .before .before .before .before .before .before .before .before .before .before .before .set-tables-arg2 .given .0) (c .before .before .before .before .before .before .before .before .before .before .set-tables-arg4 .given .0) (c .before .before .before .before .before .before .before .before .set-tables-arg6 .given .0) (c .before .before .before .before .before .before .set-tables-arg8 .given .0) (c .before .before .before .before .set-tables-arg10 .given .0)
-    (omega (arith, c .set-tables-arg14 .given .0 .1))
+set-tables-requires c κs = search needs
 
+-- src/lib.rt:198:1
 returns : tie.Need-returns
-returns c =
-    let a = answered-refused (c .before .before .before .before .before .read-sheet .ensures) (c .before .before .before .why .given .1) (c .write-refusal .ensures) in
-    (a, fits a (c .before .write-refusal-arg .given .0 .1))
+returns c = search needs
 
+-- src/lib.rt:198:1
 returns-2 : tie.Need-returns-2
-returns-2 c =
-    let a = answered-sound (c .before .before .before .before .before .before .before .before .before .before .before .before .before .before .before .before .before .before .read-sheet .ensures) (c .before .before .before .before .before .before .before .before .before .before .before .before .before .before .before .before .n .given .1) (c .before .before .before .before .before .before .before .before .before .before .before .before .before .set-tables-arg2 .given .0) (c .before .before .before .before .before .before .before .before .before .before .before .set-tables-arg4 .given .0) (c .before .before .before .before .before .before .before .before .before .set-tables-arg6 .given .0) (c .before .before .before .before .before .before .before .set-tables-arg8 .given .0) (c .before .before .before .before .before .set-tables-arg10 .given .0)
-    (c .before .before .before .before .set-tables-arg11 .given .0 .1) (c .before .before .before .set-tables-arg12 .given .0 .1) (c .before .before .set-tables-arg13 .given .0 .1) (c .set-tables .ensures) in
-    (a, fits a (c .before .set-tables-arg14 .given .0 .1))
+returns-2 c = search needs
 
 pub set-sheet-spec : {M : Type 1} → statement M
 set-sheet-spec =

@@ -1,9 +1,6 @@
 -- `sheet::form_of` meets its contract. Each arm is its test.
 use borrow.Author.Tests.{eq-eqb, ne-eqb}
 use mathlib.Core.Path.{_∙_, sym}
-use Prim.Native.Nat.{ℕ}
-use native.Mathlib.Omega.{arith}
-use mathlib.Core.Path.{_≡_}
 use Rattle.rows.specs.Section.{countOf}
 use Rattle.sheet.specs.Sheet.{formBy}
 use borrow.Author.Needs.{needs}
