@@ -7,3 +7,6 @@ pub mod Known
 pub mod Parts
 pub mod Ready
 pub mod Joined
+pub mod Fault
+pub mod First
+pub mod Back

@@ -58,3 +58,10 @@ pub record OtherReady (s : List ℕ) (n : Counts) (out : List ℕ) : Type 0 wher
 pub record SheetReady (f : SheetForm) (s : List ℕ) (n : Counts) (out : List ℕ) : Type 0 where
   pub form : reading s .form ≡ f
   pub ready : OtherReady s n out
+
+-- the counts of a sheet that was read, and its tables
+pub record FaultReady (n : Counts) (set elem : List ℕ) : Type 0 where
+  pub nine : length set ≡ 9
+  pub long : length elem ≡ 5120
+  pub few : n .bases + n .rubies ≤ 65535
+  pub elements : n .elements ≤ 1024

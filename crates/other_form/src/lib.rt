@@ -6,12 +6,15 @@ ghost use mathlib.Core.Bool.{cond};
 ghost use Prim.Native.Nat.{_+_, _-_, _≤_, _<_};
 ghost use lib.Dec.{eqb};
 ghost use lib.ListN.{length, getD, drop};
+ghost use Rattle.basics.specs.Lists.{any, other as otherThan};
 ghost use Rattle.text.specs.Print.{Wrote};
 ghost use Rattle.elements.specs.declared.SheetForm.the-variants.{One, Two};
-ghost use Rattle.other_form.specs.Other.{otherText};
+ghost use Rattle.sheet.specs.Sheet.{plain};
+ghost use Rattle.other_form.specs.Other.{otherText, unlike, firstOr, leftLine};
 ghost use Rattle.other_form.specs.Bytes.{pastLines, onBy, lettersOn, offBy, lettersOff};
 ghost use Rattle.other_form.specs.Parts.{part, partsText, cutsOf};
-ghost use Rattle.other_form.specs.Ready.{LettersReady, CutsReady, PartReady, PartsReady, SheetReady, OtherReady};
+ghost use Rattle.other_form.specs.Ready.{LettersReady, CutsReady, PartReady, PartsReady, SheetReady, OtherReady, FaultReady};
+ghost use Rattle.other_form.specs.Fault.{lineBy};
 
 // How many lines are left to count past a byte: "each line ended by LF".
 fn fewer(k: usize, b: u8) -> usize
@@ -189,4 +192,67 @@ pub fn write_other(s: &[u8], n: sheet::Counts, out: &mut [u8]) -> usize
     } else {
         to_two(s, n, out)
     }
+}
+
+// What form one does not show behind em and measure: "both ratios are 1:2:1 and the profile is 0".
+const PLAIN: [u32; 7] = [1, 2, 1, 1, 2, 1, 0];
+
+// The first line of a ratio or of the profile that form one can't hold, 0 if it can: line 4 has the first of these numbers.
+fn number_line(set: &[u32]) -> u32
+    requires { ⌜ length (now set) ≡ 9 ⌝ }
+    ensures { λ r. ⌜ r ≡ firstOr 0 (unlike 4 (drop 2 (now (set .entry))) plain) ⌝ }
+{
+    let plain = PLAIN;
+    let mut line: u32 = 4;
+    let mut i: usize = 0;
+    while i < 7 {
+        let at = i + 2;
+        if set[at] != plain[i] {
+            return line;
+        }
+        line += 1;
+        i += 1;
+    }
+    0
+}
+
+// Whether a left kind's letter is another than N.
+fn has_letter(letters: &[u32]) -> bool
+    ensures { λ r. ⌜ r ≡ any (otherThan 78) (now (letters .entry)) ⌝ }
+{
+    let mut i = 0;
+    while i < letters.len() {
+        if letters[i] != 78 {
+            return true;
+        }
+        i += 1;
+    }
+    false
+}
+
+// The number of the line `left`.
+fn left_line(n: sheet::Counts) -> u32
+    requires { ⌜ n .bases + n .rubies ≤ 65535 ⌝ }
+    ensures { λ r. ⌜ r ≡ leftLine (n .bases) (n .rubies) ⌝ }
+{
+    (n.bases + n.rubies + 13) as u32
+}
+
+// "17, a form two sheet that form one can't hold, .. place the first line at fault": its number by the tables that a sound sheet was read to, 0 if form one can hold it.
+pub fn fault_line(n: sheet::Counts, set: &[u32], elem: &[u32]) -> u32
+    requires { ⌜ FaultReady n (now set) (now elem) ⌝ }
+    ensures { λ r. ⌜ r ≡ lineBy n (now (set .entry)) (now (elem .entry)) ⌝ }
+{
+    let line = number_line(set);
+    if line != 0 {
+        return line;
+    }
+    if 0 < n.lefts {
+        return left_line(n);
+    }
+    let e = 3072 + n.elements;
+    if has_letter(&elem[3072..e]) {
+        return left_line(n);
+    }
+    0
 }
