@@ -41,7 +41,7 @@ most : (a b c : ℕ) → a ≡ 6144 → b ≡ 1024 → c ≡ 1024 → min (a / 6
 most a b c f g h = omega arith
 
 -- a sheet that keeps its form
-pub answered-sound : {s : List ℕ} {was t : Tables} {a : Reading} {n : Counts} → Into s was a t → a ≡ Sound n → Lent was →
+pub answered-sound : {s : List ℕ} {was t : Tables} {a : Reading} {n : Counts} → Into s was a t → a ≡ Sound n → Lent t →
     {before now : Lists} {out out' : List ℕ} {r : ℕ} → length (before .rows) ≡ 6144 → length (before .told) ≡ 1024 → length (before .wide) ≡ 1024 →
     Told (tablesJob n t) before out r now out' → Answered s was before out r t now out'
 unfolding accountOfSheet accountBy listsBy

@@ -228,7 +228,7 @@ fn tell_elements(
 // The job that the tables hold, column by column (`sheet::read_sheet`).
 fn tell_tables(
     n: sheet::Counts,
-    set: &[u32; 9],
+    set: &[u32],
     base: &[u32],
     ruby: &[u32],
     left: &[u32],
@@ -254,7 +254,7 @@ fn tell_tables(
     tell_elements(
         set[0],
         set[1],
-        sheet::ratios_of(set),
+        [[set[2], set[3], set[4]], [set[5], set[6], set[7]]],
         set[8],
         &base[0..b],
         &base[1024..b1],

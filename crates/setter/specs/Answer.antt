@@ -139,6 +139,7 @@ pub record ElementsLong (n : Counts) (left elem runs lruns : List ℕ) : Type 0 
   pub fewLruns : n .lruns ≤ 32768
 
 pub record TablesLong (n : Counts) (t : Tables) : Type 0 where
+  pub nine : length (t .set) ≡ 9
   pub longBase : length (t .base) ≡ 5120
   pub longRuby : length (t .ruby) ≡ 4096
   pub bases : n .bases ≤ 1024

@@ -12,7 +12,7 @@ use Rattle.sheet.specs.declared.Counts.{Counts}
 use Rattle.sheet.specs.declared.Reading.{Reading}
 use Rattle.sheet.specs.declared.Reading.the-variants.{Sound, Refused}
 use Rattle.sheet.specs.Sheet.{reading, Tables, Into}
-use Rattle.sheet.specs.Lent.{base-long, ruby-long, left-long, elem-long, runs-long, lruns-long, sound, base-part, ruby-part, left-part, elem-part, runs-part, lruns-part, set-at}
+use Rattle.sheet.specs.Lent.{set-long, base-long, ruby-long, left-long, elem-long, runs-long, lruns-long, sound, base-part, ruby-part, left-part, elem-part, runs-part, lruns-part, set-at}
 use Rattle.result.specs.Text.{refusalText}
 use Rattle.result.specs.Short.{refusal-short}
 use Rattle.setter.specs.Answer.{sheetJob, answerBy, answerText, Lists, listsBy, Told, part, tablesJob, Fits, TablesLong, Answered}
@@ -40,7 +40,7 @@ answered-refused {s} into {before} {out} {out'} {r} {why} e wrote =
       read = as-read into;
     }
 
--- the tables as they are lent
+-- the tables, as long as they are lent
 pub record Lent (t : Tables) : Type 0 where
   pub nine : length (t .set) ≡ 9
   pub longBase : length (t .base) ≡ 5120
@@ -51,24 +51,38 @@ pub record Lent (t : Tables) : Type 0 where
   pub longLruns : length (t .lruns) ≡ 32768
 
 -- a sheet that keeps its form
-module _ {s : List ℕ} {was t : Tables} {a : Reading} {n : Counts} (into : Into s was a t) (e : a ≡ Sound n) (l : Lent was) where
+module _ {s : List ℕ} {was t : Tables} {a : Reading} {n : Counts} (into : Into s was a t) (e : a ≡ Sound n) (now : Lent t) where
   is : reading s .end ≡ Sound n
   is = sym (into .answer) ∙ e
+
+  -- a table keeps its length
+  l : Lent was
+  l =
+      record {
+        nine = sym (set-long into) ∙ now .nine;
+        longBase = sym (base-long into) ∙ now .longBase;
+        longRuby = sym (ruby-long into) ∙ now .longRuby;
+        longLeft = sym (left-long into) ∙ now .longLeft;
+        longElem = sym (elem-long into) ∙ now .longElem;
+        longRuns = sym (runs-long into) ∙ now .longRuns;
+        longLruns = sym (lruns-long into) ∙ now .longLruns;
+      }
 
   pub tables-long : TablesLong n t
   tables-long =
       let w = sound into e in
       record {
-        longBase = base-long into ∙ l .longBase;
-        longRuby = ruby-long into ∙ l .longRuby;
+        nine = now .nine;
+        longBase = now .longBase;
+        longRuby = now .longRuby;
         bases = w .base .few;
         rubies = w .ruby .few;
         rest =
             record {
-              longLeft = left-long into ∙ l .longLeft;
-              longElem = elem-long into ∙ l .longElem;
-              longRuns = runs-long into ∙ l .longRuns;
-              longLruns = lruns-long into ∙ l .longLruns;
+              longLeft = now .longLeft;
+              longElem = now .longElem;
+              longRuns = now .longRuns;
+              longLruns = now .longLruns;
               lefts = w .left .few;
               elements = w .elem .few;
               fewRuns = w .fewRuns;
@@ -125,11 +139,11 @@ module _ {s : List ℕ} {was t : Tables} {a : Reading} {n : Counts} (into : Into
         set-at into e (l .nine) 8,
       )
 
-  pub answered-sound : {before now : Lists} {out out' : List ℕ} {r : ℕ} → length (before .base) ≡ 1024 → length (before .ruby) ≡ 2048 → length (before .left) ≡ 2048 → length (before .lines) ≡ 1024 →
-      Told (tablesJob n t) before out r now out' → Answered s was before out r t now out'
+  pub answered-sound : {before after : Lists} {out out' : List ℕ} {r : ℕ} → length (before .base) ≡ 1024 → length (before .ruby) ≡ 2048 → length (before .left) ≡ 2048 → length (before .lines) ≡ 1024 →
+      Told (tablesJob n t) before out r after out' → Answered s was before out r t after out'
   unfolding answerText answerBy listsBy
-  answered-sound {before} {now} {out} {out'} {r} lb lr ll le told =
-      let x : Told (sheetJob (reading s)) before out r now out' = subst (λ job. Told job before out r now out') same-job told in
+  answered-sound {before} {after} {out} {out'} {r} lb lr ll le told =
+      let x : Told (sheetJob (reading s)) before out r after out' = subst (λ job. Told job before out r after out') same-job told in
       record {
         text = subst (λ xs. Wrote out 0 xs r out') (rw (lb, lr, ll, le) (sym (ap (answerBy (reading s)) is))) (x .text);
         short = x .short;

@@ -27,6 +27,9 @@ list-part xs was u n size c few e l m f =
 
 module _ {s : List ℕ} {was : Tables} {r : Reading} {t : Tables} (into : Into s was r t) where
   -- a table keeps its length, however the reading ends
+  pub set-long : length (t .set) ≡ length (was .set)
+  set-long = ap length (into .setHolds) ∙ length-laid (was .set) 0 9 (reading s .set)
+
   pub base-long : length (t .base) ≡ length (was .base)
   base-long = ap length (into .baseHolds) ∙ length-laid (was .base) 0 1024 (reading s .base)
 
@@ -74,7 +77,7 @@ module _ {s : List ℕ} {was : Tables} {r : Reading} {t : Tables} (into : Into s
     -- the nine numbers of `set`, one after the other: em, measure, the ruby ratio, the base ratio, the profile
     set-part : length (was .set) ≡ 9 → t .set ≡ column 0 (reading s .set)
     set-part l =
-        sym (take-all 9 (t .set) (omega (arith, ap length (into .setHolds), length-laid (was .set) 0 9 (reading s .set))))
+        sym (take-all 9 (t .set) (omega (arith, set-long)))
         ∙ lines-part 1 9 9 9 (reading s .set) (was .set) (t .set) (omega arith) (sound .set) (into .setHolds) l 0 0 9 (omega arith) (omega arith) refl
 
     pub set-at : length (was .set) ≡ 9 → (i : ℕ) → getD (t .set) i 0 ≡ setAt (reading s) i

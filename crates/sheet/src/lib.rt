@@ -4,7 +4,7 @@
 ghost use mathlib.Core.Path.{_≡_};
 ghost use Rattle.rows.specs.Section.{countOf};
 ghost use Rattle.rows.specs.Table.{laid};
-ghost use Rattle.sheet.specs.Sheet.{opening, formBy, house, leftHead, LineFits, endOf, ratiosIn, tables, Into};
+ghost use Rattle.sheet.specs.Sheet.{opening, formBy, house, leftHead, LineFits, endOf, tables, Into};
 
 // How many base characters, ruby characters, left characters, elements, runs and left runs a sheet has.
 pub struct Counts {
@@ -113,13 +113,6 @@ fn ending(
             })
         }
     }
-}
-
-// The ratios of spread ruby and of spread base among the nine numbers of `set`, for those who have a job set.
-pub fn ratios_of(set: &[u32; 9]) -> [[u32; 3]; 2]
-    ensures { λ r. ⌜ r ≡ ratiosIn (now (set .entry)) ⌝ }
-{
-    [[set[2], set[3], set[4]], [set[5], set[6], set[7]]]
 }
 
 // Reads a job sheet. `set` gets em, measure, the three numbers of the ruby ratio, the three of the base ratio, and the profile; of form one 1, 2, 1, 1, 2, 1, 0 behind em and measure. A table holds

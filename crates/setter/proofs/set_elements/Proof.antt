@@ -1,167 +1,133 @@
+-- The parts that are lent lie within their tables; what is told of the job in lists is what is told here.
+use mathlib.Core.List.{List}
+use mathlib.Core.Path.{_≡_}
+use Prim.Native.Nat.{ℕ, _≤_}
 use borrow.Author.Needs.{needs}
 use native.Mathlib.Omega.{arith}
-use borrow.Author.Needs.{needs}
+use lib.ListN.{length}
 use Rattle.setter.proofs.set_elements.Statement.{statement}
 use Rattle.setter.proofs.set_elements.Tie as tie
-use Rattle.setter.proofs.set_elements.Reads as reads
-use Rattle.setter.proofs.set_elements.Lts as lts
-use Rattle.setter.proofs.set_lists.Reads as set-lists-reads
 
--- src/lib.rt:108:14
+within : (t : List ℕ) {e most : ℕ} → length t ≡ most → e ≤ most → e ≤ length t
+within t f h = omega arith
+
 add-l1 : tie.Need-add-l1
 add-l1 c = search needs
 
--- src/lib.rt:110:14
 add-e1 : tie.Need-add-e1
 add-e1 c = search needs
 
--- src/lib.rt:111:14
 add-e2 : tie.Need-add-e2
 add-e2 c = search needs
 
--- src/lib.rt:112:14
 add-e3 : tie.Need-add-e3
 add-e3 c = search needs
 
--- src/lib.rt:113:14
 add-e4 : tie.Need-add-e4
 add-e4 c = search needs
 
--- src/lib.rt:128:9
 sub-set-lists : tie.Need-sub-set-lists
 sub-set-lists c = search needs
 
--- src/lib.rt:128:9
 part-set-lists-start : tie.Need-part-set-lists-start
 part-set-lists-start c = search needs
 
--- src/lib.rt:128:9
 part-set-lists-end : tie.Need-part-set-lists-end
 part-set-lists-end c = search needs
 
--- src/lib.rt:129:9
 sub-set-lists-2 : tie.Need-sub-set-lists-2
 sub-set-lists-2 c = search needs
 
--- src/lib.rt:129:9
 part-set-lists-start-2 : tie.Need-part-set-lists-start-2
 part-set-lists-start-2 c = search needs
 
--- src/lib.rt:129:9
 part-set-lists-end-2 : tie.Need-part-set-lists-end-2
 part-set-lists-end-2 c = search needs
 
--- src/lib.rt:130:9
 sub-set-lists-3 : tie.Need-sub-set-lists-3
 sub-set-lists-3 c = search needs
 
--- src/lib.rt:130:9
 part-set-lists-start-3 : tie.Need-part-set-lists-start-3
 part-set-lists-start-3 c = search needs
 
--- src/lib.rt:130:9
 part-set-lists-end-3 : tie.Need-part-set-lists-end-3
 part-set-lists-end-3 c = search needs
 
--- src/lib.rt:131:9
 sub-set-lists-4 : tie.Need-sub-set-lists-4
 sub-set-lists-4 c = search needs
 
--- src/lib.rt:131:9
 part-set-lists-start-4 : tie.Need-part-set-lists-start-4
 part-set-lists-start-4 c = search needs
 
--- src/lib.rt:131:9
 part-set-lists-end-4 : tie.Need-part-set-lists-end-4
 part-set-lists-end-4 c = search needs
 
--- src/lib.rt:132:9
 sub-set-lists-5 : tie.Need-sub-set-lists-5
 sub-set-lists-5 c = search needs
 
--- src/lib.rt:132:9
 part-set-lists-start-5 : tie.Need-part-set-lists-start-5
 part-set-lists-start-5 c = search needs
 
--- src/lib.rt:132:9
 part-set-lists-end-5 : tie.Need-part-set-lists-end-5
 part-set-lists-end-5 c = search needs
 
--- src/lib.rt:133:9
 sub-set-lists-6 : tie.Need-sub-set-lists-6
 sub-set-lists-6 c = search needs
 
--- src/lib.rt:133:9
 part-set-lists-start-6 : tie.Need-part-set-lists-start-6
 part-set-lists-start-6 c = search needs
 
--- src/lib.rt:133:9
 part-set-lists-end-6 : tie.Need-part-set-lists-end-6
 part-set-lists-end-6 c = search needs
 
--- src/lib.rt:134:9
 sub-set-lists-7 : tie.Need-sub-set-lists-7
 sub-set-lists-7 c = search needs
 
--- src/lib.rt:134:9
 part-set-lists-start-7 : tie.Need-part-set-lists-start-7
 part-set-lists-start-7 c = search needs
 
--- src/lib.rt:134:9
 part-set-lists-end-7 : tie.Need-part-set-lists-end-7
 part-set-lists-end-7 c = search needs
 
--- src/lib.rt:135:9
 sub-set-lists-8 : tie.Need-sub-set-lists-8
 sub-set-lists-8 c = search needs
 
--- src/lib.rt:135:9
 part-set-lists-start-8 : tie.Need-part-set-lists-start-8
 part-set-lists-start-8 c = search needs
 
--- src/lib.rt:135:9
 part-set-lists-end-8 : tie.Need-part-set-lists-end-8
 part-set-lists-end-8 c = search needs
 
--- src/lib.rt:136:9
 sub-set-lists-9 : tie.Need-sub-set-lists-9
 sub-set-lists-9 c = search needs
 
--- src/lib.rt:136:9
 part-set-lists-start-9 : tie.Need-part-set-lists-start-9
 part-set-lists-start-9 c = search needs
 
--- src/lib.rt:136:9
 part-set-lists-end-9 : tie.Need-part-set-lists-end-9
-part-set-lists-end-9 c = search needs
+part-set-lists-end-9 c = let a = c .before .before .before .before .before .before .before .before .before .before .before .before .before .before .before .before .before .before .before
+    .before .before .before .before .before in within (a .args .lruns .now) (a .pre .0 .longLruns) (a .pre .0 .fewLruns)
 
--- src/lib.rt:116:5
 set-lists-requires : tie.Need-set-lists-requires
 set-lists-requires c κs = search needs
 
--- src/lib.rt:80:1
 same-length : tie.Need-same-length
 same-length c = search needs
 
--- src/lib.rt:80:1
 same-length-2 : tie.Need-same-length-2
 same-length-2 c = search needs
 
--- src/lib.rt:80:1
 same-length-3 : tie.Need-same-length-3
 same-length-3 c = search needs
 
--- src/lib.rt:80:1
 same-length-4 : tie.Need-same-length-4
 same-length-4 c = search needs
 
--- src/lib.rt:80:1
 same-length-5 : tie.Need-same-length-5
 same-length-5 c = search needs
 
--- src/lib.rt:80:1
 returns : tie.Need-returns
-returns c = search needs
+returns c = c .before .before .before .before .before .before .before .before .before .before .set-lists .ensures
 
 pub set-elements-spec : {M : Type 1} → statement M
 set-elements-spec =
