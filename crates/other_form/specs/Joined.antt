@@ -118,11 +118,11 @@ module _ (a n h b l e t : List ℕ) where
   join-one = simp append-assoc
 
 -- the other form of a sheet whose form is known
-other-one : (s : List ℕ) → reading s .form ≡ One → otherText s ≡ sheetText Two (writtenOf (reading s))
+pub other-one : (s : List ℕ) → reading s .form ≡ One → otherText s ≡ sheetText Two (writtenOf (reading s))
 unfolding otherText other
 other-one s e = ap (λ f. sheetText (other f) (writtenOf (reading s))) e
 
-other-two : (s : List ℕ) → reading s .form ≡ Two → otherText s ≡ sheetText One (writtenOf (reading s))
+pub other-two : (s : List ℕ) → reading s .form ≡ Two → otherText s ≡ sheetText One (writtenOf (reading s))
 unfolding otherText other
 other-two s e = ap (λ f. sheetText (other f) (writtenOf (reading s))) e
 

@@ -10,3 +10,4 @@ pub mod Joined
 pub mod Fault
 pub mod First
 pub mod Back
+pub mod Short

@@ -1,0 +1,3 @@
+pub mod Modest
+pub mod Convert
+pub mod Accepted
