@@ -1,3 +1,5 @@
 pub mod Modest
 pub mod Convert
 pub mod Accepted
+pub mod Steps
+pub mod Whole

@@ -117,7 +117,7 @@ column-singles [] = refl
 column-singles (v ∷ vs) = ap {B = List ℕ} (λ l. v ∷ l) (column-singles vs)
 
 -- seven numbers stand behind em and measure in both forms
-house-seven : (f : SheetForm) (r : Written) → Shown f r → length (r .house) ≡ 7
+pub house-seven : (f : SheetForm) (r : Written) → Shown f r → length (r .house) ≡ 7
 unfolding Shown
 house-seven One r h = ap length (h .0)
 house-seven Two r h = h .0
