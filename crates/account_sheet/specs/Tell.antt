@@ -131,15 +131,15 @@ module _ (job : Job) (rows told wide : List ℕ) where
         many : (a b c : ℕ) → baseCount job ≤ min (a / 6) (min b c) → (6 * baseCount job ≤ a) × (baseCount job ≤ b) × (baseCount job ≤ c)
         many a b c h = (omega arith, omega arith, omega arith)
 
-    lists : (telling job rows told wide .rows ≡ sets rows 0 (accounts job)) × (telling job rows told wide .told ≡ sets told 0 (counts job)) × (telling job rows told wide .extents ≡ sets wide 0 (extents job))
+    kept : (telling job rows told wide .rows ≡ sets rows 0 (accounts job)) × (telling job rows told wide .told ≡ sets told 0 (counts job)) × (telling job rows told wide .extents ≡ sets wide 0 (extents job))
     unfolding telling tellingBy
-    lists = (rw (set-given set .0), rw (set-given set .0), rw (set-given set .0))
+    kept = (rw (set-given set .0), rw (set-given set .0), rw (set-given set .0))
 
     abbrev readings : ℕ
     readings = readingsOf (job .kind) (job .leftKind) (elementCount job)
 
     set-text : listsText n (elementCount job) readings (telling job rows told wide .rows) (telling job rows told wide .told) (telling job rows told wide .extents) ≡ accountText job
-    set-text = rw (lists .0, lists .1, lists .2, set-given set .1) (text-is job door fill rows told wide (long .0) (long .1) (long .2))
+    set-text = rw (kept .0, kept .1, kept .2, set-given set .1) (text-is job door fill rows told wide (long .0) (long .1) (long .2))
 
     set-is : jobAccount job m ≡ accountText job
     unfolding jobAccount tellingText
@@ -150,7 +150,7 @@ module _ (job : Job) (rows told wide : List ℕ) where
 
     set-ready : {out : List ℕ} → longest ≤ length out →
         ListsReady n (elementCount job) readings (telling job rows told wide .rows) (telling job rows told wide .told) (telling job rows told wide .extents) out
-    set-ready h = rw (lists .0, lists .1, lists .2, set-given set .1) (lists-ready job door fill rows told wide (long .0) (long .1) (long .2) (omega (arith, set-short)))
+    set-ready h = rw (kept .0, kept .1, kept .2, set-given set .1) (lists-ready job door fill rows told wide (long .0) (long .1) (long .2) (omega (arith, set-short)))
 
 -- what the account left, and a text after it
 abbrev Tells : Job → List ℕ → List ℕ → List ℕ → List ℕ → Telling → ℕ → List ℕ → Type 0

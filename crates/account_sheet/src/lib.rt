@@ -1,12 +1,12 @@
 // A job sheet of either form in, its account out: bytes to bytes, and nothing is asked of the caller. A page that can be set is told line by line, with the reason for each gap; one that can't is
 // refused as the setting refuses it, and where a line is too long the account says how far. It relies on `sheet` for the reading, on `job_account` for the account, on `layout` and `shortest` for
 // what a declined line needs, and on `account_text` for the text.
-ghost use Prim.Native.Nat.{_+_, _≤_};
+ghost use Prim.Native.Nat.{_≤_};
 ghost use lib.ListN.{length};
 ghost use Rattle.text.specs.Print.{Wrote};
 ghost use Rattle.door.specs.Job.{jobOf};
 ghost use Rattle.sheet.specs.Sheet.{tables};
-ghost use Rattle.setter.specs.Answer.{part, ElementsLong, TablesLong, tablesJob, Fits};
+ghost use Rattle.setter.specs.Answer.{ElementsLong, TablesLong, elementsJob, tablesJob, Fits};
 ghost use Rattle.account_text.specs.Short.{longest};
 ghost use Rattle.account_sheet.specs.Answer.{declinedText, Declined, lists, Told, Answered};
 
@@ -186,7 +186,7 @@ fn tell_elements(
 ) -> usize
     requires { ⌜ ElementsLong n (now left) (now elem) (now runs) (now lruns) ⌝ }
     requires { ⌜ longest ≤ length (now out) ⌝ }
-    ensures { λ r. let job = jobOf em measure ratios profile (now (class .entry)) (now (width .entry)) (now (before .entry)) (now (after .entry)) (now (flag .entry)) (now (rclass .entry)) (now (rwidth .entry)) (part 0 (n .lefts) (now (left .entry))) (part 2048 (2048 + n .lefts) (now (left .entry))) (part 0 (n .elements) (now (elem .entry))) (part 1024 (1024 + n .elements) (now (elem .entry))) (part 2048 (2048 + n .elements) (now (elem .entry))) (part 3072 (3072 + n .elements) (now (elem .entry))) (part 4096 (4096 + n .elements) (now (elem .entry))) (part 0 (n .runs) (now (runs .entry))) (part 0 (n .lruns) (now (lruns .entry))) in ⌜ Told job (lists (now (rows .entry)) (now (told .entry)) (now (extents .entry))) (now (out .entry)) r (lists (now (rows .exit)) (now (told .exit)) (now (extents .exit))) (now (out .exit)) ⌝ }
+    ensures { λ r. let job = elementsJob em measure ratios profile (now (class .entry)) (now (width .entry)) (now (before .entry)) (now (after .entry)) (now (flag .entry)) (now (rclass .entry)) (now (rwidth .entry)) n (now (left .entry)) (now (elem .entry)) (now (runs .entry)) (now (lruns .entry)) in ⌜ Told job (lists (now (rows .entry)) (now (told .entry)) (now (extents .entry))) (now (out .entry)) r (lists (now (rows .exit)) (now (told .exit)) (now (extents .exit))) (now (out .exit)) ⌝ }
 {
     let l = n.lefts;
     let l1 = 2048 + l;

@@ -1,12 +1,12 @@
 // A job sheet in, its answer out (document 01, "The job sheet": "reads a sheet .. and writes `refused N P`, or a result"; document 02, R-6, for its second form): bytes to bytes, and nothing is asked
 // of the caller. The tables are lent, so that a program says once how large they are; what each holds afterwards is part of the contract. It relies on `sheet` for the reading, on `engine` for
 // the job and on `result` for the text.
-ghost use Prim.Native.Nat.{_+_, _≤_};
+ghost use Prim.Native.Nat.{_≤_};
 ghost use lib.ListN.{length};
 ghost use Rattle.door.specs.Job.{jobOf};
 ghost use Rattle.sheet.specs.Sheet.{tables};
 ghost use Rattle.result.specs.Short.{longest};
-ghost use Rattle.setter.specs.Answer.{part, lists, Told, ElementsLong, TablesLong, tablesJob, Fits, Answered};
+ghost use Rattle.setter.specs.Answer.{lists, Told, ElementsLong, TablesLong, elementsJob, tablesJob, Fits, Answered};
 
 // Sets a job in lists and writes its text.
 fn set_lists(
@@ -102,7 +102,7 @@ fn set_elements(
 ) -> usize
     requires { ⌜ ElementsLong n (now left) (now elem) (now runs) (now lruns) ⌝ }
     requires { ⌜ longest ≤ length (now out) ⌝ }
-    ensures { λ r. let job = jobOf em measure ratios profile (now (class .entry)) (now (width .entry)) (now (before .entry)) (now (after .entry)) (now (flag .entry)) (now (rclass .entry)) (now (rwidth .entry)) (part 0 (n .lefts) (now (left .entry))) (part 2048 (2048 + n .lefts) (now (left .entry))) (part 0 (n .elements) (now (elem .entry))) (part 1024 (1024 + n .elements) (now (elem .entry))) (part 2048 (2048 + n .elements) (now (elem .entry))) (part 3072 (3072 + n .elements) (now (elem .entry))) (part 4096 (4096 + n .elements) (now (elem .entry))) (part 0 (n .runs) (now (runs .entry))) (part 0 (n .lruns) (now (lruns .entry))) in ⌜ Told job (lists (now (bases .entry)) (now (rubies .entry)) (now (lefts .entry)) (now (lines .entry))) (now (out .entry)) r (lists (now (bases .exit)) (now (rubies .exit)) (now (lefts .exit)) (now (lines .exit))) (now (out .exit)) ⌝ }
+    ensures { λ r. let job = elementsJob em measure ratios profile (now (class .entry)) (now (width .entry)) (now (before .entry)) (now (after .entry)) (now (flag .entry)) (now (rclass .entry)) (now (rwidth .entry)) n (now (left .entry)) (now (elem .entry)) (now (runs .entry)) (now (lruns .entry)) in ⌜ Told job (lists (now (bases .entry)) (now (rubies .entry)) (now (lefts .entry)) (now (lines .entry))) (now (out .entry)) r (lists (now (bases .exit)) (now (rubies .exit)) (now (lefts .exit)) (now (lines .exit))) (now (out .exit)) ⌝ }
 {
     let l = n.lefts;
     let l1 = 2048 + l;
