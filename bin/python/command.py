@@ -39,6 +39,18 @@ is too long.
 Status 0: an account. 1: refused. 2: could not be run; one line on standard error says why, and there is no answer.
 The first run proves and builds the program, which takes some minutes. docs/MANUAL.md, "The account", has the form of each line.
 """),
+    'convert': ('convert', """\
+usage: bin/convert [FILE]
+
+Writes a job sheet in the other form: form one (`set 2`) in form two (`set 9`), and form two in form one where that can hold it. FILE is the sheet;
+without FILE, or with -, it is read from standard input. The answer goes to standard output: the other sheet whole, or one line `refused N P` with the
+number and the place of the first fault; 17 is a form two sheet that form one can't hold. No file is written or changed.
+
+  --help   this text
+
+Status 0: converted. 1: refused. 2: could not be run; one line on standard error says why, and there is no answer.
+The first run proves and builds the program, which takes some minutes. docs/MANUAL.md has both forms and every refusal.
+"""),
 }
 
 
@@ -86,7 +98,7 @@ def run(program, given):
 def refused(answer):
     """The number of a refusal; 0 where the sheet is set. An answer is whole if it is of the one form or the other and its last line has an end."""
     words = answer.split(b'\n', 1)[0].split(b' ')
-    if answer.endswith(b'\n') and words[0] in (b'lines', b'clear'):
+    if answer.endswith(b'\n') and words[0] in (b'lines', b'clear', b'set'):
         return 0
     if answer.endswith(b'\n') and len(words) == 3 and words[0] == b'refused' and words[1].isdigit() and int(words[1]) > 0:
         return int(words[1])

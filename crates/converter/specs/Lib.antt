@@ -3,3 +3,4 @@ pub mod Convert
 pub mod Accepted
 pub mod Steps
 pub mod Whole
+pub mod Exact

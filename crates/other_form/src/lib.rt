@@ -1,12 +1,11 @@
 // A sheet in the other form (document 02, R-6: "A converter takes every form one sheet whose job is accepted to form two and back to the same bytes"), and the first line of a form two sheet that form
 // one can't hold. A sound sheet has one spelling, so the other sheet is written from its lines: those that both forms have are copied. It relies on `sheet` for what a sheet says, and on `text` for
-// bytes written.
+// bytes written, and on `basics` for a search.
 ghost use mathlib.Core.Path.{_≡_};
 ghost use mathlib.Core.Bool.{cond};
 ghost use Prim.Native.Nat.{_+_, _-_, _≤_, _<_};
 ghost use lib.Dec.{eqb};
 ghost use lib.ListN.{length, getD, drop};
-ghost use Rattle.basics.specs.Lists.{any, other as otherThan};
 ghost use Rattle.text.specs.Print.{Wrote};
 ghost use Rattle.elements.specs.declared.SheetForm.the-variants.{One, Two};
 ghost use Rattle.sheet.specs.Sheet.{plain};
@@ -216,20 +215,6 @@ fn number_line(set: &[u32]) -> u32
     0
 }
 
-// Whether a left kind's letter is another than N.
-fn has_letter(letters: &[u32]) -> bool
-    ensures { λ r. ⌜ r ≡ any (otherThan 78) (now (letters .entry)) ⌝ }
-{
-    let mut i = 0;
-    while i < letters.len() {
-        if letters[i] != 78 {
-            return true;
-        }
-        i += 1;
-    }
-    false
-}
-
 // The number of the line `left`.
 fn left_line(n: sheet::Counts) -> u32
     requires { ⌜ n .bases + n .rubies ≤ 65535 ⌝ }
@@ -251,7 +236,7 @@ pub fn fault_line(n: sheet::Counts, set: &[u32], elem: &[u32]) -> u32
         return left_line(n);
     }
     let e = 3072 + n.elements;
-    if has_letter(&elem[3072..e]) {
+    if basics::any_but(78, &elem[3072..e]) {
         return left_line(n);
     }
     0

@@ -29,17 +29,17 @@ returns-2 c =
 add-e : tie.Need-add-e
 add-e c = search needs
 
-sub-has-letter : tie.Need-sub-has-letter
-sub-has-letter c = search needs
+sub-any-but : tie.Need-sub-any-but
+sub-any-but c = search needs
 
-part-has-letter-start : tie.Need-part-has-letter-start
-part-has-letter-start c = search needs
+part-any-but-start : tie.Need-part-any-but-start
+part-any-but-start c = search needs
 
-part-has-letter-end : tie.Need-part-has-letter-end
-part-has-letter-end c = search needs
+part-any-but-end : tie.Need-part-any-but-end
+part-any-but-end c = search needs
 
-has-letter-requires : tie.Need-has-letter-requires
-has-letter-requires c κs = search needs
+any-but-requires : tie.Need-any-but-requires
+any-but-requires c κs = search needs
 
 left-line-requires-2 : tie.Need-left-line-requires-2
 left-line-requires-2 c κs = search needs
@@ -53,7 +53,7 @@ returns-3 c =
     let b = i .before in
     let a = b .before .before .before .args in
     c .left-line2 .ensures
-    ∙ by-left (a .n) (a .set .now) (a .elem .now) (b .number-line .ensures) (i .if1 .left) (rw (le-ltb _ _ (e .if2 .left)) (sym (h .has-letter .ensures) ∙ t .if3 .taken))
+    ∙ by-left (a .n) (a .set .now) (a .elem .now) (b .number-line .ensures) (i .if1 .left) (rw (le-ltb _ _ (e .if2 .left)) (sym (h .any-but .ensures) ∙ t .if3 .taken))
 
 returns-4 : tie.Need-returns-4
 returns-4 c =
@@ -62,7 +62,7 @@ returns-4 c =
     let i = e .before .before in
     let b = i .before in
     let a = b .before .before .before .args in
-    by-none (a .n) (a .set .now) (a .elem .now) (b .number-line .ensures) (i .if1 .left) (rw (le-ltb _ _ (e .if2 .left)) (sym (h .has-letter .ensures) ∙ c .if3 .left))
+    by-none (a .n) (a .set .now) (a .elem .now) (b .number-line .ensures) (i .if1 .left) (rw (le-ltb _ _ (e .if2 .left)) (sym (h .any-but .ensures) ∙ c .if3 .left))
 
 pub fault-line-spec : {M : Type 1} → statement M
 fault-line-spec =
@@ -73,10 +73,10 @@ fault-line-spec =
     left-line-requires
     returns-2
     add-e
-    sub-has-letter
-    part-has-letter-start
-    part-has-letter-end
-    has-letter-requires
+    sub-any-but
+    part-any-but-start
+    part-any-but-end
+    any-but-requires
     left-line-requires-2
     returns-3
     returns-4)
