@@ -143,7 +143,7 @@ fn set_elements(
 }
 
 // The job that the tables hold, column by column (`sheet::read_sheet`).
-fn set_tables(
+pub fn set_tables(
     n: sheet::Counts,
     set: &[u32],
     base: &[u32],

@@ -1,0 +1,6 @@
+pub mod Modest
+pub mod Convert
+pub mod Accepted
+pub mod Steps
+pub mod Whole
+pub mod Exact
