@@ -1,7 +1,7 @@
 -- A sheet whose job is accepted is converted within 65,535 bytes: form one to form two by the job's limits (`Modest`), form two to form one since that is shorter.
 use mathlib.Core.List.{List, [], _∷_, _++_, head?}
-use mathlib.Core.Option.{Option, none, some}
-use mathlib.Core.Path.{_≡_, refl, _∙_, ap, sym, subst}
+use mathlib.Core.Option.{none}
+use mathlib.Core.Path.{_≡_, refl, _∙_, ap, subst}
 use Prim.Native.Nat.{ℕ, _≤_, min}
 use native.Mathlib.Omega.{arith}
 use lib.ListN.{length, getD, length-map}
@@ -13,8 +13,7 @@ use Rattle.elements.specs.Print.{rowsOf, elementOf}
 use Rattle.sheet.specs.declared.Counts.{Counts}
 use Rattle.sheet.specs.declared.Reading.the-variants.{Sound}
 use Rattle.sheet.specs.Sheet.{Sheet, reading}
-use Rattle.sheet.specs.Form.{Written, InForm, sheetText, sheetOf, writtenOf}
-use Rattle.refusal.specs.declared.Refusal.{Refusal}
+use Rattle.sheet.specs.Form.{Written, InForm, sheetOf, writtenOf}
 use Rattle.door.specs.Job.{Job, baseCount, rubyCount, elementCount}
 use Rattle.door.specs.Refusals.{ownFaults}
 use Rattle.door.specs.Verdict.{append-none}
@@ -22,7 +21,7 @@ use Rattle.door.specs.Passed.{Passed, passed}
 use Rattle.job.specs.Refusals.{linesFaults, faults, fault}
 use Rattle.setter.specs.Answer.{sheetJob}
 use Rattle.other_form.specs.Other.{otherText, Holds}
-use Rattle.other_form.specs.Known.{Known, known}
+use Rattle.other_form.specs.Known.{known}
 use Rattle.other_form.specs.Joined.{other-one}
 use Rattle.other_form.specs.Back.{back-short}
 use Rattle.other_form.specs.Short.{two-short}

@@ -1,4 +1,5 @@
--- What the converter writes of a sheet (document 02, R-6), from its bytes alone: the other sheet whole, or `refused N P`. "17 .. given by the converter only, after 13"; "other jobs get their refusal".
+-- What the converter writes of a sheet (document 02, R-6), from its bytes alone: the other sheet whole, or `refused N P`. "17 .. given by the converter only, after 13"; "other jobs get their
+-- refusal".
 use mathlib.Core.Bool.{cond}
 use mathlib.Core.List.{List}
 use mathlib.Core.Option.{Option, none, some}
@@ -8,7 +9,7 @@ use lib.Dec.{eqb}
 use lib.ListN.{length}
 use Rattle.text.specs.Print.{Wrote}
 use Rattle.refusal.specs.declared.Refusal.{Refusal}
-use Rattle.refusal.specs.declared.Refusal.the-variants.{Form}
+use Rattle.refusal.specs.declared.Refusal.the-variants.{OtherForm}
 use Rattle.sheet.specs.declared.Counts.{Counts}
 use Rattle.sheet.specs.declared.Reading.{Reading}
 use Rattle.sheet.specs.declared.Reading.the-variants.{Sound, Refused}
@@ -39,7 +40,7 @@ unfolding judged given faultLine refusalText
 convertBy s (Refused r) = refusalText r
 convertBy s (Sound n) =
     let line = faultLine (writtenOf (reading s)) in
-    cond (eqb line 0) (judged s (given (reading s))) (refusalText (Form line))
+    cond (eqb line 0) (judged s (given (reading s))) (refusalText (OtherForm line))
 
 unfoldable pub convertText : List ℕ → List ℕ
 unfolding convertBy reading

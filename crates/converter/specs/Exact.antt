@@ -1,21 +1,21 @@
--- What the converter's answer says (document 02, R-6). It is one of four (`convert-is`): the reading's refusal, 17 with the first line at fault, the job's own refusal, or the other sheet; and the other
--- sheet goes back to the same bytes (`there-and-back`) and has the same job, so the same answer (`same-answer`).
+-- What the converter's answer says (document 02, R-6). It is one of four (`convert-is`): the reading's refusal, 17 with the first line at fault, the job's own refusal, or the other sheet; and the
+-- other sheet goes back to the same bytes (`there-and-back`) and has the same job, so the same answer (`same-answer`).
 use mathlib.Core.Bool.{Bool, true, false, cond}
 use mathlib.Core.List.{List}
 use mathlib.Core.Option.{Option, none, some}
 use mathlib.Core.Path.{_≡_, refl, _∙_, ap, sym, subst}
-use Prim.Native.Nat.{ℕ, _<_, _≤_}
+use Prim.Native.Nat.{ℕ, _<_}
 use native.Mathlib.Omega.{arith}
-use borrow.Author.Tests.{eqb-true, eqb-false, eq-eqb, ne-eqb}
+use borrow.Author.Tests.{eqb-true, eqb-false, ne-eqb}
 use lib.Dec.{eqb}
 use lib.ListN.{length}
 use Rattle.refusal.specs.declared.Refusal.{Refusal}
-use Rattle.refusal.specs.declared.Refusal.the-variants.{Form}
+use Rattle.refusal.specs.declared.Refusal.the-variants.{OtherForm}
 use Rattle.elements.specs.declared.SheetForm.the-variants.{One, Two}
 use Rattle.sheet.specs.declared.Counts.{Counts}
 use Rattle.sheet.specs.declared.Reading.{Reading}
 use Rattle.sheet.specs.declared.Reading.the-variants.{Sound, Refused}
-use Rattle.sheet.specs.Sheet.{Sheet, reading}
+use Rattle.sheet.specs.Sheet.{reading}
 use Rattle.sheet.specs.Form.{Written, InForm, sheetOf, writtenOf}
 use Rattle.sheet.specs.Exact.{SoundAs}
 use Rattle.door.specs.Job.{Job}
@@ -55,12 +55,12 @@ module _ (s : List ℕ) where
   unfolding convertText convertBy
   by-reading why e = ap (convertBy s) e
 
-  by-line : (n : Counts) → reading s .end ≡ Sound n → convertText s ≡ cond (eqb (faultLine r) 0) (judged s (given (reading s))) (refusalText (Form (faultLine r)))
+  by-line : (n : Counts) → reading s .end ≡ Sound n → convertText s ≡ cond (eqb (faultLine r) 0) (judged s (given (reading s))) (refusalText (OtherForm (faultLine r)))
   unfolding convertText convertBy
   by-line n e = ap (convertBy s) e
 
   -- "17, a form two sheet that form one can't hold, .. place the first line at fault"
-  pub by-fault : (l : ℕ) (c : Counts) → reading s .end ≡ Sound c → FirstFault r l → convertText s ≡ refusalText (Form l)
+  pub by-fault : (l : ℕ) (c : Counts) → reading s .end ≡ Sound c → FirstFault r l → convertText s ≡ refusalText (OtherForm l)
   by-fault l c e f =
       let p = first-exactly r (seven c e) l .1 f in
       by-line c e ∙ rw (p .0, ne-eqb l 0 (λ z. omega (arith, p .1)))
@@ -81,7 +81,7 @@ module _ (s : List ℕ) where
 -- one of four
 pub data ConvertIs (s : List ℕ) : List ℕ → Type 0 where
   unread : (why : Refusal) → reading s .end ≡ Refused why → ConvertIs s (refusalText why)
-  unheld : (c : Counts) (l : ℕ) → reading s .end ≡ Sound c → FirstFault (writtenOf (reading s)) l → ConvertIs s (refusalText (Form l))
+  unheld : (c : Counts) (l : ℕ) → reading s .end ≡ Sound c → FirstFault (writtenOf (reading s)) l → ConvertIs s (refusalText (OtherForm l))
   declined : (c : Counts) (why : Refusal) → reading s .end ≡ Sound c → Holds (writtenOf (reading s)) → given (reading s) ≡ some why → ConvertIs s (refusalText why)
   written : (c : Counts) → reading s .end ≡ Sound c → Holds (writtenOf (reading s)) → given (reading s) ≡ none → ConvertIs s (otherText s)
 

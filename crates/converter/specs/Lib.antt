@@ -3,4 +3,6 @@ pub mod Convert
 pub mod Accepted
 pub mod Steps
 pub mod Whole
+pub mod Determined
 pub mod Exact
+pub mod Seventeen

@@ -1,31 +1,28 @@
--- An accepted job is written in form two within 65,535 bytes: its classes are at most 27, its widths at most 4,096, its blanks at most the width, its flags at most 1 (3, 4), its counts at most 32 and 64
--- (5), and its elements take the base characters one after the other (6). So each line is as short as `Modest` asks for.
-use mathlib.Core.Bool.{Bool, true, false, cond, _&&_, _||_, true≢false, false≢true}
+-- An accepted job is written in form two within 65,535 bytes: its classes are at most 27, its widths at most 4,096, its blanks at most the width, its flags at most 1 (3, 4), its counts at most 32
+-- and 64 (5), and its elements take the base characters one after the other (6). So each line is as short as `Modest` asks for.
+use mathlib.Core.Bool.{Bool, true, false, _&&_, _||_, false≢true}
 use mathlib.Core.List.{List, [], _∷_, _++_, map}
 use mathlib.Core.Path.{_≡_, refl, _∙_, ap, ap₂, sym, subst}
-use Prim.Native.Nat.{ℕ, zero, suc, _+_, _*_, _≤_, _<_, min}
+use Prim.Native.Nat.{ℕ, zero, suc, _+_, _*_, _≤_, _<_}
 use native.Mathlib.Nat.{add-zero, add-assoc}
 use native.Mathlib.Omega.{arith}
 use borrow.Author.Tests.{leb-true}
-use lib.Dec.{leb, eqb}
-use lib.ListN.{length, getD, drop, length-map, length-append}
+use lib.Dec.{leb}
+use lib.ListN.{length, getD, drop, length-append}
 use Rattle.basics.specs.Lists.{sum, All}
-use Rattle.text.specs.Print.{bytes}
-use Rattle.rows.specs.Print.{lineText, Kept}
+use Rattle.rows.specs.Print.{lineText}
 use Rattle.rows.specs.Table.{column}
-use Rattle.elements.specs.declared.SheetForm.{SheetForm}
 use Rattle.elements.specs.declared.SheetForm.the-variants.{One, Two}
-use Rattle.elements.specs.Print.{Right, M, G, J, Left, Entry, P, word, none, elementText, elementsText, Fit, basesOf, rightOf, elementOf, rowsOf, runsOf, rightRuns, allRuns}
-use Rattle.sheet.specs.Form.{Written, InForm, sheetOf}
-use Rattle.class.specs.Class.{accepted, within}
+use Rattle.elements.specs.Print.{Right, M, G, J, Left, Entry, P, word, none, elementText, elementsText, Fit, basesOf, elementOf, rowsOf, runsOf, rightRuns, allRuns}
+use Rattle.sheet.specs.Form.{Written, InForm}
+use Rattle.class.specs.Class.{accepted}
 use Rattle.word.specs.declared.Form.{Form}
 use Rattle.word.specs.declared.Form.the-variants as form
 use Rattle.door.specs.declared.Piece.{Piece}
 use Rattle.door.specs.declared.Taken.{Taken}
 use Rattle.door.specs.Job.{Job, baseCount, rubyCount, elementCount, entries, formOf, takesBase, takesRuby, takesRuns, nothing, past, element, elementsFrom, elements}
-use Rattle.door.specs.Passed.{Passed, GoodBase, GoodReading, GoodElement, Few, Tiled}
+use Rattle.door.specs.Passed.{Passed, GoodBase, GoodReading, GoodElement, Tiled}
 use Rattle.other_form.specs.Short.{Modest, RightSmall, short-base, short-ruby, short-word, short-plain}
-use Rattle.setter.specs.Answer.{sheetJob}
 
 -- Lists.
 

@@ -1,29 +1,27 @@
 -- What is written, by what the code finds: the line at fault, and the first byte of the job's own text, which is `r` of `refused` or `l` of `lines`.
-use mathlib.Core.Bool.{Bool, true, false, cond}
-use mathlib.Core.List.{List, [], _∷_, _++_}
+use mathlib.Core.Bool.{cond}
+use mathlib.Core.List.{List, _++_}
 use mathlib.Core.Option.{Option, none, some}
 use mathlib.Core.Path.{_≡_, refl, _∙_, ap, sym, subst}
 use Prim.Native.Nat.{ℕ, _+_, _-_, _≤_, _<_}
-use native.Mathlib.Nat.{zero-add}
 use native.Mathlib.Omega.{arith}
-use borrow.Author.Tests.{eq-eqb, ne-eqb}
+use borrow.Author.Tests.{ne-eqb}
 use lib.Dec.{eqb}
-use lib.ListN.{length, getD, take, drop, length-append, List·getD-append}
-use lib.Seq.{sets, sets-eq, length-sets, take-append-seam}
-use Rattle.text.specs.Print.{bytes, Wrote}
+use lib.ListN.{length, getD, take, drop, List·getD-append}
+use lib.Seq.{sets-eq, length-sets, take-append-seam}
+use Rattle.text.specs.Print.{Wrote}
 use Rattle.refusal.specs.declared.Refusal.{Refusal}
-use Rattle.refusal.specs.declared.Refusal.the-variants.{Form}
+use Rattle.refusal.specs.declared.Refusal.the-variants.{OtherForm}
 use Rattle.sheet.specs.declared.Counts.{Counts}
-use Rattle.sheet.specs.declared.Reading.{Reading}
-use Rattle.sheet.specs.declared.Reading.the-variants.{Sound, Refused}
-use Rattle.sheet.specs.Sheet.{Sheet, reading, Tables, Into}
-use Rattle.sheet.specs.Form.{Written, InForm, Shown, writtenOf}
+use Rattle.sheet.specs.declared.Reading.the-variants.{Sound}
+use Rattle.sheet.specs.Sheet.{reading, Tables}
+use Rattle.sheet.specs.Form.{writtenOf}
 use Rattle.door.specs.Job.{Job}
 use Rattle.job.specs.Refusals.{fault}
 use Rattle.result.specs.Text.{lineOne, lineTwo, resultText, refusalText}
 use Rattle.result.specs.Short.{longest, refusal-short}
 use Rattle.setter.specs.Answer.{setText, textBy, jobText, sheetJob, tablesJob, TablesLong}
-use Rattle.setter.specs.Whole.{Lent, tables-long, same-job}
+use Rattle.setter.specs.Whole.{tables-long, same-job}
 use Rattle.sheet.specs.Lent.{set-long, elem-long}
 use Rattle.other_form.specs.Other.{otherText, Holds, faultLine}
 use Rattle.other_form.specs.Ready.{FaultReady, OtherReady}
@@ -77,11 +75,11 @@ module _ {s : List ℕ} {n : Counts} {t : Tables} {out : List ℕ} (q : TablesHo
   line-is : lineBy n (t .set) (t .elem) ≡ faultLine (writtenOf (reading s))
   line-is = line-by (q .into) nine wide
 
-  by-line : convertText s ≡ (let line = faultLine (writtenOf (reading s)) in cond (eqb line 0) (judged s (given (reading s))) (refusalText (Form line)))
+  by-line : convertText s ≡ (let line = faultLine (writtenOf (reading s)) in cond (eqb line 0) (judged s (given (reading s))) (refusalText (OtherForm line)))
   unfolding convertText convertBy
   by-line = ap (convertBy s) sound
 
-  pub wrote-fault : {l r : ℕ} {out' : List ℕ} → l ≡ lineBy n (t .set) (t .elem) → (l ≡ 0 → ⊥) → Wrote out 0 (refusalText (Form l)) r out' → Wrote out 0 (convertText s) r out'
+  pub wrote-fault : {l r : ℕ} {out' : List ℕ} → l ≡ lineBy n (t .set) (t .elem) → (l ≡ 0 → ⊥) → Wrote out 0 (refusalText (OtherForm l)) r out' → Wrote out 0 (convertText s) r out'
   wrote-fault {l} {r} {out'} e h w =
       let f = e ∙ line-is in
       subst (λ xs. Wrote out 0 xs r out') (sym (by-line ∙ rw (← f, ne-eqb l 0 h))) w
@@ -116,12 +114,15 @@ module _ {s : List ℕ} {n : Counts} {t : Tables} {out : List ℕ} (q : HoldsRea
         job : Job
         job = sheetJob (reading s)
 
-        go : (f : Option Refusal) → fault job 1024 2048 2048 1024 ≡ f → (0 < length (textBy job (fault job 1024 2048 2048 1024)) → getD told' 0 0 ≡ getD (textBy job (fault job 1024 2048 2048 1024)) 0 0) → Case
+        own : List ℕ
+        own = textBy job (fault job 1024 2048 2048 1024)
+
+        go : (f : Option Refusal) → fault job 1024 2048 2048 1024 ≡ f → (0 < length own → getD told' 0 0 ≡ getD own 0 0) → Case
         go (some why) e h =
-            let same : textBy job (fault job 1024 2048 2048 1024) ≡ refusalText why = ap (textBy job) e in
+            let same : own ≡ refusalText why = ap (textBy job) e in
             refused why e (h (omega (arith, ap length same, refusal-first why .1)) ∙ ap (λ l. getD l 0 0) same ∙ refusal-first why .0) same
         go none e h =
-            let same : textBy job (fault job 1024 2048 2048 1024) ≡ setText job = ap (textBy job) e in
+            let same : own ≡ setText job = ap (textBy job) e in
             accepted e (h (omega (arith, ap length same, set-first job .1)) ∙ ap (λ l. getD l 0 0) same ∙ set-first job .0)
 
     pub wrote-refused : {k : ℕ} {out' : List ℕ} → getD told' 0 0 ≡ 114 → Wrote out 0 (take (r - 0) (drop 0 told')) k out' → Wrote out 0 (convertText s) k out'

@@ -11,7 +11,7 @@ use lib.ListN.{length}
 use lib.Seq.{length-sets, length-take-le}
 use Rattle.text.specs.Print.{Wrote}
 use Rattle.refusal.specs.declared.Refusal.{Refusal}
-use Rattle.refusal.specs.declared.Refusal.the-variants.{Form}
+use Rattle.refusal.specs.declared.Refusal.the-variants.{OtherForm}
 use Rattle.sheet.specs.declared.Counts.{Counts}
 use Rattle.sheet.specs.declared.Reading.{Reading}
 use Rattle.sheet.specs.declared.Reading.the-variants.{Sound, Refused}
@@ -41,9 +41,9 @@ module _ (s : List ℕ) where
   judged-short n e h none ok = other-short s n e h ok
   judged-short n e h (some why) ok = omega (arith, refusal-short why)
 
-  sound-short : (n : Counts) → reading s .end ≡ Sound n → (b : Bool) → eqb (faultLine r) 0 ≡ b → length (cond b (judged s (given (reading s))) (refusalText (Form (faultLine r)))) ≤ 65535
+  sound-short : (n : Counts) → reading s .end ≡ Sound n → (b : Bool) → eqb (faultLine r) 0 ≡ b → length (cond b (judged s (given (reading s))) (refusalText (OtherForm (faultLine r)))) ≤ 65535
   sound-short n e true z = judged-short n e (held-by n e (eqb-true (faultLine r) 0 z)) (given (reading s)) refl
-  sound-short n e false z = omega (arith, refusal-short (Form (faultLine r)))
+  sound-short n e false z = omega (arith, refusal-short (OtherForm (faultLine r)))
 
   pub convert-short : length (convertText s) ≤ 65535
   unfolding convertText convertBy

@@ -88,7 +88,7 @@ fn convert_tables(
 {
     let line = other_form::fault_line(n, set, elem);
     if line != 0 {
-        return result::write_refusal(refusal::Refusal::Form(line), out);
+        return result::write_refusal(refusal::Refusal::OtherForm(line), out);
     }
     write_judged(s, n, set, base, ruby, left, elem, runs, lruns, out)
 }

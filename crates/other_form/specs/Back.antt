@@ -1,5 +1,5 @@
--- There and back (document 02, R-6: "to form two and back to the same bytes"): a sheet that form one can hold, written in the other form, is a sound sheet of that form with the same numbers, if it is not
--- over-long; so its own other form is the first sheet. Form one is never longer than form two.
+-- There and back (document 02, R-6: "to form two and back to the same bytes"): a sheet that form one can hold, written in the other form, is a sound sheet of that form with the same numbers, if it
+-- is not over-long; so its own other form is the first sheet. Form one is never longer than form two.
 use mathlib.Core.Bool.{false, true≢false}
 use mathlib.Core.List.{List, [], _∷_, _++_}
 use mathlib.Core.Path.{_≡_, refl, _∙_, ap, ap₂, sym, subst}
@@ -11,7 +11,7 @@ use Rattle.text.specs.Print.{bytes}
 use Rattle.rows.specs.Print.{Small, Kept}
 use Rattle.elements.specs.declared.SheetForm.{SheetForm}
 use Rattle.elements.specs.declared.SheetForm.the-variants.{One, Two}
-use Rattle.elements.specs.Print.{Entry, Left, P, word, none, mono, group, jukugo, rightText, leftText, elementText, elementsText, RightFit, LeftFit, basesOf, Fit, KeptElements}
+use Rattle.elements.specs.Print.{Entry, P, word, none, mono, group, jukugo, rightText, leftText, elementText, elementsText, LeftFit, Fit}
 use Rattle.sheet.specs.declared.Counts.{Counts}
 use Rattle.sheet.specs.declared.Reading.the-variants.{Sound}
 use Rattle.sheet.specs.Sheet.{Sheet, plain, reading}
@@ -20,7 +20,7 @@ use Rattle.sheet.specs.Reads.{sheet-reads}
 use Rattle.sheet.specs.Exact.{SoundAs, print-read}
 use Rattle.other_form.specs.Other.{other, otherText, hasLeft, Holds}
 use Rattle.other_form.specs.Text.{numbersPart, rowsPart, headPart, plainText, noneText, text-one, text-two}
-use Rattle.other_form.specs.Known.{Known, known}
+use Rattle.other_form.specs.Known.{known}
 
 -- form one shows nothing that it can't hold
 none-left : (es : List Entry) → All (Fit One) es → All (λ e. hasLeft e ≡ false) es

@@ -1,12 +1,12 @@
 -- The first line at fault, by the tables that a sheet was read to: they hold its numbers column by column, so that it is the one that the document means (`line-by`).
-use mathlib.Core.Bool.{Bool, true, false, cond, not, _||_}
-use mathlib.Core.List.{List, [], _∷_, _++_, map}
-use mathlib.Core.Path.{_≡_, refl, _∙_, ap, ap₂, sym, subst}
-use Prim.Native.Nat.{ℕ, suc, _+_, _-_, _*_, _≤_, _<_}
+use mathlib.Core.Bool.{Bool, true, false, cond, _||_}
+use mathlib.Core.List.{List, [], _∷_, _++_}
+use mathlib.Core.Path.{_≡_, refl, _∙_, ap, sym}
+use Prim.Native.Nat.{ℕ, suc, _+_, _-_, _≤_, _<_}
 use native.Mathlib.Omega.{arith}
 use borrow.Author.Tests.{eq-eqb, ne-eqb}
 use lib.Dec.{eqb, ltb}
-use lib.ListN.{length, getD, take, drop, length-map, drop-of-length-le}
+use lib.ListN.{length, getD, drop, length-map, drop-of-length-le}
 use lib.Seq.{take-all}
 use Rattle.text.specs.Places.{drop-at}
 use Rattle.basics.specs.Lists.{All, any, other}
@@ -15,12 +15,12 @@ use Rattle.rows.specs.Columns.{column-part}
 use Rattle.elements.specs.declared.SheetForm.{SheetForm}
 use Rattle.elements.specs.declared.SheetForm.the-variants.{One, Two}
 use Rattle.elements.specs.Element.{rowOf}
-use Rattle.elements.specs.Print.{Entry, Left, P, word, none, mono, group, jukugo, elementOf, rowsOf}
+use Rattle.elements.specs.Print.{Entry, P, word, none, mono, group, jukugo, elementOf, rowsOf}
 use Rattle.sheet.specs.declared.Counts.{Counts}
 use Rattle.sheet.specs.declared.Reading.the-variants.{Sound}
 use Rattle.sheet.specs.Sheet.{Sheet, plain, singles, reading, Tables, Into}
-use Rattle.sheet.specs.Form.{Written, InForm, Shown, sheetOf, writtenOf}
-use Rattle.other_form.specs.Other.{unlike, firstOr, leftLine, hasLeft, hasReading, faults, faultLine}
+use Rattle.sheet.specs.Form.{Written, Shown, sheetOf, writtenOf}
+use Rattle.other_form.specs.Other.{unlike, firstOr, leftLine, hasLeft, faults, faultLine}
 use Rattle.other_form.specs.Parts.{part}
 use Rattle.other_form.specs.Ready.{FaultReady}
 use Rattle.other_form.specs.Known.{Known, known}

@@ -1,17 +1,16 @@
--- Refusal 17's place (document 02, R-6: "17, a form two sheet that form one can't hold, .. place the first line at fault (a reading: the `left` count line)"): `faultLine` is 0 exactly where form one can
--- hold the sheet, and else it is a line at fault before which there is none.
-use mathlib.Core.Bool.{Bool, true, false, cond, _||_, true≢false}
+-- Refusal 17's place (document 02, R-6: "17, a form two sheet that form one can't hold, .. place the first line at fault (a reading: the `left` count line)"): `faultLine` is 0 exactly where form one
+-- can hold the sheet, and else it is a line at fault before which there is none.
+use mathlib.Core.Bool.{Bool, true, false, cond, true≢false}
 use mathlib.Core.List.{List, [], _∷_, _++_}
 use mathlib.Core.Logic.{_↔_}
 use mathlib.Core.Path.{_≡_, refl, _∙_, ap, ap₂, sym, subst}
 use Prim.Native.Nat.{ℕ, zero, suc, _+_, _≤_, _<_}
 use native.Mathlib.Omega.{arith}
-use borrow.Author.Tests.{eqb-true, eqb-false, ltb-false, lt-ltb}
+use borrow.Author.Tests.{eqb-true, eqb-false, ltb-false}
 use lib.Dec.{eqb, ltb}
 use lib.ListN.{length, getD}
-use Rattle.basics.specs.Lists.{All, any}
+use Rattle.basics.specs.Lists.{any}
 use Rattle.basics.specs.Laws.{or-none, any-none, none-any}
-use Rattle.elements.specs.Print.{Entry}
 use Rattle.sheet.specs.Sheet.{plain}
 use Rattle.sheet.specs.Form.{Written}
 use Rattle.other_form.specs.Other.{hasLeft, Holds, unlike, leftLine, hasReading, faults, firstOr, faultLine}

@@ -1,16 +1,15 @@
--- The parts of a sheet, cut and put together anew, are the other sheet: what `cutsOf` finds are the places where its parts stand, and the words between them and the letters are what the other form has
--- there.
-use mathlib.Core.List.{List, [], _∷_, _++_, append-assoc}
+-- The parts of a sheet, cut and put together anew, are the other sheet: what `cutsOf` finds are the places where its parts stand, and the words between them and the letters are what the other form
+-- has there.
+use mathlib.Core.List.{List, [], _++_, append-assoc}
 use mathlib.Core.Path.{_≡_, refl, _∙_, ap, sym, subst}
 use mathlib.Core.Bool.{Bool, true, false, true≢false}
-use Prim.Native.Nat.{ℕ, _+_, _-_, _≤_}
+use Prim.Native.Nat.{ℕ, _+_, _≤_}
 use native.Mathlib.Omega.{arith}
 use borrow.Author.Tests.{eq-eqb, ne-eqb}
 use lib.Dec.{eqb}
 use lib.ListN.{length, getD, drop, length-append}
 use Rattle.text.specs.Print.{bytes, Wrote}
 use Rattle.text.specs.Written.{then, same-long}
-use Rattle.text.specs.Stands.{Stands}
 use Rattle.elements.specs.declared.SheetForm.{SheetForm}
 use Rattle.elements.specs.declared.SheetForm.the-variants.{One, Two}
 use Rattle.elements.specs.Print.{elementsText}
@@ -22,8 +21,8 @@ use Rattle.other_form.specs.Other.{other, otherText, Holds}
 use Rattle.other_form.specs.Bytes.{pastLines, lettersOn, lettersOff}
 use Rattle.other_form.specs.Lines.{past-stands, stands-part, on-elements, off-elements}
 use Rattle.other_form.specs.Text.{numbersPart, rowsPart, headPart, plainText, noneText, text-one, text-two}
-use Rattle.other_form.specs.Known.{Known, known, Parts, numbers-passes, rows-part-passes, head-part-passes, one-parts, two-parts}
-use Rattle.other_form.specs.Parts.{part, partsText, cutsOf, cut-a, cut-b, cuts-are}
+use Rattle.other_form.specs.Known.{known, Parts, numbers-passes, rows-part-passes, head-part-passes, one-parts, two-parts}
+use Rattle.other_form.specs.Parts.{partsText, cutsOf, cut-a, cut-b, cuts-are}
 use Rattle.other_form.specs.Ready.{CutsReady, PartsReady, OtherReady, SheetReady}
 
 -- what a call with the cuts k, and a room for `all`, asks for

@@ -1,10 +1,10 @@
 -- What a sound reading says of a sheet: its bytes are the text of its numbers, which are in form, and the counts are theirs. So it is known where each part of it stands.
 use mathlib.Core.List.{List, [], _∷_, _++_}
 use mathlib.Core.Path.{_≡_, refl, _∙_, ap, sym, subst}
-use Prim.Native.Nat.{ℕ, _+_, _≤_}
-use native.Mathlib.Nat.{zero-add, add-zero}
+use Prim.Native.Nat.{ℕ, _+_}
+use native.Mathlib.Nat.{add-zero}
 use native.Mathlib.Omega.{arith}
-use lib.ListN.{length, drop, length-append}
+use lib.ListN.{length, drop}
 use lib.Seq.{drop-length}
 use mathlib.Core.List.{append-nil}
 use Rattle.text.specs.Print.{bytes}
@@ -62,7 +62,8 @@ numbers-passes r = rows-passes 0 (singles (r .em ∷ r .measure ∷ [])) (refl, 
 pub rows-part-passes : (r : Written) {f : SheetForm} → InForm f r → (k : ℕ) → k ≡ length (r .base) + length (r .ruby) + 2 → Passes k (rowsPart r)
 unfolding rowsPart
 rows-part-passes r form k e =
-    let p = passes-then (section-passes (bytes "base ") 4 (r .base) (word-plain (bytes "base ") refl) (form .base .wide)) (section-passes (bytes "ruby ") 1 (r .ruby) (word-plain (bytes "ruby ") refl) (form .ruby .wide)) in
+    let b = section-passes (bytes "base ") 4 (r .base) (word-plain (bytes "base ") refl) (form .base .wide) in
+    let p = passes-then b (section-passes (bytes "ruby ") 1 (r .ruby) (word-plain (bytes "ruby ") refl) (form .ruby .wide)) in
     subst (λ q. Passes q (sectionText (bytes "base ") (r .base) ++ sectionText (bytes "ruby ") (r .ruby))) (more (length (r .base)) (length (r .ruby)) e) p
   where
     more : (b r : ℕ) → k ≡ b + r + 2 → 1 + b + (1 + r) ≡ k

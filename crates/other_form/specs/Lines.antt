@@ -1,19 +1,18 @@
 -- Laws of Bytes over a sheet's text: a line of numbers, a section's first line and what an M, G or J line shows in form one hold no LF but the one that ends them, and neither P nor N behind their
 -- first byte. So lines are counted as the text has them, and the letters go on and off line by line.
 use mathlib.Core.Bool.{Bool, true, false, cond, _&&_, _||_, true≢false}
-use mathlib.Core.List.{List, [], _∷_, _++_, append-assoc, append-nil}
+use mathlib.Core.List.{List, [], _∷_, _++_, append-assoc}
 use mathlib.Core.Path.{_≡_, refl, _∙_, ap, sym}
-use Prim.Native.Nat.{ℕ, zero, suc, _+_, _-_, _/_, _%_, _^_, _≤_, _<_}
+use Prim.Native.Nat.{ℕ, zero, suc, _+_, _-_, _/_, _%_, _^_, _<_}
 use native.Mathlib.Nat.{add-zero}
-use native.Mathlib.Numerals.{add-one}
 use native.Mathlib.Omega.{arith}
 use borrow.Author.Tests.{ne-eqb}
 use lib.Dec.{eqb}
-use lib.ListN.{length, getD, take, drop, length-append}
+use lib.ListN.{length, take, drop, length-append}
 use lib.Seq.{take-at}
 use Rattle.basics.specs.Lists.{All, any, each}
 use Rattle.basics.specs.Laws.{or-none}
-use Rattle.text.specs.Print.{bytes, spell, width, decimal}
+use Rattle.text.specs.Print.{spell, width, decimal}
 use Rattle.text.specs.Stands.{Stands}
 use Rattle.rows.specs.Print.{spaced, numbersText, lineText, headText, rowsText, sectionText}
 use Rattle.elements.specs.declared.SheetForm.the-variants.{One, Two}

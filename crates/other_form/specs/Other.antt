@@ -1,6 +1,6 @@
 -- A sheet in the other form (document 02, R-6), and when form one can't hold a sheet of form two. "A converter takes every form one sheet .. to form two and back to the same bytes"; "Form two goes
 -- back only if it has no left reading, both ratios are 1:2:1 and the profile is 0."
-use mathlib.Core.Bool.{Bool, true, false, cond, not, _||_}
+use mathlib.Core.Bool.{Bool, true, false, cond, _||_}
 use mathlib.Core.List.{List, [], _∷_, _++_}
 use mathlib.Core.Path.{_≡_}
 use Prim.Native.Nat.{ℕ, _+_}

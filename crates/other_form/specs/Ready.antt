@@ -4,7 +4,6 @@ use mathlib.Core.Path.{_≡_, _∙_}
 use Prim.Native.Nat.{ℕ, _+_, _-_, _≤_}
 use lib.ListN.{length}
 use Rattle.elements.specs.declared.SheetForm.{SheetForm}
-use Rattle.elements.specs.declared.SheetForm.the-variants.{Two}
 use Rattle.sheet.specs.declared.Counts.{Counts}
 use Rattle.sheet.specs.declared.Reading.the-variants.{Sound}
 use Rattle.sheet.specs.Sheet.{reading}

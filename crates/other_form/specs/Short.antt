@@ -1,8 +1,8 @@
--- How long a form two sheet is whose numbers are within a job's limits: under 65,535 bytes (document 01: "At most 1,024 base characters, 2,048 ruby characters, 1,024 elements"). A line of `base` takes 20
--- bytes at most, one of `ruby` 8, and one of `elem` 10 and three for each base character.
+-- How long a form two sheet is whose numbers are within a job's limits: under 65,535 bytes (document 01: "At most 1,024 base characters, 2,048 ruby characters, 1,024 elements"). A line of `base`
+-- takes 20 bytes at most, one of `ruby` 8, and one of `elem` 10 and three for each base character.
 use mathlib.Core.List.{List, [], _∷_, _++_}
-use mathlib.Core.Path.{_≡_, refl, _∙_, ap, sym}
-use Prim.Native.Nat.{ℕ, suc, _+_, _*_, _^_, _≤_, _<_}
+use mathlib.Core.Path.{_≡_, refl}
+use Prim.Native.Nat.{ℕ, _+_, _*_, _≤_}
 use native.Mathlib.Nat.{mul-suc, mul-le-mul-left}
 use native.Mathlib.Omega.{arith}
 use lib.ListN.{length, length-append}
@@ -11,8 +11,7 @@ use Rattle.text.specs.Print.{bytes, decimal}
 use Rattle.text.specs.Written.{decimal-le, decimal-below}
 use Rattle.rows.specs.Print.{spaced, numbersText, lineText, headText, rowsText, sectionText}
 use Rattle.elements.specs.declared.SheetForm.the-variants.{One, Two}
-use Rattle.elements.specs.Print.{Right, M, G, J, Entry, P, word, none, rightText, leftText, elementText, elementsText, basesOf}
-use Rattle.sheet.specs.Sheet.{singles}
+use Rattle.elements.specs.Print.{Right, M, G, J, P, word, none, rightText, leftText, elementText, elementsText, basesOf}
 use Rattle.sheet.specs.Form.{Written, InForm, Shown, sheetText}
 use Rattle.other_form.specs.Text.{numbersPart, rowsPart, headPart}
 use Rattle.other_form.specs.Back.{long-two}

@@ -1,23 +1,17 @@
--- The text of a sheet in its parts, form one beside form two where form one can hold it (document 02, R-6): the same lines in the same order, but for the first line, the seven numbers, the `left` line
--- and the letters. So the bytes of one sheet, part by part, are the other sheet (`OneParts`, `TwoParts`).
+-- The text of a sheet in its parts, form one beside form two where form one can hold it (document 02, R-6): the same lines in the same order, but for the first line, the seven numbers, the `left`
+-- line and the letters. So the bytes of one sheet, part by part, are the other sheet (`OneParts`, `TwoParts`).
 use mathlib.Core.List.{List, [], _∷_, _++_, append-assoc, append-nil}
-use mathlib.Core.Path.{_≡_, refl, _∙_, ap, sym, subst}
-use Prim.Native.Nat.{ℕ, _+_, _≤_}
-use native.Mathlib.Nat.{zero-add}
-use native.Mathlib.Omega.{arith}
-use lib.ListN.{length, drop, length-append}
-use lib.Seq.{drop-length}
-use Rattle.basics.specs.Lists.{All}
-use Rattle.text.specs.Print.{bytes, decimal}
-use Rattle.text.specs.Stands.{Stands, stands-cut, whole-stands}
+use mathlib.Core.Path.{_≡_, refl, _∙_, ap, sym}
+use Prim.Native.Nat.{ℕ}
+use lib.ListN.{length}
+use Rattle.text.specs.Print.{bytes}
 use Rattle.rows.specs.Print.{lineText, headText, rowsText, sectionText}
 use Rattle.rows.specs.Chain.{chainText}
 use Rattle.elements.specs.declared.SheetForm.{SheetForm}
 use Rattle.elements.specs.declared.SheetForm.the-variants.{One, Two}
 use Rattle.elements.specs.Print.{elementsText, elemText}
 use Rattle.sheet.specs.Sheet.{plain, singles}
-use Rattle.sheet.specs.Form.{Written, setText, numbersOf, sections, tablesBy, sheetText, InForm}
-use Rattle.other_form.specs.Lines.{Passes, rows-passes, head-passes, section-passes, passes-then}
+use Rattle.sheet.specs.Form.{Written, setText, numbersOf, sections, tablesBy, sheetText}
 
 -- what both forms have alike: em and measure, the sections `base` and `ruby`, and the first line of `elem`
 unfoldable pub numbersPart : Written → List ℕ

@@ -1,7 +1,7 @@
 -- The line that the tables give is the first line at fault; where there is none, the sheet is judged.
 use native.Mathlib.Omega.{arith}
 use borrow.Author.Needs.{needs}
-use Rattle.refusal.specs.declared.Refusal.the-variants.{Form}
+use Rattle.refusal.specs.declared.Refusal.the-variants.{OtherForm}
 use Rattle.result.specs.Short.{refusal-short}
 use Rattle.converter.specs.Steps.{line-ready, wrote-fault, held}
 use Rattle.converter.proofs.convert_tables.Statement.{statement}
@@ -16,7 +16,7 @@ fault-line-requires c κs = line-ready (start c .pre)
 write-refusal-requires : tie.Need-write-refusal-requires
 write-refusal-requires c κs =
     let f = c .before .before in
-    omega (arith, refusal-short (Form (f .fault-line .result)), start (f .before) .pre .room)
+    omega (arith, refusal-short (OtherForm (f .fault-line .result)), start (f .before) .pre .room)
 
 same-length : tie.Need-same-length
 same-length c = search needs

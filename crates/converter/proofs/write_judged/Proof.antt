@@ -1,5 +1,4 @@
 -- The first byte of the job's own text says whether it is refused; if it is not, the other sheet is written.
-use native.Mathlib.Omega.{arith}
 use borrow.Author.Needs.{needs}
 use Rattle.converter.specs.Steps.{long-tables, refused-fits, wrote-refused, other-ready, wrote-other}
 use Rattle.converter.proofs.write_judged.Statement.{statement}

@@ -1,18 +1,18 @@
 -- At each byte what is left to write is what the bytes from here on become. A step writes what is left of one byte.
-use mathlib.Core.Path.{_≡_, _∙_, ap, sym, subst}
-use mathlib.Core.List.{List, _++_}
-use Prim.Native.Nat.{ℕ, _+_, _-_, _≤_}
+use mathlib.Core.Path.{_∙_, ap, sym}
+use mathlib.Core.List.{_++_}
+use Prim.Native.Nat.{_+_, _-_, _≤_}
 use native.Mathlib.Omega.{arith}
 use lib.ListN.{length, getD, drop, length-append}
 use borrow.Author.Needs.{needs}
-use Rattle.text.specs.Print.{Wrote}
 use Rattle.other_form.specs.Bytes.{offBy, lettersOff}
 use Rattle.other_form.specs.Steps.{ToWrite, write-all, write-step, write-done, off-step, off-end}
 use Rattle.other_form.proofs.letters_off.Statement.{statement}
 use Rattle.other_form.proofs.letters_off.Tie as tie
 
 abbrev Inv-loop : tie.InvT-loop
-Inv-loop s from out₀ to at₀ p₀ out at p = (at ≤ length s) × ToWrite out₀ to (lettersOff (drop from s)) out p (lettersOff (drop at s)) × (to + length (lettersOff (drop from s)) ≤ length out₀)
+Inv-loop s from out₀ to at₀ p₀ out at p =
+    (at ≤ length s) × ToWrite out₀ to (lettersOff (drop from s)) out p (lettersOff (drop at s)) × (to + length (lettersOff (drop from s)) ≤ length out₀)
 
 abbrev μ-loop : tie.MeasureT-loop
 μ-loop s from out₀ to at₀ p₀ out at p = length s - at

@@ -1,6 +1,5 @@
 -- At each byte what is left to write is what the bytes from here on become, after the byte before. A step writes what one byte becomes.
-use mathlib.Core.Path.{_≡_, ap}
-use mathlib.Core.List.{_++_}
+use mathlib.Core.Path.{ap}
 use Prim.Native.Nat.{_+_, _-_, _≤_}
 use native.Mathlib.Omega.{arith}
 use lib.ListN.{length, getD, drop, length-append}
@@ -11,7 +10,8 @@ use Rattle.other_form.proofs.letters_on.Statement.{statement}
 use Rattle.other_form.proofs.letters_on.Tie as tie
 
 abbrev Inv-loop : tie.InvT-loop
-Inv-loop s from out₀ to at₀ p₀ last₀ out at p last = (at ≤ length s) × ToWrite out₀ to (lettersOn 10 (drop from s)) out p (lettersOn last (drop at s)) × (to + length (lettersOn 10 (drop from s)) ≤ length out₀)
+Inv-loop s from out₀ to at₀ p₀ last₀ out at p last =
+    (at ≤ length s) × ToWrite out₀ to (lettersOn 10 (drop from s)) out p (lettersOn last (drop at s)) × (to + length (lettersOn 10 (drop from s)) ≤ length out₀)
 
 abbrev μ-loop : tie.MeasureT-loop
 μ-loop s from out₀ to at₀ p₀ last₀ out at p last = length s - at

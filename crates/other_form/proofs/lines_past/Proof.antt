@@ -1,6 +1,5 @@
 -- At each byte the place past the lines that are left, from here on, is the place past all of them. The count ends where no line is left, or the bytes are.
-use mathlib.Core.Bool.{cond}
-use mathlib.Core.Path.{_≡_, refl, _∙_, ap, sym}
+use mathlib.Core.Path.{_≡_, _∙_, ap, sym}
 use Prim.Native.Nat.{ℕ, _+_, _-_, _≤_, _<_}
 use native.Mathlib.Omega.{arith}
 use lib.ListN.{length, drop}
