@@ -55,14 +55,16 @@ class Trouble(Exception):
 # The sides of a reading: the letter of its lines in a result, and its name.
 SIDES = (('r', 'ruby'), ('l', 'left ruby'))
 
-# An element of a sheet: its own line, and the lines of its characters.
-Element = collections.namedtuple('Element', 'line base ruby')
+# An element of a sheet: its own line, as form one has it where it has no left
+# reading, and the lines of its characters.
+Element = collections.namedtuple('Element', 'line base ruby left')
 
 # A line of a result.
 Line = collections.namedtuple('Line', 'extent pieces')
 
-# A page that is set: the numbers of `set 2`, the elements and the lines.
-Page = collections.namedtuple('Page', 'em measure elements lines')
+# A page that is set: the numbers of its set section by their names, the
+# elements and the lines.
+Page = collections.namedtuple('Page', 'numbers elements lines')
 
 # A page that is not.
 Refused = collections.namedtuple('Refused', 'number place')
@@ -81,30 +83,57 @@ class Piece:
         return self.first + len(self.base)
 
 
-def read_elements(rows):
-    """The elements of a sheet that is set, so its form is sound."""
-    base_end = 4 + int(rows[3].split(' ')[1])
-    ruby_end = base_end + 1 + int(rows[base_end].split(' ')[1])
-    base, ruby = rows[4:base_end], rows[base_end + 1:ruby_end]
+def read_sections(rows):
+    """{name: its lines} of a sheet that is set, so its form is sound.
+
+    A sheet of form one has no section `left`.
+    """
+    sections, at = {'left': []}, 0
+    while at < len(rows):
+        name, count = rows[at].split(' ')
+        sections[name] = rows[at + 1:at + 1 + int(count)]
+        at += 1 + int(count)
+    return sections
+
+
+def read_numbers(rows):
+    """The numbers of the set section; form one means 1:2:1 and profile 0."""
+    em, measure, *rest = rows
+    rest = rest or ['1', '2', '1', '1', '2', '1', '0']
+    return {'em': em, 'measure': measure, 'ruby ratio': ':'.join(rest[:3]),
+            'base ratio': ':'.join(rest[3:6]), 'profile': rest[6]}
+
+
+def read_elements(sections):
+    base, ruby, left = (sections[name] for name in ('base', 'ruby', 'left'))
     elements = []
-    for row in rows[ruby_end + 1:]:
-        bases, rubies = counts(row)
-        elements.append(Element(row, base[:bases], ruby[:rubies]))
-        base, ruby = base[bases:], ruby[rubies:]
+    for row in sections['elem']:
+        # Form two has an N where there is no left reading.
+        row = row[:-len(' N')] if row.endswith(' N') else row
+        bases, rubies, lefts = counts(row)
+        elements.append(Element(row, base[:bases], ruby[:rubies],
+                                left[:lefts]))
+        base, ruby, left = base[bases:], ruby[rubies:], left[lefts:]
     return elements
 
 
 def counts(row):
-    """How many base and ruby characters an element takes, by its line."""
-    kind, *numbers = row.split(' ')
-    numbers = [int(number) for number in numbers]
+    """How many base, ruby and left characters an element takes, by its line.
+
+    Behind the numbers of its own kind the line has the letter and the counts
+    of a left reading, if it has one.
+    """
+    kind, *words = row.split(' ')
+    letter = [at for at, word in enumerate(words) if word.isalpha()]
+    own = [int(word) for word in words[:letter[0] if letter else len(words)]]
+    lefts = sum(int(word) for word in words[letter[0] + 1:]) if letter else 0
     if kind == 'P':
-        return 1, 0
+        return 1, 0, 0
     if kind == 'M':
-        return 1, numbers[0]
+        return 1, own[0], lefts
     if kind == 'G':
-        return numbers[0], numbers[1]
-    return numbers[0], sum(numbers[1:])
+        return own[0], own[1], lefts
+    return own[0], sum(own[1:]), lefts
 
 
 def read_lines(rows, elements):
@@ -142,12 +171,12 @@ def read_page(sheet, answer):
     numbers = [int(number) for number in numbers]
     if head == 'refused' and len(rows) == 1:
         return Refused(*numbers)
-    sheet_rows = sheet.decode('ascii').split('\n')[:-1]
-    elements = read_elements(sheet_rows)
+    sections = read_sections(sheet.decode('ascii').split('\n')[:-1])
+    elements = read_elements(sections)
     lines = read_lines(rows[1:], elements)
     if head != 'lines' or numbers != [len(lines)]:
         raise ValueError('not all lines are there')
-    return Page(sheet_rows[1], sheet_rows[2], elements, lines)
+    return Page(read_numbers(sections['set']), elements, lines)
 
 
 def set_sheet(file, setting):
@@ -274,10 +303,9 @@ def count_words(old, new, match):
 
 def sheet_words(old, new, match):
     """What differs between the sheets."""
-    for name, was, now in (('em', old.em, new.em),
-                           ('measure', old.measure, new.measure)):
-        if was != now:
-            yield '%s %s, now %s' % (name, was, now)
+    for name, was in old.numbers.items():
+        if was != new.numbers[name]:
+            yield '%s %s, now %s' % (name, was, new.numbers[name])
     if len(old.elements) == len(new.elements):
         yield from exchanged_words(old.elements, new.elements)
     else:

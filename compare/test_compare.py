@@ -26,6 +26,7 @@ sys.path[:0] = [HERE, os.path.join(ROOT, 'second')]
 
 import compare      # noqa: E402  (found through the path set above)
 import generate     # noqa: E402
+import generate_two     # noqa: E402
 import second       # noqa: E402
 
 SECOND = [sys.executable, '-B', os.path.join(ROOT, 'second', 'second.py')]
@@ -33,7 +34,8 @@ SETTING = shlex.split(os.environ.get('COMPARE_SETTING', '')) or SECOND
 
 
 # ---------------------------------------------------------------------------
-# Writing sheets down shortly: an element is (base rows, ruby rows, its line)
+# Writing sheets down shortly: an element is (base rows, ruby rows, its line),
+# with its left rows behind them where it has a left reading
 # ---------------------------------------------------------------------------
 
 def p(cls=19, width=10, flag=1):
@@ -59,6 +61,26 @@ def j(*runs):
 def sheet(elements, em=10, measure=50):
     rows = ['set 2', str(em), str(measure)]
     for name, which in (('base', 0), ('ruby', 1)):
+        section = [row for element in elements for row in element[which]]
+        rows += ['%s %d' % (name, len(section))] + section
+    rows += ['elem %d' % len(elements)] + [element[2] for element in elements]
+    return ''.join(row + '\n' for row in rows).encode('ascii')
+
+
+def with_left(element, letter, *counts):
+    """The element with a left reading of so many fives."""
+    base, ruby, line = element
+    return base, ruby, ' '.join(map(str, (line, letter, *counts))), [
+        '15 5'] * sum(counts)
+
+
+def two(elements, em=10, measure=50, ratios='1 2 1 1 2 1', profile=0):
+    """A sheet of form two."""
+    rows = ['set 9', str(em), str(measure), *ratios.split(' '), str(profile)]
+    elements = [element if len(element) == 4 else (
+        *element[:2], element[2] if element[2] == 'P' else element[2] + ' N',
+        []) for element in elements]
+    for name, which in (('base', 0), ('ruby', 1), ('left', 3)):
         section = [row for element in elements for row in element[which]]
         rows += ['%s %d' % (name, len(section))] + section
     rows += ['elem %d' % len(elements)] + [element[2] for element in elements]
@@ -327,13 +349,14 @@ class CountsThatDiffer(Case):
 
 
 class LeftReadings(unittest.TestCase):
-    """Lines `l` of a result: no sheet has left readings yet (R-6).
+    """Lines `l` of a result.
 
-    Two mono words, as a result would have them with left readings: all three
-    strings of a word are centred on the longest.
+    Two mono words, as a result has them with left readings: all three strings
+    of a word are centred on the longest.
     """
 
-    ELEMENTS = [compare.Element('M 1', ['19 10 0 0 1'], ['15 5'])] * 2
+    ELEMENTS = [compare.Element('M 1 M 3', ['19 10 0 0 1'], ['15 5'],
+                                ['15 5'] * 3)] * 2
 
     def told(self, old, new):
         lines = [compare.read_lines(rows.split('; '), self.ELEMENTS)[0]
@@ -370,6 +393,81 @@ class LeftReadings(unittest.TestCase):
         # The second left character of the first word alone stands elsewhere.
         self.assertEqual(self.told(self.BOTH, self.BOTH.replace(
             'l 1 10', 'l 1 11')), 'element 0 is set otherwise within itself')
+
+
+class Forms(Case):
+    """Sheets of form two (R-6), and of both forms."""
+
+    def test_one_page_in_both_forms(self):
+        page = [m(3), p(), g(2, 7), j(1, 2)]
+        for old, new in ((sheet(page), two(page)), (two(page), sheet(page)),
+                         (two(page), two(page))):
+            self.told(0, 'lines 1 to 3: as they were\n', old, new)
+
+    def test_a_gloss_put_on_and_taken_off(self):
+        # Before: ruby 0..30, block 5..25, P 30..50.  Now the gloss, 40, is
+        # the longest: block 10..30, ruby 5..35, P at 40.
+        glossed = [with_left(m(3), 'M', 4), p()]
+        self.told(1, 'element 0 exchanged: M 3, now M 3 M 4\n'
+                  'line 1: element 0 moved by 5, 1 by 10; element 0 has left '
+                  'ruby now; extent 50, now 60\n',
+                  sheet([m(3), p()]), two(glossed))
+        self.told(1, 'element 0 exchanged: M 3 M 4, now M 3\n'
+                  'line 1: element 0 moved by -5, 1 by -10; element 0 has no '
+                  'left ruby now; extent 60, now 50\n',
+                  two(glossed), two([m(3), p()]))
+
+    def test_the_characters_of_a_gloss(self):
+        # Gloss of 40, then of 36 with one letter narrower: the block at 8.
+        old = two([with_left(m(1), 'M', 4), p()])
+        self.told(1, 'element 0 exchanged: M 1 M 4 with other characters\n'
+                  'line 1: element 0 moved by -2, 1 by -4; left ruby of '
+                  'element 0 stayed; extent 60, now 56\n',
+                  old, old.replace(b'left 4\n15 5\n', b'left 4\n15 3\n'))
+        # The same of another element.
+        words = [with_left(m(1), 'M', 1), with_left(m(1), 'M', 2)]
+        self.told(0, 'element 1 exchanged: M 1 M 2 with other characters\n'
+                  'line 1: as it was\n', two(words), two(words).replace(
+                      b'15 5\nelem', b'16 5\nelem'))
+
+    def test_every_left_kind(self):
+        # How many characters each takes: the P behind it is the same one.
+        for word, letter, counts in ((m(1), 'M', [1]), (g(2, 2), 'G', [3]),
+                                     (j(1, 1), 'M', [1, 2]),
+                                     (j(1, 1), 'J', [2, 1]),
+                                     (j(1, 1), 'G', [4])):
+            page = [with_left(word, letter, *counts), m(1),
+                    with_left(m(1), 'M', 1), p()]
+            other = page[:2] + [with_left(m(1), 'M', 2)] + page[3:]
+            # Two left characters over one base: 20 over 20, nothing moves.
+            self.told(1, 'element 2 exchanged: M 1 M 1, now M 1 M 2\n'
+                      'line 1: left ruby of element 2 moved by -5\n',
+                      two(page, measure=200), two(other, measure=200))
+
+    def test_ratios_and_profile(self):
+        # K4: base at 7 and 43; shoulder-set at 0 and 20.
+        self.told(1, 'base ratio 1:2:1, now 0:0:1\n'
+                  'line 1: element 0 moved by -7; ruby of element 0 stayed\n',
+                  sheet([g(2, 7)]), two([g(2, 7)], ratios='1 2 1 0 0 1'))
+        # K2: ruby at 10 and 40; shoulder-set at 0 and 10.
+        self.told(1, 'ruby ratio 0:0:1, now 1:2:1\n'
+                  'line 1: ruby of element 0 moved by 10\n',
+                  two([g(3, 2)], ratios='0 0 1 1 2 1'), two([g(3, 2)]))
+        # A reading to 30 over a base to 25; the kana at 30, with profile 1
+        # at 25.
+        page = [m(3), p(15)]
+        self.told(1, 'profile 0, now 1\n'
+                  'line 1: element 1 moved by -5; extent 50, now 45\n',
+                  sheet(page), two(page, profile=1))
+        # 2:4:2 shares out as 1:2:1 does.
+        self.told(0, 'ruby ratio 1:2:1, now 2:4:2\nline 1: as it was\n',
+                  sheet([g(3, 2)]), two([g(3, 2)], ratios='2 4 2 1 2 1'))
+
+    def test_refused(self):
+        # A G takes no mono left reading (16).
+        self.told(2, 'the new sheet, %s, is refused: number 16, place 1\n'
+                  % os.path.join(self.folder, 'new.sheet'), sheet([p()]),
+                  two([p(), with_left(g(2, 2), 'M', 1, 1)]))
 
 
 class RefusedSheets(Case):
@@ -419,10 +517,12 @@ class Examples(unittest.TestCase):
 
 def taken_apart(content):
     """The elements of a sheet in the form above, with its em and measure."""
-    rows = content.decode('ascii').split('\n')[:-1]
+    sections = compare.read_sections(
+        content.decode('ascii').split('\n')[:-1])
     elements = [(element.base, element.ruby, element.line)
-                for element in compare.read_elements(rows)]
-    return elements, int(rows[1]), int(rows[2])
+                + ((element.left,) if element.left else ())
+                for element in compare.read_elements(sections)]
+    return elements, sections['set']
 
 
 def page_of(content):
@@ -431,27 +531,33 @@ def page_of(content):
     return None if isinstance(page, compare.Refused) else page
 
 
-def exchanges(seed, count):
+def exchanges(seed, count, form_two):
     """(old sheet, new sheet, element exchanged), from sound sheets."""
     rng = random.Random(seed)
     for _ in range(count):
-        content = rng.choice((generate.dense, generate.dense, generate.sound,
-                              generate.later))(rng)
-        elements, em, measure = taken_apart(content)
+        content = (generate_two.dense if form_two else rng.choice(
+            (generate.dense, generate.dense, generate.sound,
+             generate.later)))(rng)
+        elements, numbers = taken_apart(content)
         for _ in range(3):
             number = rng.randrange(len(elements))
             other = list(elements)
             other[number] = rng.choice(elements + [m(1), m(4), g(2, 7),
                                                    p(14, 3), p()])
-            yield content, sheet(other, em, measure), number
+            yield (content, two(other, *numbers[:2], ' '.join(numbers[2:8]),
+                                numbers[8]) if form_two
+                   else sheet(other, *numbers), number)
 
 
 class Generated(unittest.TestCase):
 
+    FORM_TWO = False
+    DIFFERING = 6
+
     @classmethod
     def setUpClass(cls):
         cls.pairs = []
-        for old, new, number in exchanges(71, 250):
+        for old, new, number in exchanges(71, 250, cls.FORM_TWO):
             pages = page_of(old), page_of(new)
             if None not in pages:
                 cls.pairs.append((old, new, number) + pages)
@@ -479,7 +585,7 @@ class Generated(unittest.TestCase):
                 differing += len(after - {by.get(number + 1)})
         self.assertGreater(later, 100)
         # In some the first after it moved by another amount.
-        self.assertGreater(differing, 5)
+        self.assertGreaterEqual(differing, self.DIFFERING)
 
     def test_the_status_is_that_of_the_results(self):
         seen = {True: 0, False: 0}
@@ -508,6 +614,13 @@ class Generated(unittest.TestCase):
                     seen[same] += 1
         self.assertGreater(seen[True], 100)
         self.assertGreater(seen[False], 100)
+
+
+class GeneratedTwo(Generated):
+    """The same with pages of form two, most of them with left readings."""
+
+    FORM_TWO = True
+    DIFFERING = 2
 
 
 def lines_told(row):

@@ -16,8 +16,8 @@
  *     the two ratios too;
  *   - nothing else writes these lists while the call runs. Calls on different lists may run at the same time: there is no
  *     state between calls, no heap and no file;
- *   - 512 kilobytes of stack are free: the functions keep their tables there, at most 230,512 bytes of them in bv_set_job, 118,812
- *     in bv_account_job, 331,812 in bv_set_sheet and 450,624 in bv_account_sheet; the rest is for the calls themselves.
+ *   - 640 kilobytes of stack are free: the functions keep their tables there, at most 230,512 bytes of them in bv_set_job, 118,812
+ *     in bv_account_job, 479,296 in bv_set_sheet and 598,108 in bv_account_sheet; the rest is for the calls themselves.
  * Nothing else is asked: any numbers in the lists and the ratios, any profile and any lengths are answered.
  *
  * What is proved, for every call that keeps the above. Of bv_set_job: the answer and the four result lists are those of the
@@ -115,7 +115,7 @@ typedef struct bv_answer {
  *
  * Of a ratio a is for the gap in front of the string, m for each gap between two of its characters, c for the gap behind it.
  * Each is 0 to 7, and not all three are 0; else the job is refused with number 15, after 1 and before 2. 1:2:1 is the usual
- * ratio and what a sheet means; 0:0:1 is shoulder-set, no space before, none between, all after:
+ * ratio and what a sheet of form one means; 0:0:1 is shoulder-set, no space before, none between, all after:
  *
  *     static const uint32_t usual[3] = {1, 2, 1}, shoulder[3] = {0, 0, 1};
  *
@@ -126,11 +126,11 @@ typedef struct bv_answer {
  * of half an em at either end, for ruby of two or more characters, kana-like over kana-like, holds only if m is not 0. Left
  * characters are ruby to all of this.
  *
- * Profile 0 is what a sheet means: ruby may lie on the blanks of the plain elements just before and just after it, as document
- * 01 says, and on no space that is the job's first character (R-1). Profile 1, for older children, permits all that, and ruby
- * may also lie on a kana, class 15 or 16, that is a plain element just before or just after it: to half an em, and at most
- * the kana's width. Small kana and the prolonged sound mark, classes 11 and 10, take none, nor does a kana with a reading of
- * its own. Any other profile is refused with number 20, after 15 and before 2.
+ * Profile 0 is what a sheet of form one means: ruby may lie on the blanks of the plain elements just before and just after it,
+ * as document 01 says, and on no space that is the job's first character (R-1). Profile 1, for older children, permits all
+ * that, and ruby may also lie on a kana, class 15 or 16, that is a plain element just before or just after it: to half an em,
+ * and at most the kana's width. Small kana and the prolonged sound mark, classes 11 and 10, take none, nor does a kana with a
+ * reading of its own. Any other profile is refused with number 20, after 15 and before 2.
  *
  * A left reading stands on the other side of its word, such as a gloss. BV_LEFT_M is taken by M and J, BV_LEFT_G by G and J,
  * BV_LEFT_J by J; any other left kind of these on an element is refused with number 16, on a P too, and a number that is no left
@@ -311,8 +311,8 @@ BV_INLINE bv_answer bv_account(const bv_job *j, const bv_reasons *to)
 /*
  * Sets a job sheet of `length` bytes, as the setting program does, and writes what the program writes, `refused N P` or the
  * result, to the front of `out`. `out` has room for BV_MOST_TEXT bytes, always; those past the answer stay as they were.
- * A sheet has no ratios, no profile and no left readings: its job is set with 1:2:1 for both and with profile 0. Returns the length
- * of the answer in bytes.
+ * A sheet of form two has ratios, a profile and left readings; one of form one has none: its job is set with 1:2:1 for both and
+ * with profile 0. Returns the length of the answer in bytes.
  */
 size_t bv_set_sheet(const uint8_t *sheet, size_t length, uint8_t *out);
 

@@ -22,8 +22,8 @@ MEANINGS = {
         'a count is over its maximum',
         '0 base, 1 ruby, 2 elements, 3 left',
         'This job is too large for one sheet: please split it, so that each '
-        'has at most 1,024 base characters, 2,048 ruby characters and 1,024 '
-        'elements.'),
+        'has at most 1,024 base characters, 2,048 ruby characters, 2,048 left '
+        'characters and 1,024 elements.'),
     3: Meaning(
         'a class, width or flag is not accepted',
         'the base character; 1,024 + index for a ruby character, 3,072 + '
@@ -96,6 +96,13 @@ MEANINGS = {
         'the element',
         'A gloss is mono on a mono word, group on a group, and mono, jukugo '
         'or group on a jukugo; a plain character has none.'),
+    17: Meaning(
+        "form one can't hold this sheet of form two (bin/convert alone)",
+        'the first line at fault, from 1: of the ratios 4 to 9, of the '
+        'profile 10; for a left reading the line of `left`',
+        'This sheet has something that the old form has no place for: another '
+        'ratio than 1:2:1, another profile than 0, or a left reading; please '
+        'keep it in form two, or take that out first.'),
     20: Meaning(
         'the profile is over 1', '0',
         'The profile has to be 0, or 1 for readings that may lie on kana.')}
@@ -106,19 +113,39 @@ RUBY_PLACES = ((3072, 'left', 'left character', 'l'),
                (1024, 'ruby', 'ruby character', 'r'))
 
 
+# What a place names, for the numbers whose places are few.
+NAMED = {
+    1: ('the em', 'the measure'),
+    2: ('the count of base characters', 'the count of ruby characters',
+        'the count of elements', 'the count of left characters'),
+    15: ('the ruby ratio', 'the base ratio'),
+    20: ('the profile',)}
+
+# The places of 2 in the order of the sections, by the first line of the form.
+COUNTED = {'set 2': (0, 1, 2), 'set 9': (0, 1, 3, 2)}
+
+
 # ---------------------------------------------------------------------------
 # Where a place is on the sheet
 # ---------------------------------------------------------------------------
 
-def count_line(rows, which):
+def count_line(rows, place):
     """The line of a count that is over its maximum (number 2).
 
-    The sections above it are sound; so each is found from the one before.
+    The sections above it are sound; so each is found from the one before.  In
+    form two those with the places 0, 1, 3 and 2 follow each other.
     """
     at = 0
-    for _ in range(which + 1):
+    for _ in range(COUNTED[rows[0]].index(place) + 1):
         at += 1 + int(rows[at].split(' ')[1])
     return at + 1
+
+
+def ratio_line(sheet, place):
+    """The line of the first number over 7 of a ratio, or of its first."""
+    first = 2 + 3 * place
+    over = [at for at in range(first, first + 3) if sheet.numbers[at] > 7]
+    return 2 + (over or [first])[0]
 
 
 def in_section(sheet, name, index):
@@ -139,8 +166,12 @@ def line_on_sheet(refused, rows, sheet):
         return count_line(rows, place)
     if sheet is None:
         return None
-    if number in (1, 15, 20):
-        return 2 + place if number == 1 else None
+    if number == 1:
+        return 2 + place
+    if number == 15:
+        return ratio_line(sheet, place)
+    if number == 20:
+        return 10
     if number == 3:
         for first, name, _, _ in RUBY_PLACES:
             if place >= first:
@@ -156,10 +187,8 @@ def place_words(refused, line, sheet, text):
     if number == 13:
         return ('line %d of the sheet' % place if place
                 else 'the whole sheet: it is over 65,535 bytes')
-    if number in (1, 2):
-        of = (('the em', 'the measure') if number == 1 else
-              ('the count of base characters', 'the count of ruby characters',
-               'the count of elements', 'the count of left characters'))
+    if number in NAMED:
+        of = NAMED[number]
         told = of[place] if place < len(of) else 'place %d' % place
     elif number in (3, 4, 11):
         told = character_words(number, place, text)

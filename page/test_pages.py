@@ -1,6 +1,7 @@
 """Pages of sheets that are set: examples, generated sheets, both sides."""
 
 import collections
+import hashlib
 import unittest
 
 from tried import ASK, Case, example, example_names, made, sample
@@ -8,6 +9,7 @@ from trouble import Trouble
 
 import answers
 import generate
+import generate_two
 import readback
 import sheets
 import words
@@ -27,11 +29,12 @@ class Examples(Case):
             self.assertEqual(ASK(sheet)[0], example(name + '.result'))
             for vertical in (False, True):
                 self.check(sheet, vertical=vertical)
-        self.assertGreaterEqual(seen['set'], 18)
-        self.assertGreaterEqual(seen['refused'], 12)
+        self.assertGreaterEqual(seen['set'], 21)
+        self.assertGreaterEqual(seen['refused'], 15)
 
     def test_with_their_texts(self):
-        for name in ('pulped', 'primer', 'compare/primer'):
+        for name in ('pulped', 'primer', 'compare/primer', 'bilingual',
+                     'two'):
             for vertical in (False, True):
                 told = self.check(example(name + '.sheet'),
                                   example(name + '.text'), vertical)
@@ -75,7 +78,7 @@ class Examples(Case):
 class Generated(Case):
 
     def test_some_hundred(self):
-        given = list(generate.account_sheets(2401, 420))
+        given = list(generate_two.account_sheets(2401, 420))
         ASK.learn(given)
         seen = collections.Counter()
         for number, sheet in enumerate(given):
@@ -127,6 +130,24 @@ class BothSides(Case):
     #
     # space: 目 and 手 with left readings of 30 hu over 20, and a space of 6
     # between, as in K12: both lie on it, and rule 3 holds the second.
+
+    def test_the_programs_write_what_is_worked_by_hand(self):
+        for name in ('bilingual', 'space'):
+            sheet, ask, _ = sample(name)
+            self.assertEqual(ASK(sheet), ask(sheet))
+
+    def test_both_forms_are_one_page(self):
+        # But for the sheet's own sum, and what form two says of the job.
+        one = example('primer.sheet')
+        two = example('primer.converted')
+        told, other = (self.check(sheet, example('primer.text'))
+                       for sheet in (one, two))
+        for sheet in (one, two):
+            other = other.replace(hashlib.sha256(sheet).hexdigest(), '')
+            told = told.replace(hashlib.sha256(sheet).hexdigest(), '')
+        said = '; ratios 1:2:1 for ruby, 1:2:1 for base; profile 0'
+        self.assertEqual(other.count(said), 1)
+        self.assertEqual(other.replace(said, ''), told)
 
     def test_left_readings_stand_below(self):
         for name in ('bilingual', 'space'):

@@ -8,7 +8,7 @@ from tried import ASK, Case, ROOT, content, example, made
 from trouble import Trouble
 
 import answers
-import generate
+import generate_two
 import readback
 import refusals
 import sheets
@@ -29,7 +29,7 @@ def manual_rows():
 
 class Refused(Case):
 
-    NUMBERS = (1, 2, 3, 4, 5, 6, 7, 8, 9, 10, 11, 13)
+    NUMBERS = (1, 2, 3, 4, 5, 6, 7, 8, 9, 10, 11, 13, 15, 16, 20)
 
     def page(self, sheet, **given):
         status, told = made(sheet, **given)
@@ -39,7 +39,7 @@ class Refused(Case):
 
     def test_the_table_is_the_manuals(self):
         manual = manual_rows()
-        self.assertEqual(len(manual), 16)
+        self.assertEqual(len(manual), 17)
         self.assertEqual({number: tuple(told) for number, told
                           in refusals.MEANINGS.items()}, manual)
 
@@ -61,6 +61,9 @@ class Refused(Case):
                 (2, 'Place 0: the count of base characters, line 4 of the '
                     'sheet.'),
                 (11, 'Place 2: base character 2, line 7 of the sheet.'),
+                (15, 'Place 0: the ruby ratio, line 5 of the sheet.'),
+                (16, 'Place 1: element 1, line 26 of the sheet.'),
+                (20, 'Place 0: the profile, line 10 of the sheet.'),
                 (13, 'Place 5: line 5 of the sheet.')):
             told = self.page(example('refusals/%d.sheet' % number))
             self.assertIn(words, told)
@@ -77,14 +80,53 @@ class Refused(Case):
     def line_by_the_manual(self, sheet):
         """"Where a place is on the sheet", as the manual has it."""
         number, place = map(int, ASK(sheet)[0].split()[1:])
-        if number in (1, 2, 13):
-            return {1: 2 + place, 2: 4, 13: place}[number]
+        if number in (1, 2, 13, 20):
+            return {1: 2 + place, 2: 4, 13: place, 20: 10}[number]
         rows = sheet.split(b'\n')
-        base = int(rows[3].split()[1])
-        ruby = int(rows[4 + base].split()[1])
+        more = 7 if rows[0] == b'set 9' else 0      # of the set section
+        if number == 15:
+            # The first number over 7.
+            return 1 + [int(row) > 7 for row in rows[:9]
+                        if row.isdigit()].index(True, 2) + 1
+        base = int(rows[3 + more].split()[1])
+        ruby = int(rows[4 + more + base].split()[1])
         if number in (3, 4, 11):
-            return 5 + place if place < 1024 else 6 + base + place - 1024
-        return 7 + base + ruby + place
+            return more + (5 + place if place < 1024
+                           else 6 + base + place - 1024)
+        if not more:
+            return 7 + base + ruby + place
+        left = int(rows[5 + more + base + ruby].split()[1])
+        return 15 + base + ruby + left + place
+
+    def test_form_two(self):
+        def two(*lines, numbers=b'10 50 1 2 1 1 2 1 0'):
+            return b'\n'.join((b'set 9', *numbers.split(b' '), *lines, b''))
+        # 3 with 3,072 + index: lines 11 and 12 are the base, 13 and 14 the
+        # ruby section, 15 is `left 2`.
+        bad = two(b'base 1', b'19 10 0 0 1', b'ruby 1', b'15 5', b'left 2',
+                  b'15 5', b'15 0', b'elem 1', b'M 1 M 2')
+        for sheet, words in (
+                (bad, 'Place 3073: left character 1, line 17 of the sheet.'),
+                (two(b'base 0', b'ruby 0', b'left 2049'),
+                 'Place 3: the count of left characters, line 13 of the '
+                 'sheet.'),
+                (two(b'base 0', b'ruby 0', b'left 0', b'elem 1025'),
+                 'Place 2: the count of elements, line 14 of the sheet.'),
+                (two(b'base 0', b'ruby 2049'),
+                 'Place 1: the count of ruby characters, line 12 of the '
+                 'sheet.'),
+                (two(b'base 0', b'ruby 0', b'left 0', b'elem 0',
+                     numbers=b'10 50 1 2 1 1 2 8 0'),
+                 'Place 1: the base ratio, line 9 of the sheet.'),
+                (two(b'base 0', b'ruby 0', b'left 0', b'elem 0',
+                     numbers=b'10 50 1 2 1 0 0 0 0'),
+                 'Place 1: the base ratio, line 7 of the sheet.'),
+                (two(b'base 0', b'ruby 0', b'left 0', b'elem 0',
+                     numbers=b'11 50 1 2 1 0 0 0 0'),
+                 'Place 0: the em, line 2 of the sheet.')):
+            self.assertIn(words, self.page(sheet))
+        self.assertIn('left character 1 (い), line 17', self.page(
+            bad, text='甲\nあ\nあい\n'.encode()))
 
     def test_texts_that_are_no_sheets(self):
         for sheet, words in (
@@ -110,7 +152,7 @@ class Refused(Case):
             made(example('refusals/11.sheet'), text='甲乙\n'.encode())
 
     def test_many(self):
-        given = list(generate.sheets(2403, 260))
+        given = list(generate_two.sheets(2403, 320))
         ASK.learn(given)
         seen = collections.Counter()
         for sheet in given:
@@ -142,7 +184,7 @@ class TooLong(Case):
         self.assertEqual(readback.areas(found[0].tree, 'over', vertical),
                          [(measure, needs - measure)])
         rows = readback.sheet_rows(sheet)
-        for letter, name in (('b', 'base'), ('r', 'ruby')):
+        for letter, name in (('b', 'base'), ('r', 'ruby'), ('l', 'left')):
             for index, _, length in boxes[letter]:
                 self.assertEqual(length, 2 * rows[name][index][1])
         return boxes
@@ -183,6 +225,27 @@ class TooLong(Case):
         self.assertEqual(boxes['b'], [(1, 5, 20)])
         self.assertEqual(boxes['r'], [(1, 0, 10), (2, 10, 10), (3, 20, 10)])
 
+    def test_jukugo_with_left_readings(self):
+        # Base 20 hu each, em 10, measure 10 units.  What stands up to the
+        # first break: of a J with a left M or J its first character, whose
+        # gloss of 30 is too long; of one with a left G, or with a left J and
+        # a long run, all of it.
+        for line, left, needs, bases in (
+                (b'J 2 1 1 M 3 1', 4, 30, [(0, 5, 20)]),
+                (b'J 2 1 1 J 2 2', 4, 20, None),
+                (b'J 2 1 1 G 2', 2, 40, [(0, 0, 20), (1, 20, 20)]),
+                # 40 of base and 40 of gloss.
+                (b'J 2 1 1 J 3 1', 4, 40, [(0, 0, 20), (1, 20, 20)])):
+            sheet = (b'set 9\n10\n10\n1\n2\n1\n1\n2\n1\n0\nbase 2\n%sruby 2'
+                     b'\n15 5\n15 5\nleft %d\n%selem 1\n%s\n' % (
+                         b'19 10 0 0 1\n' * 2, left, b'15 5\n' * left, line))
+            if bases is None:
+                self.assertIn(b'lines 2', ASK(sheet)[0])
+                continue
+            self.assertEqual(ASK(sheet)[1],
+                             b'refused 11 0\nneeds %d measure 20\n' % needs)
+            self.assertEqual(self.drawn(sheet)['b'], bases)
+
     def test_another_line_is_not_drawn(self):
         # Answers to the line alone that have not the extent that is needed,
         # or that refuse it: it is told in words, and nothing is drawn.
@@ -202,7 +265,7 @@ class TooLong(Case):
             self.assertIn('A measure of 30 units would hold it.', told)
 
     def long_ones(self, seed, count):
-        given = list(generate.account_sheets(seed, count))
+        given = list(generate_two.account_sheets(seed, count))
         ASK.learn(given)
         return [sheet for sheet in given
                 if ASK(sheet)[0].startswith(b'refused 11 ')]

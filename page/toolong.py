@@ -29,13 +29,37 @@ def first_break(sheet, place):
         start, end = max(element.base.start, place), element.base.stop
         if end <= place:
             continue
-        left = element.counts.get('l', ('N', []))[0]
-        if element.kind == 'J' and end - start > 1 and left != 'G':
+        if end - start > 1 and may_be_cut(sheet, number):
             return found + [(number, start, start + 1)]
         found.append((number, start, end))
         if sheet.base[end - 1].flag == 1:
             return found
     return found
+
+
+def may_be_cut(sheet, number):
+    """Whether a line may end within an element.
+
+    Within a J, but for one with a left G, or with a left J and a run longer
+    than one em on either side: that is a group on both sides.
+    """
+    element = sheet.elements[number]
+    left = element.counts.get('l', ('N', []))[0]
+    if element.kind != 'J' or left == 'G':
+        return False
+    return left != 'J' or not any(
+        2 * width > sheets.em(sheet) for letter in ('r', 'l')
+        for width in run_widths(sheet, number, letter))
+
+
+def run_widths(sheet, number, letter):
+    """The width of each run of a J, in units."""
+    element = sheet.elements[number]
+    at = ruby_range(sheet, letter, [(number, element.base.start,
+                                     element.base.stop)]).start
+    for count in element.counts[letter][1]:
+        yield sum(ruby.width for ruby in sheet.rubies[letter][at:at + count])
+        at += count
 
 
 def part_line(element, start, end):

@@ -1,6 +1,6 @@
 """Why each element of a set line stands no nearer the line's start.
 
-    python3 account.py [--forms] < sheet    the account of a sheet as a text
+    python3 account.py < sheet    the account of a sheet as a text
 
 account(sheet) gives a list for each line of the sheet's result.  It has a row
 for each element of the line, in order:
@@ -37,8 +37,7 @@ import sys
 
 sys.path.insert(0, os.path.dirname(os.path.abspath(__file__)))
 
-import ahead        # noqa: E402  (found through the path set above)
-import second       # noqa: E402
+import second       # noqa: E402  (found through the path set above)
 from second import sound_job    # noqa: E402
 
 
@@ -177,9 +176,9 @@ def drawn_parts(job, owner, ends):
             yield (number, [index], *map(second.indices, readings))
 
 
-def drawn_lines(sheet, form_two=ahead.FORM_TWO):
+def drawn_lines(sheet):
     """The elements of each line, as the result of the sheet places them."""
-    return drawn_lines_of(second.read_sheet(sheet, form_two))
+    return drawn_lines_of(second.read_sheet(sheet))
 
 
 def drawn_lines_of(arguments):
@@ -212,8 +211,8 @@ def line_account(line):
     return rows
 
 
-def account(sheet, form_two=ahead.FORM_TWO):
-    return [line_account(line) for line in drawn_lines(sheet, form_two)]
+def account(sheet):
+    return [line_account(line) for line in drawn_lines(sheet)]
 
 
 # ---------------------------------------------------------------------------
@@ -228,10 +227,10 @@ Clear = collections.namedtuple('Clear', 'lines elements readings')
 Refusal = collections.namedtuple('Refusal', 'number place needs')
 
 
-def verdict(sheet, form_two=ahead.FORM_TWO):
+def verdict(sheet):
     """Clear or Refusal."""
     try:
-        arguments = second.read_sheet(sheet, form_two)
+        arguments = second.read_sheet(sheet)
     except second.Refused as refusal:
         return Refusal(refusal.number, refusal.place, None)
     return verdict_of(arguments)
@@ -420,9 +419,9 @@ def told_rows(line):
 # The text
 # ---------------------------------------------------------------------------
 
-def text(sheet, form_two=ahead.FORM_TWO):
+def text(sheet):
     """The account of a sheet, as bytes."""
-    return text_of(verdict(sheet, form_two))
+    return text_of(verdict(sheet))
 
 
 def text_of(found):
@@ -464,13 +463,9 @@ def reason_words(reason):
 
 def main(arguments):
     """The exit status."""
-    form_two = ahead.FORM_TWO
-    if arguments[:1] == ['--forms']:
-        form_two, arguments = True, arguments[1:]
     if arguments not in ([], ['--framed']):
-        sys.exit('usage: account.py [--forms] [--framed] < sheet')
-    return second.answer_input(arguments,
-                               lambda sheet: text(sheet, form_two))
+        sys.exit('usage: account.py [--framed] < sheet')
+    return second.answer_input(arguments, text)
 
 
 if __name__ == '__main__':

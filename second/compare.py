@@ -1,15 +1,15 @@
 """Compares an engine with the second program, byte for byte.
 
-    python3 compare.py --engine CMD --seed S --count N [--single]
-                       [--forms] [--convert]
+    python3 compare.py --engine CMD --seed S --count N [--single] [--convert]
 
 CMD reads framed sheets on standard input (`sheet LENGTH`, then the bytes) and
 writes for each of them `answer LENGTH` and the answer's bytes.  With --single
 CMD is run once for each sheet: the sheet's bytes in, the answer's bytes out,
 status 0, or 1 where the answer is a refusal.
-With --forms half of the sheets are of form two (R-6), and with --convert CMD
-is a converter, which gets sheets of both forms.
-Every sheet in kept/ is compared first, then the first N sheets of the seed.
+Every sheet in kept/ is compared first, then the first N sheets of the seed;
+half of them are of form two (R-6).
+With --convert CMD is a converter.  Each sheet that it writes goes to it again,
+and the first sheet has to come back.
 A sheet that shows a difference is printed with both answers and put into
 kept/, up to twenty of them in one run; the rest are counted.
 
@@ -28,9 +28,7 @@ import sys
 HERE = os.path.dirname(os.path.abspath(__file__))
 sys.path.insert(0, HERE)
 
-import ahead        # noqa: E402  (found through the path set above)
-import convert      # noqa: E402
-import generate     # noqa: E402
+import convert      # noqa: E402  (found through the path set above)
 import generate_two     # noqa: E402
 import second       # noqa: E402
 
@@ -59,14 +57,9 @@ def keep(folder, sheet):
     return path
 
 
-def all_sheets(folder, seed, count, form_two):
+def all_sheets(folder, seed, count):
     yield from kept_sheets(folder)
-    yield from (generate_two if form_two else generate).sheets(seed, count)
-
-
-def setter(form_two):
-    """What the setting program is compared with."""
-    return lambda sheet: second.answer(sheet, form_two)
+    yield from generate_two.sheets(seed, count)
 
 
 def batches(sheets):
@@ -162,23 +155,42 @@ def show_difference(path, sheet, engine, expected):
           % (readable(sheet), readable(engine), readable(expected)))
 
 
+def is_sheet(answer):
+    return answer is not None and answer.startswith(b'set ')
+
+
+def taken_back(command, batch, given, answers):
+    """What a converter makes of the sheets that it gave; else the sheet."""
+    back = iter(answers(command, list(filter(is_sheet, given))))
+    return [next(back) if is_sheet(answer) else sheet
+            for sheet, answer in zip(batch, given)]
+
+
 def compare(command, folder, seed, count, answers=engine_answers,
-            form_two=ahead.FORM_TWO, answered=None):
+            converts=False):
     """(sheets compared, differences)
 
-    answered gives the answer that is expected; None: the setting program's.
+    converts: the engine is a converter.
     """
-    answered = answered or setter(form_two)
     compared = differences = 0
-    for batch in batches(all_sheets(folder, seed, count, form_two)):
-        for sheet, engine in zip(batch, answers(command, batch)):
-            expected = answered(sheet)
+    for batch in batches(all_sheets(folder, seed, count)):
+        given = answers(command, batch)
+        # "takes every form one sheet whose job is accepted to form two and
+        # back to the same bytes"
+        back = (taken_back(command, batch, given, answers) if converts
+                else batch)
+        for sheet, engine, returned in zip(batch, given, back):
+            expected = (convert.converted if converts
+                        else second.answer)(sheet)
             compared += 1
-            if engine != expected:
+            if engine != expected or returned != sheet:
                 differences += 1
                 if differences <= SHOWN:
-                    show_difference(keep(folder, sheet), sheet, engine,
-                                    expected)
+                    path = keep(folder, sheet)
+                    show_difference(path, sheet, engine, expected)
+                    if returned != sheet:
+                        print('--- taken back by the engine\n%s---'
+                              % readable(returned))
     return compared, differences
 
 
@@ -188,18 +200,13 @@ def main():
     parser.add_argument('--seed', type=int, required=True)
     parser.add_argument('--count', type=int, required=True)
     parser.add_argument('--single', action='store_true')
-    parser.add_argument('--forms', action='store_true',
-                        default=ahead.FORM_TWO,
-                        help='sheets of form two among the others')
     parser.add_argument('--convert', action='store_true',
                         help='CMD is a converter')
     chosen = parser.parse_args()
     compared, differences = compare(
         shlex.split(chosen.engine), os.path.join(HERE, 'kept'),
         chosen.seed, chosen.count,
-        single_answers if chosen.single else engine_answers,
-        chosen.forms or chosen.convert,
-        convert.converted if chosen.convert else None)
+        single_answers if chosen.single else engine_answers, chosen.convert)
     print('compared %d sheets, %d differences' % (compared, differences))
     sys.exit(0 if differences == 0 else 1)
 

@@ -1,15 +1,14 @@
 """Compares an account program with the second program's own account.
 
     python3 compare_account.py [--sheets N] [--seed S] [--program PATH]
-                               [--framed] [--forms]
+                               [--framed]
 
 The program reads a sheet on standard input and writes its account; it is run
 once for each sheet, and ends with status 0, or 1 where the sheet is refused.
-With --framed it takes many sheets in one run, as compare.py has it.  With
---forms half of the sheets are of form two (R-6).  PATH is an executable
-(bin/account where none is given) or a command such as 'python3
-second/account.py'.  Every sheet in kept/ goes
-through it first, then the first N sheets of the seed.  What it writes is read
+With --framed it takes many sheets in one run, as compare.py has it.  PATH is
+an executable (bin/account where none is given) or a command such as 'python3
+second/account.py'.  Every sheet in kept/ goes through it first, then the first
+N sheets of the seed, half of them of form two (R-6).  What it writes is read
 by the form of README.md, "The account", and every word of it is checked:
 
 - the verdict, its counts or the refusal, and with number 11 the extent that
@@ -46,9 +45,7 @@ HERE = os.path.dirname(os.path.abspath(__file__))
 sys.path.insert(0, HERE)
 
 import account      # noqa: E402  (found through the path set above)
-import ahead        # noqa: E402
 import compare      # noqa: E402
-import generate     # noqa: E402
 import generate_two     # noqa: E402
 from account import Reason, Refusal  # noqa: E402
 
@@ -360,10 +357,9 @@ def kind(reason):
 # The comparison
 # ---------------------------------------------------------------------------
 
-def all_sheets(folder, seed, count, form_two):
+def all_sheets(folder, seed, count):
     yield from compare.kept_sheets(folder)
-    yield from (generate_two if form_two else generate).account_sheets(
-        seed, count)
+    yield from generate_two.account_sheets(seed, count)
 
 
 def wrong_with_run(found, written, odd):
@@ -398,13 +394,11 @@ def in_frames(command, sheets):
                 sheet, written, '')
 
 
-def compare_all(command, folder, seed, count, runs=one_by_one,
-                form_two=ahead.FORM_TWO):
+def compare_all(command, folder, seed, count, runs=one_by_one):
     """(what was seen, differences)"""
     seen, differences = Seen(), 0
-    for sheet, written, odd in runs(command, all_sheets(folder, seed, count,
-                                                        form_two)):
-        found = account.verdict(sheet, form_two)
+    for sheet, written, odd in runs(command, all_sheets(folder, seed, count)):
+        found = account.verdict(sheet)
         seen.add(found)
         wrong = wrong_with_run(found, written, odd)
         if wrong:
@@ -425,9 +419,6 @@ def main():
     parser.add_argument('--seed', type=int, default=3)
     parser.add_argument('--program', default=PROGRAM)
     parser.add_argument('--framed', action='store_true')
-    parser.add_argument('--forms', action='store_true',
-                        default=ahead.FORM_TWO,
-                        help='sheets of form two among the others')
     parser.add_argument('--kept', default=os.path.join(HERE, 'kept'),
                         help='the folder of sheets that showed a difference')
     chosen = parser.parse_args()
@@ -436,7 +427,7 @@ def main():
         sys.exit('%s cannot be run' % chosen.program)
     seen, differences = compare_all(
         command, chosen.kept, chosen.seed, chosen.sheets,
-        in_frames if chosen.framed else one_by_one, chosen.forms)
+        in_frames if chosen.framed else one_by_one)
     print(seen.words())
     print('compared %d sheets, %d elements, %d differences'
           % (seen.sheets, seen.elements, differences))

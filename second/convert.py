@@ -26,7 +26,7 @@ def converted(sheet):
     """The other sheet's bytes, or `refused N P` and LF."""
     try:
         # 13, and the 2 of a count line, come first: "17 ... after 13".
-        arguments = second.read_sheet(sheet, True)
+        arguments = second.read_sheet(sheet)
         lines = sheet.split(b'\n')[:-1]
         if lines[0] == b'set 2':
             return to_form_two(arguments, lines)

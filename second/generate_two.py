@@ -145,11 +145,15 @@ def change_letter(rng, text):
     elem = [at for at, line in enumerate(lines) if line[:5] == b'elem ']
     if not elem or elem[0] + 1 >= len(lines):
         return text
-    way = rng.randrange(11)
+    way = rng.randrange(14)
     places = list(range(elem[0] + 1, len(lines)))
-    if way > 7:
+    if way in (8, 9, 10):
         # Where there is no left reading.
         places = [at for at in places if lines[at].endswith(b' N')] or places
+    elif way > 11:
+        # Where a J has left counts.
+        places = [at for at in places if lines[at][:2] == b'J '
+                  and lines[at][-1:].isdigit()] or places
     at = rng.choice(places)
     fields = lines[at].split(b' ')
     if way == 0:
@@ -167,7 +171,8 @@ def change_letter(rng, text):
                   for place, field in enumerate(fields)]
     elif way == 5:
         fields = rng.choice((
-            b'P N', b'P', b'K 2 5', b'M 1', b'M 1 M', b'M 1 M 1', b'M 1 M 1 1',
+            b'P N', b'P', b'K 1 5', b'K 2 5', b'K 1 5 N', b'M 1', b'M 1 M',
+            b'M 1 M 1', b'M 1 M 1 1',
             b'M 1 J 1', b'M 1 G 1', b'M 1 G 0', b'M 1 N 0', b'M N', b'N',
             b'G 2 3 M 1', b'G 2 3 M 1 1', b'G 2 3 G 1', b'G 2 3 G 1 1',
             b'G 0 1 M', b'G 0 1 J', b'G 2 3 J 2 1 1', b'J 2 1 1 J 2 1 1',
@@ -185,9 +190,17 @@ def change_letter(rng, text):
         other = rng.choice((b'P', b'P', b'n', b'n', b'0', b'N 0'))
         fields = fields[:1] + [other if field == b'N' else field
                                for field in fields[1:]]
-    else:
+    elif way == 10:
         fields.insert(rng.randrange(len(fields) + 1),
                       rng.choice((b'', b'1', b'M', b'N')))
+    elif way > 11 and fields[0] == b'J' and len(fields) > 2:
+        # The b of the J ahead of its left counts.
+        letter = max(k for k, field in enumerate(fields) if field.isalpha())
+        fields.insert(letter + 1, fields[1])
+    else:
+        # An element that no sheet has yet (R-13), or a left letter.
+        fields = rng.choice((b'K 1 5', b'K 2 5', b'M 1 K 1', b'G 1 1 K 1',
+                             b'J 1 1 K 1')).split(b' ')
     lines[at] = b' '.join(fields)
     return joined(lines)
 
@@ -195,17 +208,20 @@ def change_letter(rng, text):
 def change_left_section(rng, text):
     """The `left` section misplaced, miscounted, or not there."""
     lines = lines_of(text)
-    at = [at for at, line in enumerate(lines) if line[:5] == b'left ']
-    if not at:
+    # A text that was changed before may lack a section's line, or its count.
+    heads = {line[:5]: at for at, line in enumerate(lines)
+             if line[:5] in (b'ruby ', b'left ', b'elem ')
+             and line[5:].isdigit()}
+    if len(heads) < 3:
         return text
-    at = at[0]
+    at = heads[b'left ']
+    count = int(lines[at][5:])
     way = rng.randrange(7)
     if way == 0:
         del lines[at]
     elif way == 1:
         # Ahead of the ruby section.
-        ruby = [k for k, line in enumerate(lines) if line[:5] == b'ruby '][0]
-        count = int(lines[at].split(b' ')[1])
+        ruby = heads[b'ruby ']
         part = lines[at:at + 1 + count]
         del lines[at:at + 1 + count]
         lines[ruby:ruby] = part
@@ -217,12 +233,11 @@ def change_left_section(rng, text):
         lines[at] = rng.choice((b'left', b'left ', b'left 00', b'Left 0',
                                 b'ruby 0', b'right 0'))
     elif way == 4:
-        lines[at] = b'left %d' % (int(lines[at].split(b' ')[1]) + 1)
+        lines[at] = b'left %d' % (count + 1)
     elif way == 5:
         # Both counts over their maximum: the one that is met first.
         lines[at] = b'left 2049'
-        elem = [k for k, line in enumerate(lines) if line[:5] == b'elem ']
-        lines[elem[0]] = b'elem 1025'
+        lines[heads[b'elem ']] = b'elem 1025'
     else:
         lines.append(lines.pop(at))
     return joined(lines)
@@ -264,13 +279,30 @@ def small(rng):
 def damaged(rng):
     """A text of form two with something wrong, mostly of its own form."""
     text = rng.choice((small, small, small, with_left, without_left))(rng)
+    if rng.randrange(5) == 0:
+        return generate.damage(rng, text)
     for _ in range(rng.choice((1, 1, 1, 2))):
         text = pick(rng, (6, change_letter), (4, change_left_section),
-                    (2, change_set_section), (3, generate.damage))(rng, text)
-        if not text or b' ' not in text or b'\n' not in text or (
-                b'elem' not in text):
-            break
+                    (2, change_set_section))(rng, text)
     return text
+
+
+def more_than_form_one(rng):
+    """A sheet of form one with something that form one does not have."""
+    lines = lines_of(generate.tiny_draft(rng).text())
+    elem = [at for at, line in enumerate(lines) if line[:5] == b'elem '][0]
+    way = rng.randrange(5)
+    if way == 0 and elem + 1 < len(lines):
+        at = elem + 1 + rng.randrange(len(lines) - elem - 1)
+        lines[at] = b'K 1 5'
+    if way in (1, 2):
+        lines[elem + 1:] = [line if line == b'P' else line + b' N'
+                            for line in lines[elem + 1:]]
+    if way in (2, 3):
+        lines.insert(elem, b'left 0')
+    if way == 4:
+        lines[3:3] = [b'1', b'2', b'1', b'1', b'2', b'1', b'0']
+    return joined(lines)
 
 
 def exact_length(rng):
@@ -294,9 +326,25 @@ def exact_length(rng):
     return joined(head + [b'elem %d' % count] + rows)
 
 
+def many_counts(rng):
+    """One line with more left counts than any element that is accepted.
+
+    A left M or J has as many as its element has base characters, and b of a
+    G is free in form: up to the 32,700 for which a sheet has room.
+    """
+    b = rng.choice((32, 33, 64, 65, 1000, 32000, 32700, 32760, TOO_BIG))
+    counts = rng.choice((b, b, b, b - 1, b + 1, 1))
+    if counts > 33000:
+        counts = 33000
+    return joined([b'set 9', b'10', b'100', b'1', b'2', b'1', b'1', b'2', b'1',
+                   b'0', b'base 0', b'ruby 0', b'left 0', b'elem 1',
+                   b'G %d 1 %s' % (b, rng.choice((b'M', b'J')))
+                   + b' 1' * counts])
+
+
 def form_two(rng):
     return pick(rng, (10, with_left), (5, without_left), (3, one_line_off),
-                (1, small), (6, damaged))(rng)
+                (1, small), (6, damaged), (1, more_than_form_one))(rng)
 
 
 # ---------------------------------------------------------------------------
@@ -305,7 +353,7 @@ def form_two(rng):
 
 def one_sheet(rng):
     return pick(rng, (300, generate.one_sheet), (300, form_two),
-                (1, exact_length))(rng)
+                (1, exact_length), (1, many_counts))(rng)
 
 
 def sheets(seed, count):

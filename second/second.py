@@ -9,20 +9,12 @@ number (R-1, R-4, R-5, R-6, R-8).
     python3 second.py < sheet              one sheet, one answer
     python3 second.py --framed < sheets    many sheets (see README.md)
 
-With --forms before that it reads sheets of form two too (R-6; README.md,
-"Ahead of the engine").
-
 Widths are whole units.  Positions are in half units.
 Section names in comments are those of document 01.
 """
 
 import collections
-import os
 import sys
-
-sys.path.insert(0, os.path.dirname(os.path.abspath(__file__)))
-
-import ahead        # noqa: E402  (found through the path set above)
 
 LARGEST_NUMBER = 4294967295
 LARGEST_SHEET = 65535
@@ -1188,11 +1180,8 @@ class Reader:
             raise self.fault()
 
 
-def read_sheet(sheet, form_two=ahead.FORM_TWO):
-    """The sixteen arguments of a job (em to left), or Refused.
-
-    form_two: sheets of form two are read as well.
-    """
+def read_sheet(sheet):
+    """The sixteen arguments of a job (em to left), or Refused."""
     # "over-length comes before both"; place "0 if over 65,535 bytes".
     if len(sheet) > LARGEST_SHEET:
         raise Refused(13, 0)
@@ -1202,7 +1191,7 @@ def read_sheet(sheet, form_two=ahead.FORM_TWO):
     form = reader.fields()
     if form == [b'set', b'2']:
         arguments = read_form_one(reader)
-    elif form == [b'set', b'9'] and form_two:
+    elif form == [b'set', b'9']:
         arguments = read_form_two(reader)
     else:
         raise reader.fault()
@@ -1366,11 +1355,11 @@ def read_left_counts(reader, kind, base, letter, texts):
 # The setting program
 # ---------------------------------------------------------------------------
 
-def answer(sheet, form_two=ahead.FORM_TWO):
+def answer(sheet):
     # "The setting program reads a sheet on standard input and writes
     # `refused N P`, or a result."
     try:
-        arguments = read_sheet(sheet, form_two)
+        arguments = read_sheet(sheet)
     except Refused as refusal:
         return refused_text(refusal.number, refusal.place)
     base_out = [0] * MOST_BASE
@@ -1505,12 +1494,9 @@ def answer_input(arguments, answered):
 
 def main(arguments):
     """The exit status."""
-    form_two = ahead.FORM_TWO
-    if arguments[:1] == ['--forms']:
-        form_two, arguments = True, arguments[1:]
     if arguments not in ([], ['--framed']):
-        sys.exit('usage: second.py [--forms] [--framed]')
-    return answer_input(arguments, lambda sheet: answer(sheet, form_two))
+        sys.exit('usage: second.py [--framed]')
+    return answer_input(arguments, answer)
 
 
 if __name__ == '__main__':

@@ -18,7 +18,6 @@ import unittest
 HERE = os.path.dirname(os.path.abspath(__file__))
 sys.path.insert(0, HERE)
 
-import ahead        # noqa: E402  (found through the path set above)
 import compare      # noqa: E402
 import generate     # noqa: E402
 import second       # noqa: E402
@@ -1913,7 +1912,7 @@ def own_program(*arguments):
 
 def compared(seed, count):
     """The sheets that compare.py takes by default."""
-    return compare.all_sheets('', seed, count, ahead.FORM_TWO)
+    return compare.all_sheets('', seed, count)
 
 
 class Programs(Case):

@@ -17,7 +17,6 @@ HERE = os.path.dirname(os.path.abspath(__file__))
 sys.path.insert(0, HERE)
 
 import account      # noqa: E402  (found through the path set above)
-import ahead        # noqa: E402
 import compare      # noqa: E402
 import compare_account  # noqa: E402
 import generate     # noqa: E402
@@ -70,7 +69,7 @@ def one_element(line, base=b'19 10 0 0 1', bases=1, rubies=1, lefts=0,
 class Case(unittest.TestCase):
 
     def answered(self, expected, sheet):
-        self.assertEqual(answer(sheet, True), expected)
+        self.assertEqual(answer(sheet), expected)
 
     def converts(self, expected, sheet):
         self.assertEqual(converted(sheet), expected)
@@ -85,17 +84,10 @@ class Reading(Case):
     def test_left_readings(self):
         self.answered(WITH_LEFT_RESULT, WITH_LEFT)
 
-    def test_form_one_alone(self):
-        # Where form two is not asked for, `set 9` is no form.
-        self.assertEqual(answer(EXAMPLE_TWO, False), b'refused 13 1\n')
-        self.assertEqual(answer(EXAMPLE, False), EXAMPLE_RESULT)
-        self.assertEqual(answer(EXAMPLE_TWO) == EXAMPLE_RESULT,
-                         ahead.FORM_TWO)
-
     def test_arguments(self):
         em, measure, ratios, profile, *given, left = read_sheet(
             one_element(b'J 2 1 2 M 3 4', bases=2, ratios=b'0\n1\n2\n3\n4\n5',
-                        profile=7), True)
+                        profile=7))
         # Ruby a, m, c, then base a, m, c.
         self.assertEqual((em, measure, ratios, profile),
                          (10, 4000, ((0, 1, 2), (3, 4, 5)), 7))
@@ -114,7 +106,7 @@ class Reading(Case):
                 (b'J 2 1 1 M 1 0', M, 0, [1, 0]),
                 (b'J 2 1 1 J 1 4294967295', J, 0, [1, BIG]),
                 (b'P', N, 0, [])):
-            left = read_sheet(one_element(line), True)[15]
+            left = read_sheet(one_element(line))[15]
             self.assertEqual(left[2:], ([kind], [count], runs), line)
 
     def test_element_lines(self):
@@ -208,10 +200,26 @@ class Reading(Case):
             seen.add(len(sheet))
             # No characters: they run out at element 0, or its runs are too
             # many.
-            self.assertIn(answer(sheet, True), (
+            self.assertIn(answer(sheet), (
                 [b'refused 13 0\n'] if len(sheet) > 65535
                 else [b'refused 6 0\n', b'refused 5 0\n']))
         self.assertEqual(seen, {65534, 65535, 65536, 65537})
+
+    def test_many_left_counts(self):
+        # b of a G is free in form, and a left M or J has b counts: 32,000 of
+        # them stand on a sheet, and the element is 5.  One count more or less
+        # is 13 in line 15.
+        def sheet(b, counts):
+            return (b'set 9\n10\n100\n1\n2\n1\n1\n2\n1\n0\nbase 0\nruby 0\n'
+                    b'left 0\nelem 1\nG %d 1 J' % b + b' 1' * counts + b'\n')
+        for b in (33, 1000, 32000):
+            self.answered(b'refused 5 0\n', sheet(b, b))
+            self.answered(b'refused 13 15\n', sheet(b, b - 1))
+            self.answered(b'refused 13 15\n', sheet(b, b + 1))
+        self.answered(b'refused 13 15\n', sheet(4294967295, 32000))
+        self.answered(b'refused 13 0\n', sheet(33000, 33000))
+        # 32 are in range: 16, ahead of the 6 for want of characters.
+        self.answered(b'refused 16 0\n', sheet(32, 32))
 
     def test_refusals_of_the_list_level(self):
         # A ratio number over 7 is no fault of form, nor is a profile over 1.
@@ -262,14 +270,14 @@ class Reading(Case):
         # Profile 1: M with 6 ruby characters, then a kana: 60 - 10.
         sheet = one_element(b'M 6 N\nP', base=b'15 10 0 0 1', bases=2,
                             rubies=6, profile=1).replace(b'elem 1', b'elem 2')
-        self.assertIn(b'b 0 20\n', answer(sheet, True))
-        self.assertIn(b'b 1 50\n', answer(sheet, True))
-        self.assertIn(b'b 1 60\n', answer(changed(10, b'0', sheet), True))
+        self.assertIn(b'b 0 20\n', answer(sheet))
+        self.assertIn(b'b 1 50\n', answer(sheet))
+        self.assertIn(b'b 1 60\n', answer(changed(10, b'0', sheet)))
 
     def test_every_left_kind(self):
         # G on G: K4 with a left G of 2, 10 and 50 (over 35).
         self.assertTrue(answer(one_element(
-            b'G 2 7 G 2', bases=2, rubies=7, lefts=2), True).endswith(
+            b'G 2 7 G 2', bases=2, rubies=7, lefts=2)).endswith(
             b'l 0 10\nl 1 50\n'))
         # M on J: as one M for each character; the second at 25.
         self.answered(
@@ -283,16 +291,55 @@ class Reading(Case):
             one_element(b'J 2 1 2 G 2', bases=2, rubies=3, lefts=2))
 
     def test_account(self):
-        self.assertEqual(account.text(EXAMPLE_TWO, True),
+        self.assertEqual(account.text(EXAMPLE_TWO),
                          account.text(EXAMPLE))
-        self.assertEqual(account.text(EXAMPLE_TWO, False), b'refused 13 1\n')
-        self.assertEqual(account.text(WITH_LEFT, True), (
+        self.assertEqual(account.text(WITH_LEFT), (
             b'clear lines 2 elements 3 readings 4\nline 70\n'
             b'element 0 at 5 gap 5 rule 4 ruby touches start\n'
             b'element 1 at 30 gap 5 rule 2 block touches ruby of 0 at depth '
             b'0\n'
             b'element 2 at 50 gap 0 rule 1 block touches block of 1\n'
             b'line 20\nelement 2 at 0 gap 0 rule 4 block touches start\n'))
+
+
+class Bilingual(unittest.TestCase):
+    """examples/bilingual, by the positions that bilingual.txt works out."""
+
+    # Letter, first index, positions in half units.
+    BY_HAND = (
+        ('b', 0, (30,)), ('r', 0, (0, 20, 40, 60, 80)),
+        ('l', 0, (18, 34, 50, 66)), ('b', 1, (80,)),
+        # Base 5 in front and 9 within; reading 1 in front, gaps 4, 5, 5.
+        ('b', 2, (120, 169)), ('r', 5, (116, 140, 165, 190)),
+        ('l', 4, (115, 131, 147, 163, 179, 195)), ('b', 4, (209,)),
+        # One M for each character: 249 - 12 = 237, and 301 + 44 = 345.
+        ('b', 5, (249, 345)), ('r', 9, (259, 345, 365)),
+        ('l', 10, (237, 253, 269, 285)),
+        ('l', 14, (301, 317, 333, 349, 365, 381, 397, 413)),
+        ('b', 7, (429,)), ('b', 8, (469,)), ('r', 12, (469, 489)),
+        ('l', 22, (479,)),
+        # The second line.
+        ('b', 9, (0, 40)), ('b', 12, (120, 160, 200)),
+        ('r', 18, (121, 145, 170, 194, 219)),
+        ('l', 25, (124, 140, 156, 172, 188, 204, 220)))
+
+    def content(self, ending):
+        with open(os.path.join(HERE, '..', 'examples',
+                               'bilingual.' + ending), 'rb') as file:
+            return file.read()
+
+    def test_positions(self):
+        rows = answer(self.content('sheet')).decode().split('\n')
+        self.assertEqual(rows[:2], ['lines 2', 'line 509'])
+        for letter, first, positions in self.BY_HAND:
+            for index, position in enumerate(positions, first):
+                self.assertIn('%s %d %d' % (letter, index, position), rows)
+        # A line of the text for each character, and three for the lines.
+        self.assertEqual(len(rows), 1 + 2 + 17 + 23 + 32 + 1)
+
+    def test_what_form_one_cannot_hold(self):
+        # Line 5 is the second number of the ruby ratio, 3.
+        self.assertEqual(converted(self.content('sheet')), b'refused 17 5\n')
 
 
 # ---------------------------------------------------------------------------
@@ -357,7 +404,7 @@ class Converting(Case):
             sheet = EXAMPLE_TWO
             for number, value in enumerate((b'2', b'4', b'2'), first):
                 sheet = changed(number, value, sheet)
-            self.assertEqual(answer(sheet, True), EXAMPLE_RESULT)
+            self.assertEqual(answer(sheet), EXAMPLE_RESULT)
             self.converts(b'refused 17 %d\n' % first, sheet)
 
     def test_17_the_first_line(self):
@@ -403,7 +450,7 @@ class Converting(Case):
 
     def test_the_job_is_the_same(self):
         for one, two in ((EXAMPLE, EXAMPLE_TWO),):
-            first, other = read_sheet(one, True), read_sheet(two, True)
+            first, other = read_sheet(one), read_sheet(two)
             self.assertEqual(first[:15], other[:15])
             self.assertIsNone(first[15])
             self.assertEqual(other[15], ([], [], [N] * 3, [0] * 3, []))
@@ -417,7 +464,7 @@ class Generated(unittest.TestCase):
         # Without the longest, which take long.
         cls.sheets = [sheet for sheet in generate_two.sheets(2, 900)
                       if len(sheet) <= 6000]
-        cls.answers = [answer(sheet, True) for sheet in cls.sheets]
+        cls.answers = [answer(sheet) for sheet in cls.sheets]
         cls.converted = list(map(converted, cls.sheets))
 
     def forms(self, first_line):
@@ -435,7 +482,7 @@ class Generated(unittest.TestCase):
             self.assertTrue(other.startswith(b'set 9\n'))
             self.assertLessEqual(len(other), 65535)
             self.assertEqual(converted(other), sheet)
-            self.assertEqual(answer(other, True), text)
+            self.assertEqual(answer(other), text)
             # The same bytes by the job's lists.
             em, measure, ratios, profile, *given, _ = read_sheet(sheet)
             count = len(given[7])
@@ -463,7 +510,7 @@ class Generated(unittest.TestCase):
     def test_17_exactly_where_form_one_cannot_hold_it(self):
         for sheet, text, other in self.forms(b'set 9\n'):
             try:
-                arguments = read_sheet(sheet, True)
+                arguments = read_sheet(sheet)
             except second.Refused:
                 continue
             left = arguments[15]
@@ -475,7 +522,7 @@ class Generated(unittest.TestCase):
         seen = 0
         for sheet, text, other in self.forms(b'set 2\n')[:120]:
             if other.startswith(b'set 9\n') and len(sheet) < 3000:
-                self.assertEqual(account.text(other, True),
+                self.assertEqual(account.text(other),
                                  account.text(sheet))
                 seen += 1
         self.assertGreater(seen, 30)
@@ -501,10 +548,18 @@ class Generated(unittest.TestCase):
         self.assertIn(b'refused 2 3\n', [each[1] for each in two])
         kinds = {(kind, left) for sheet, text, _ in two
                  if text.startswith(b'lines')
-                 for kind, left in zip(read_sheet(sheet, True)[11],
-                                       read_sheet(sheet, True)[15].left_kind)}
+                 for kind, left in zip(read_sheet(sheet)[11],
+                                       read_sheet(sheet)[15].left_kind)}
         self.assertEqual(kinds, {(kind, left) for kind, taken
                                  in second.TAKEN.items() for left in taken})
+
+    def test_none_stops_the_generator(self):
+        # Texts that are changed twice, and those of a few lines.
+        rng = random.Random(4)
+        for _ in range(500):
+            generate_two.damaged(rng)
+            generate_two.more_than_form_one(rng)
+            generate_two.one_line_off(rng)
 
     def test_repeats_itself(self):
         first = list(generate_two.sheets(2, 50))
@@ -518,7 +573,7 @@ class Accounts(unittest.TestCase):
 
     @classmethod
     def setUpClass(cls):
-        cls.found = [account.verdict(sheet, True) for sheet
+        cls.found = [account.verdict(sheet) for sheet
                      in generate_two.account_sheets(6, 300)]
 
     def test_the_text_is_right(self):
@@ -554,11 +609,10 @@ class Programs(Case):
         done = subprocess.run(command, input=content, stdout=subprocess.PIPE)
         return done.stdout, done.returncode
 
-    def test_options(self):
-        self.assertEqual(self.run_it(self.own('second.py', '--forms'),
-                                     WITH_LEFT), (WITH_LEFT_RESULT, 0))
-        self.assertEqual(self.run_it(self.own('account.py', '--forms'),
-                                     EXAMPLE_TWO),
+    def test_one_sheet(self):
+        self.assertEqual(self.run_it(self.own('second.py'), WITH_LEFT),
+                         (WITH_LEFT_RESULT, 0))
+        self.assertEqual(self.run_it(self.own('account.py'), EXAMPLE_TWO),
                          (account.text(EXAMPLE), 0))
         self.assertEqual(self.run_it(self.own('convert.py'), EXAMPLE),
                          (EXAMPLE_TWO, 0))
@@ -568,24 +622,51 @@ class Programs(Case):
     def test_comparison_of_both_forms(self):
         with tempfile.TemporaryDirectory() as folder:
             self.assertEqual(compare.compare(
-                self.own('second.py', '--forms', '--framed'), folder, 5, 40,
-                form_two=True), (40, 0))
+                self.own('second.py', '--framed'), folder, 5, 40), (40, 0))
             self.assertEqual(compare.compare(
                 self.own('convert.py', '--framed'), folder, 5, 40,
-                form_two=True, answered=converted), (40, 0))
+                converts=True), (40, 0))
+            self.assertEqual(compare.compare(
+                self.own('convert.py'), folder, 5, 12, compare.single_answers,
+                converts=True), (12, 0))
             seen, differences = compare_account.compare_all(
-                self.own('account.py', '--forms', '--framed'), folder, 5, 40,
-                compare_account.in_frames, True)
+                self.own('account.py', '--framed'), folder, 5, 40,
+                compare_account.in_frames)
             self.assertEqual((seen.sheets, differences), (40, 0))
         # An engine that does not know form two.
         expected = sum(sheet.startswith(b'set 9\n') and answer(
-            sheet, True) != b'refused 13 1\n'
+            sheet) != b'refused 13 1\n'
             for sheet in generate_two.sheets(5, 30))
         self.assertGreater(expected, 5)
+        self.differs(30, expected, (
+            'def read_form_two(reader):\n'
+            '    raise reader.fault()\n'
+            'second.read_form_two = read_form_two\n'
+            'second.main(["--framed"])'))
+
+    def differs(self, count, expected, lines, **more):
+        """An engine of these lines differs for so many of some sheets."""
+        engine = [sys.executable, '-B', '-c', (
+            'import os, sys; sys.path.insert(0, %r)\n'
+            'import convert, second\n%s' % (HERE, lines))]
         with tempfile.TemporaryDirectory() as folder, quiet():
-            self.assertEqual(compare.compare(
-                self.own('second.py', '--framed'), folder, 5, 30,
-                form_two=True), (30, 0 if ahead.FORM_TWO else expected))
+            self.assertEqual(compare.compare(engine, folder, 5, count, **more),
+                             (count, expected))
+
+    def test_round_trips_of_the_engine(self):
+        # A converter that does not know its own sheets: it is right in its
+        # first run and gives everything back as it was in the second.
+        expected = sum(converted(sheet).startswith(b'set ')
+                       for sheet in generate_two.sheets(5, 40))
+        self.assertGreater(expected, 5)
+        with tempfile.TemporaryDirectory() as folder:
+            self.differs(40, expected, (
+                'first = %r\n'
+                'if os.path.exists(first):\n'
+                '    convert.converted = lambda sheet: sheet\n'
+                'open(first, "w").close()\n'
+                'convert.main(["--framed"])' % os.path.join(folder, 'first')),
+                converts=True)
 
 
 if __name__ == '__main__':

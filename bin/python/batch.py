@@ -10,16 +10,19 @@ from proving import Trouble, printable, reason, say
 
 USAGE = """\
 usage: bin/batch [--account] [--out DIR] FILE-or-FOLDER..
+       bin/batch --convert --out DIR FILE-or-FOLDER..
 
 Sets every sheet: each FILE, and every *.sheet in and below each FOLDER. The answer to NAME.sheet is written to NAME.result beside it, a refusal too.
 
   --account   also write the account, to NAME.account
   --out DIR   write into DIR instead; a sheet found in a FOLDER goes to the same place below DIR that it has below FOLDER
+  --convert   write each sheet in the other form instead, to NAME.sheet in DIR, which may not be FOLDER or lie in it. No sheet that is there is
+              altered: where DIR has another sheet of that name, it stays. One that is refused is told on standard error, and not written
   --help      this text
 
 Progress and each sheet that is over-long or could not be set are told on standard error; a summary ends it on standard output. An answer is written
-whole or not at all. Status 0: all are set. 1: some are refused. 2: some could not be read or written, or there was no sheet, or it could not be run.
-The first run proves and builds the programs, which takes some minutes.
+whole or not at all. Status 0: all are set, or converted. 1: some are refused. 2: some could not be read or written, or there was no sheet, or it could
+not be run. The first run proves and builds the programs, which takes some minutes.
 """
 
 AT_ONCE = 200   # sheets for one run of a program
@@ -32,7 +35,7 @@ class Asked:
     """What the arguments ask for."""
 
     def __init__(self, arguments):
-        self.account, self.out, self.places, self.help = False, None, [], False
+        self.account, self.convert, self.out, self.places, self.help = False, False, None, [], False
         words, options = list(arguments), True
         while words:
             word = words.pop(0)
@@ -44,12 +47,35 @@ class Asked:
                 self.help = True
             elif word == '--account':
                 self.account = True
+            elif word == '--convert':
+                self.convert = True
             elif word == '--out' or word.startswith('--out='):
                 self.take_out(word, words)
             else:
                 raise Trouble('unknown option %s (bin/batch --help says how it is used)' % printable(word))
-        if not self.places and not self.help:
+        if self.help:
+            return
+        if not self.places:
             raise Trouble('no file and no folder is named (bin/batch --help says how it is used)')
+        if self.convert:
+            self.judge_convert()
+
+    def judge_convert(self):
+        if self.account:
+            raise Trouble('--convert writes sheets and no accounts')
+        if self.out is None:
+            raise Trouble('--convert needs --out DIR: the sheets that are there stay as they are')
+        out = os.path.realpath(self.out)
+        for place in self.places:
+            folder = os.path.realpath(place)
+            if os.path.isdir(folder) and os.path.commonpath([out, folder]) == folder:
+                raise Trouble('%s is %s, or lies in it: what is converted goes elsewhere' % (printable(self.out), printable(place)))
+
+    def programs(self):
+        """The program for each ending that is written."""
+        if self.convert:
+            return {'.sheet': 'converts'}
+        return {'.result': 'settings', '.account': 'accounts'} if self.account else {'.result': 'settings'}
 
     def take_out(self, word, words):
         if self.out is not None:
@@ -64,8 +90,10 @@ class Asked:
 class Tally:
     """What became of the sheets, and the telling of it."""
 
-    def __init__(self):
-        self.total = self.done = self.set = self.tenths = self.wide = 0
+    def __init__(self, convert):
+        self.total = self.done = self.tenths = self.wide = 0
+        self.verb = 'converted' if convert else 'set'
+        self.good = {'to form two': 0, 'to form one': 0} if convert else {'set': 0}
         self.refused, self.failed = {}, []
         self.bar = os.isatty(2)
 
@@ -108,7 +136,8 @@ class Tally:
         def some(names):
             return '%d (%s%s)' % (len(names), ', '.join(map(printable, names[:NAMES])), ', ..' if len(names) > NAMES else '')
         refused = sum(map(len, self.refused.values()))
-        lines = ['%d set, %d refused, %d not read or not written' % (self.set, refused, len(self.failed))]
+        good = ''.join('%d %s, ' % (count, word) for word, count in self.good.items())
+        lines = ['%s%d refused, %d not read or not written' % (good, refused, len(self.failed))]
         lines += ['refused %d: %s' % (number, some(self.refused[number])) for number in sorted(self.refused)]
         if self.failed:
             lines.append('not read or not written: ' + some(self.failed))
@@ -156,7 +185,7 @@ def sheets_of(asked, tally):
             if first is path:
                 yield path, to
             elif os.path.realpath(first) != os.path.realpath(path):
-                tally.fail(path, 'not set: its answer would have the place of the one to %s' % printable(first))
+                tally.fail(path, 'not %s: its answer would have the place of the one to %s' % (tally.verb, printable(first)))
 
 
 def read_sheet(path, tally):
@@ -227,26 +256,63 @@ def write_whole(path, text):
         raise
 
 
+def write_new(path, text):
+    """The same for a sheet: what is there already is never altered."""
+    if not os.path.lexists(path):
+        write_whole(path, text)
+    elif not is_that(path, text):
+        raise Trouble('%s is there already, and is another one' % printable(path))
+
+
+def is_that(path, text):
+    """Whether a file has this text."""
+    if not os.path.isfile(path):
+        return False
+    with open(path, 'rb') as file:
+        return file.read(command.LONGEST) == text
+
+
+def number_of(texts, heads):
+    """The number of the refusal that the answers to a sheet are; 0 where they are none."""
+    if None in texts.values():
+        raise Trouble('the program gave no answer')
+    numbers = {command.refused(text, heads) for text in texts.values()}
+    if len(numbers) != 1:
+        raise Trouble('the programs do not agree on it')
+    return numbers.pop()
+
+
+def put_answers(path, to, texts, tally):
+    """Writes the answers to one sheet, a refusal too; (number, what it was counted as)."""
+    number = number_of(texts, (b'lines', b'clear'))
+    for ending, text in texts.items():
+        write_whole(to + ending, text)
+    return number, 'set'
+
+
+def put_converted(path, to, texts, tally):
+    """Writes the other sheet; a refusal is told."""
+    number, text = number_of(texts, (b'set',)), texts['.sheet']
+    if number:
+        tally.tell('%s: %s' % (printable(path), printable(text.split(b'\n')[0].decode('ascii', 'backslashreplace'))))
+    else:
+        write_new(to + '.sheet', text)
+    return number, 'to form two' if text.startswith(b'set 9\n') else 'to form one'
+
+
 def finish(path, to, texts, tally):
     """Writes what the programs answered to one sheet, and counts it."""
     try:
-        if None in texts.values():
-            raise Trouble('the program gave no answer')
-        numbers = {command.refused(text) for text in texts.values()}
-        if len(numbers) != 1:
-            raise Trouble('the programs do not agree on it')
-        for ending, text in texts.items():
-            write_whole(to + ending, text)
+        number, word = (put_converted if '.sheet' in texts else put_answers)(path, to, texts, tally)
     except Trouble as trouble:
-        tally.fail(path, 'not set: %s' % trouble)
+        tally.fail(path, 'not %s: %s' % (tally.verb, trouble))
     except OSError as error:
         tally.fail(path, '%s cannot be written: %s' % (printable(to), reason(error)))
     else:
-        number = numbers.pop()
         if number:
             tally.refused.setdefault(number, []).append(path)
         else:
-            tally.set += 1
+            tally.good[word] += 1
     tally.step()
 
 
@@ -271,17 +337,17 @@ def main(closed, _, arguments):
     if asked.help:
         command.write(USAGE.encode())
         return 0
-    tally = Tally()
+    tally = Tally(asked.convert)
     found = list(sheets_of(asked, tally))
     tally.total = len(found)
     if not found:
-        raise Trouble('there is no sheet to set')
+        raise Trouble('there is no sheet to %s' % ('convert' if asked.convert else 'set'))
     if asked.out is not None:
         try:
             os.makedirs(asked.out, exist_ok=True)
         except OSError as error:
             raise Trouble('%s cannot be made a folder: %s' % (printable(asked.out), reason(error)))
-    programs = {'.result': 'settings', '.account': 'accounts'} if asked.account else {'.result': 'settings'}
+    programs = asked.programs()
     for program in programs.values():
         proving.make_ready('batch', program)
     set_all(found, programs, tally)

@@ -13,9 +13,9 @@ from proving import ROOT, Trouble, printable, reason
 
 LONGEST = 65536     # one byte more than a sheet may have is enough to tell that it is too long
 
-# Each command's program, and how it is used.
+# Each command's program, with what its answer begins where it is no refusal, and how it is used.
 COMMANDS = {
-    'setting': ('setting', """\
+    'setting': ('setting', (b'lines',), """\
 usage: bin/setting [FILE]
 
 Sets a job sheet: where every character stands, line by line. FILE is the sheet; without FILE, or with -, it is read from standard input. The answer
@@ -27,7 +27,7 @@ Status 0: set. 1: refused. 2: could not be run; one line on standard error says 
 The first run proves and builds the program, which takes some minutes. bin/batch sets many sheets, bin/account says why each gap is as wide as it is;
 docs/MANUAL.md has the sheet, the result and every refusal.
 """),
-    'account': ('account_main', """\
+    'account': ('account_main', (b'clear',), """\
 usage: bin/account [FILE]
 
 Says of a job sheet why each gap is as wide as it is. FILE is the sheet; without FILE, or with -, it is read from standard input. The answer goes to
@@ -38,6 +38,19 @@ is too long.
 
 Status 0: an account. 1: refused. 2: could not be run; one line on standard error says why, and there is no answer.
 The first run proves and builds the program, which takes some minutes. docs/MANUAL.md, "The account", has the form of each line.
+"""),
+    'convert': ('convert', (b'set',), """\
+usage: bin/convert [FILE]
+
+Takes a job sheet of form one to form two, and a sheet of form two back to form one; its first line says which it is. FILE is the sheet; without FILE,
+or with -, it is read from standard input. The other sheet goes to standard output, whole, or one line `refused N P`. A sheet whose job is refused is
+not converted, and form two goes back only if it has no left reading, both ratios are 1:2:1 and the profile is 0 (number 17).
+
+  --help   this text
+
+Status 0: converted. 1: refused. 2: could not be run; one line on standard error says why, and there is no answer.
+The first run proves and builds the program, which takes some minutes. bin/batch --convert converts many sheets; docs/MANUAL.md, "From one form to the
+other", says more.
 """),
 }
 
@@ -55,7 +68,8 @@ def chosen(arguments, name):
         else:
             files.append(word)
     if len(files) > 1:
-        raise Trouble('one sheet at a time, and here are %d (bin/batch sets many)' % len(files))
+        many = 'bin/batch --convert converts many' if name == 'convert' else 'bin/batch sets many'
+        raise Trouble('one sheet at a time, and here are %d (%s)' % (len(files), many))
     return files[0] if files else '-'
 
 
@@ -83,10 +97,10 @@ def run(program, given):
     return done.stdout, ''
 
 
-def refused(answer):
-    """The number of a refusal; 0 where the sheet is set. An answer is whole if it is of the one form or the other and its last line has an end."""
+def refused(answer, heads):
+    """The number of a refusal; 0 where it is none. An answer is whole if it begins with one of these words or is a refusal, and its last line ends."""
     words = answer.split(b'\n', 1)[0].split(b' ')
-    if answer.endswith(b'\n') and words[0] in (b'lines', b'clear'):
+    if answer.endswith(b'\n') and words[0] in heads:
         return 0
     if answer.endswith(b'\n') and len(words) == 3 and words[0] == b'refused' and words[1].isdigit() and int(words[1]) > 0:
         return int(words[1])
@@ -105,7 +119,7 @@ def write(text):
 
 
 def main(closed, name, arguments):
-    program, usage = COMMANDS[name]
+    program, heads, usage = COMMANDS[name]
     file = chosen(arguments, name)
     if closed[1]:
         raise Trouble('standard output is closed')
@@ -117,7 +131,7 @@ def main(closed, name, arguments):
     answer, odd = run(program, sheet)
     if odd:
         raise Trouble(odd)
-    number = refused(answer)
+    number = refused(answer, heads)
     write(answer)
     return 1 if number else 0
 

@@ -11,9 +11,9 @@
 #define RUBIES 6
 #define ELEMENTS 3
 #define RUNS 2
-#define PROFILE 0 /* that of every sheet: no ruby on the kana */
+#define PROFILE 0 /* that of every sheet of form one: no ruby on the kana */
 
-/* How spread ruby and spread base share out their space: the usual ratio, that of every sheet. Nothing is spread here. */
+/* How spread ruby and spread base share out their space: the usual ratio, that of form one. Nothing is spread here. */
 static const uint32_t usual[3] = {1, 2, 1};
 static const uint32_t class_[BASES] = {19, 15, 19, 19};
 static const uint32_t width[BASES] = {10, 10, 10, 10};

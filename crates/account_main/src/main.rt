@@ -6,11 +6,13 @@ use libc::STDOUT_FILENO;
 fn main() {
     let mut text = [0u8; 65536];
     let n = io::read_full(STDIN_FILENO, &mut text);
-    let mut set = [0; 2];
+    let mut set = [0; 9];
     let mut base = [0; 5120];
     let mut ruby = [0; 4096];
-    let mut elem = [0; 3072];
+    let mut left = [0; 4096];
+    let mut elem = [0; 5120];
     let mut runs = [0; 32768];
+    let mut lruns = [0; 32768];
     let mut rows = [0; 6144];
     let mut told = [0; 1024];
     let mut extents = [0; 1024];
@@ -20,8 +22,10 @@ fn main() {
         &mut set,
         &mut base,
         &mut ruby,
+        &mut left,
         &mut elem,
         &mut runs,
+        &mut lruns,
         &mut rows,
         &mut told,
         &mut extents,

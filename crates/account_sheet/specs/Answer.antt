@@ -6,14 +6,12 @@ use mathlib.Core.Path.{_≡_}
 use Prim.Native.Nat.{ℕ, _≤_, _<_}
 use lib.Dec.{eqb}
 use lib.ListN.{length}
-use lib.Seq.{sets}
 use Rattle.text.specs.Print.{Wrote}
 use Rattle.refusal.specs.declared.Refusal.{Refusal}
 use Rattle.refusal.specs.Refusal.{numberOf, placeOf}
-use Rattle.rows.specs.Table.{laid}
 use Rattle.sheet.specs.declared.Reading.{Reading}
 use Rattle.sheet.specs.declared.Reading.the-variants.{Sound, Refused}
-use Rattle.sheet.specs.Sheet.{Sheet, reading}
+use Rattle.sheet.specs.Sheet.{Sheet, reading, Tables, Into}
 use Rattle.door.specs.Job.{Job, baseCount, elements}
 use Rattle.door.specs.Refusals.{elementsFaults, leftFaults}
 use Rattle.door.specs.Passed.{Passed}
@@ -52,11 +50,24 @@ unfoldable pub accountOfSheet : List ℕ → List ℕ
 unfolding accountBy reading
 accountOfSheet s = accountBy (reading s) (reading s .end)
 
--- the account's lists, where the reading is sound and where it is not
-unfoldable pub listsBy : Sheet → Reading → List ℕ → List ℕ → List ℕ → (List ℕ) × (List ℕ) × (List ℕ)
+-- The account's lists: a row for each piece, and for each line how many rows there are up to its end and its extent.
+pub record Lists : Type 0 where
+  pub rows : List ℕ
+  pub told : List ℕ
+  pub wide : List ℕ
+
+abbrev pub lists : List ℕ → List ℕ → List ℕ → Lists
+lists rows told wide = record { rows = rows; told = told; wide = wide }
+
+-- as a job's account leaves them
+abbrev pub leaves : Job → Lists → Lists
+leaves job was = let o = telling job (was .rows) (was .told) (was .wide) in lists (o .rows) (o .told) (o .extents)
+
+-- and as a sheet leaves them: moved only where the reading is sound
+unfoldable pub listsBy : Sheet → Reading → Lists → Lists
 unfolding sheetJob telling
-listsBy t (Refused r) rows told wide = (rows, told, wide)
-listsBy t (Sound n) rows told wide = let o = telling (sheetJob t) rows told wide in (o .rows, o .told, o .extents)
+listsBy t (Refused r) was = was
+listsBy t (Sound n) was = leaves (sheetJob t) was
 
 -- a line from s can be declined only where the job has no fault of its own
 pub record Lacks (job : Job) (s : ℕ) : Type 0 where
@@ -70,20 +81,14 @@ pub record Declined (job : Job) (r : Refusal) (out : List ℕ) : Type 0 where
   pub room : 66 ≤ length out
 
 -- A job is told: its lists are those of its account, and its text stands at the front of `out`.
-pub record Told (job : Job) (rows told wide out : List ℕ) (r : ℕ) (newRows newTold newWide newOut : List ℕ) : Type 0 where
-  pub newRowsAre : newRows ≡ telling job rows told wide .rows
-  pub newToldAre : newTold ≡ telling job rows told wide .told
-  pub newWideAre : newWide ≡ telling job rows told wide .extents
-  pub text : Wrote out 0 (jobAccount job (room rows told wide)) r newOut
+pub record Told (job : Job) (was : Lists) (out : List ℕ) (r : ℕ) (now : Lists) (newOut : List ℕ) : Type 0 where
+  pub holds : now ≡ leaves job was
+  pub text : Wrote out 0 (jobAccount job (room (was .rows) (was .told) (was .wide))) r newOut
   pub short : r ≤ longest
 
 -- A sheet is answered: the tables hold what was read, the lists what the job's account leaves in them, and `out` begins with the account.
-pub record Answered (s set base ruby elem runs rows told wide out : List ℕ) (r : ℕ) (newSet newBase newRuby newElem newRuns newRows newTold newWide newOut : List ℕ) : Type 0 where
+pub record Answered (s : List ℕ) (was : Tables) (before : Lists) (out : List ℕ) (r : ℕ) (t : Tables) (now : Lists) (newOut : List ℕ) : Type 0 where
   pub text : Wrote out 0 (accountOfSheet s) r newOut
   pub short : r ≤ longest
-  pub lists : (newRows, newTold, newWide) ≡ listsBy (reading s) (reading s .end) rows told wide
-  pub setHolds : newSet ≡ laid set 0 2 (reading s .set)
-  pub baseHolds : newBase ≡ laid base 0 1024 (reading s .base)
-  pub rubyHolds : newRuby ≡ laid ruby 0 2048 (reading s .ruby)
-  pub elemHolds : newElem ≡ laid elem 0 1024 (reading s .elem)
-  pub runsHold : newRuns ≡ sets runs 0 (reading s .runs)
+  pub holds : now ≡ listsBy (reading s) (reading s .end) before
+  pub read : Into s was (reading s .end) t

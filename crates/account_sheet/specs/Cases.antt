@@ -11,6 +11,11 @@ pub k9 : accountOfSheet (bytes "set 2\n10\n50\nbase 2\n19 10 0 0 1\n19 10 0 0 1\
 unfolding accountOfSheet lineOf origins settleFrom origin beside neighbour rubies reason
 k9 = refl
 
+-- the same in form two (document 02, R-6), with the long readings on the left
+pub k9-left : accountOfSheet (bytes "set 9\n10\n50\n1\n2\n1\n1\n2\n1\n0\nbase 2\n19 10 0 0 1\n19 10 0 0 1\nruby 2\n15 5\n15 5\nleft 6\n15 5\n15 5\n15 5\n15 5\n15 5\n15 5\nelem 2\nM 1 M 3\nM 1 M 3\n") ≡ bytes "clear lines 1 elements 2 readings 4\nline 60\nelement 0 at 5 gap 5 rule 4 left ruby touches start\nelement 1 at 35 gap 10 rule 3 left ruby touches left ruby of 0\n"
+unfolding accountOfSheet lineOf origins settleFrom origin beside neighbour rubies reason
+k9-left = refl
+
 -- the comma has no blank before, so the first ruby keeps off it; its blank after has room for the second
 pub k10 : accountOfSheet (bytes "set 2\n10\n50\nbase 3\n19 10 0 0 1\n7 10 0 5 1\n19 10 0 0 1\nruby 6\n15 5\n15 5\n15 5\n15 5\n15 5\n15 5\nelem 3\nM 3\nP\nM 3\n") ≡ bytes "clear lines 1 elements 3 readings 2\nline 75\nelement 0 at 5 gap 5 rule 4 ruby touches start\nelement 1 at 30 gap 5 rule 2 block touches ruby of 0 at depth 0\nelement 2 at 50 gap 0 rule 1 block touches block of 1\n"
 unfolding accountOfSheet lineOf origins settleFrom origin beside neighbour rubies reason

@@ -18,7 +18,7 @@ use Rattle.sheet.specs.declared.Reading.{Reading}
 use Rattle.sheet.specs.declared.Reading.the-variants.{Sound, Refused}
 use Rattle.sheet.specs.Sheet.{reading}
 use Rattle.sheet.specs.Form.{Over}
-use Rattle.sheet.specs.Place.{Breaks}
+use Rattle.sheet.specs.Breaks.{Breaks}
 use Rattle.door.specs.Job.{Job}
 use Rattle.job.specs.Refusals.{fault}
 use Rattle.job.specs.Order.{given-first}

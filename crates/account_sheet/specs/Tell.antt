@@ -38,7 +38,7 @@ use Rattle.account_text.specs.Text.{readingsOf, accountText, listsText, needsTe
 use Rattle.account_text.specs.Lists.{ListsReady}
 use Rattle.account_text.specs.Job.{text-is, lists-ready}
 use Rattle.account_text.specs.Short.{longest, account-short, declined-short}
-use Rattle.account_sheet.specs.Answer.{declinedText, tellingText, jobAccount, Lacks, Declined, Told}
+use Rattle.account_sheet.specs.Answer.{declinedText, tellingText, jobAccount, Lacks, Declined, lists, Told}
 
 -- number 11 is the refusal of a line
 eleven : (r : Refusal) → numberOf r ≡ 11 → r ≡ NoBreak (placeOf r)
@@ -131,15 +131,15 @@ module _ (job : Job) (rows told wide : List ℕ) where
         many : (a b c : ℕ) → baseCount job ≤ min (a / 6) (min b c) → (6 * baseCount job ≤ a) × (baseCount job ≤ b) × (baseCount job ≤ c)
         many a b c h = (omega arith, omega arith, omega arith)
 
-    lists : (telling job rows told wide .rows ≡ sets rows 0 (accounts job)) × (telling job rows told wide .told ≡ sets told 0 (counts job)) × (telling job rows told wide .extents ≡ sets wide 0 (extents job))
+    kept : (telling job rows told wide .rows ≡ sets rows 0 (accounts job)) × (telling job rows told wide .told ≡ sets told 0 (counts job)) × (telling job rows told wide .extents ≡ sets wide 0 (extents job))
     unfolding telling tellingBy
-    lists = (rw (set-given set .0), rw (set-given set .0), rw (set-given set .0))
+    kept = (rw (set-given set .0), rw (set-given set .0), rw (set-given set .0))
 
     abbrev readings : ℕ
     readings = readingsOf (job .kind) (job .leftKind) (elementCount job)
 
     set-text : listsText n (elementCount job) readings (telling job rows told wide .rows) (telling job rows told wide .told) (telling job rows told wide .extents) ≡ accountText job
-    set-text = rw (lists .0, lists .1, lists .2, set-given set .1) (text-is job door fill rows told wide (long .0) (long .1) (long .2))
+    set-text = rw (kept .0, kept .1, kept .2, set-given set .1) (text-is job door fill rows told wide (long .0) (long .1) (long .2))
 
     set-is : jobAccount job m ≡ accountText job
     unfolding jobAccount tellingText
@@ -150,9 +150,12 @@ module _ (job : Job) (rows told wide : List ℕ) where
 
     set-ready : {out : List ℕ} → longest ≤ length out →
         ListsReady n (elementCount job) readings (telling job rows told wide .rows) (telling job rows told wide .told) (telling job rows told wide .extents) out
-    set-ready h = rw (lists .0, lists .1, lists .2, set-given set .1) (lists-ready job door fill rows told wide (long .0) (long .1) (long .2) (omega (arith, set-short)))
+    set-ready h = rw (kept .0, kept .1, kept .2, set-given set .1) (lists-ready job door fill rows told wide (long .0) (long .1) (long .2) (omega (arith, set-short)))
 
 -- what the account left, and a text after it
+abbrev Tells : Job → List ℕ → List ℕ → List ℕ → List ℕ → Telling → ℕ → List ℕ → Type 0
+Tells job rows told wide out o r now = Told job (lists rows told wide) out r (lists (o .rows) (o .told) (o .extents)) now
+
 module _ (job : Job) (rows told wide : List ℕ) {o : Telling} (e : o ≡ telling job rows told wide) where
   as-told : {a : Answer} → o .answer ≡ a → telling job rows told wide .answer ≡ a
   as-told is = ap (λ (x : Telling). x .answer) (sym e) ∙ is
@@ -174,21 +177,18 @@ module _ (job : Job) (rows told wide : List ℕ) {o : Telling} (e : o ≡ tellin
   few-elements is = door job rows told wide (as-told is) .fewElements
 
   module _ {out : List ℕ} {r : ℕ} {now : List ℕ} where
-    tells : {xs : List ℕ} → jobAccount job (room rows told wide) ≡ xs → length xs ≤ longest → Wrote out 0 xs r now → Told job rows told wide out r (o .rows) (o .told) (o .extents) now
+    tells : {xs : List ℕ} → jobAccount job (room rows told wide) ≡ xs → length xs ≤ longest → Wrote out 0 xs r now → Tells job rows told wide out o r now
     tells same few wrote =
         record {
-          newRowsAre = ap (λ (x : Telling). x .rows) e;
-          newToldAre = ap (λ (x : Telling). x .told) e;
-          newWideAre = ap (λ (x : Telling). x .extents) e;
+          holds = ap (λ (x : Telling). lists (x .rows) (x .told) (x .extents)) e;
           text = subst (λ xs. Wrote out 0 xs r now) (sym same) wrote;
           short = omega (arith, wrote .next);
         }
 
-    pub told-refused : {why : Refusal} → o .answer ≡ Refused why → Wrote out 0 (declinedText job why) r now → Told job rows told wide out r (o .rows) (o .told) (o .extents) now
+    pub told-refused : {why : Refusal} → o .answer ≡ Refused why → Wrote out 0 (declinedText job why) r now → Tells job rows told wide out o r now
     told-refused {why} is wrote = tells (refused-text job rows told wide (as-told is)) (declined-most job why) wrote
 
-    pub told-set : {n : ℕ} → o .answer ≡ Set n → Wrote out 0 (listsText n (elementCount job) (readingsOf (job .kind) (job .leftKind) (elementCount job)) (o .rows) (o .told) (o .extents)) r now →
-        Told job rows told wide out r (o .rows) (o .told) (o .extents) now
+    pub told-set : {n : ℕ} → o .answer ≡ Set n → Wrote out 0 (listsText n (elementCount job) (readingsOf (job .kind) (job .leftKind) (elementCount job)) (o .rows) (o .told) (o .extents)) r now → Tells job rows told wide out o r now
     told-set {n} is wrote =
         let same : listsText n (elementCount job) (readingsOf (job .kind) (job .leftKind) (elementCount job)) (o .rows) (o .told) (o .extents) ≡ accountText job = rw e (set-text job rows told wide (as-told is)) in
         tells (set-is job rows told wide (as-told is)) (set-short job rows told wide (as-told is)) (subst (λ xs. Wrote out 0 xs r now) same wrote)

@@ -1,15 +1,14 @@
-// A job sheet in, its account out: bytes to bytes, and nothing is asked of the caller. A page that can be set is told line by line, with the reason for each gap; one that can't is
+// A job sheet of either form in, its account out: bytes to bytes, and nothing is asked of the caller. A page that can be set is told line by line, with the reason for each gap; one that can't is
 // refused as the setting refuses it, and where a line is too long the account says how far. It relies on `sheet` for the reading, on `job_account` for the account, on `layout` and `shortest` for
 // what a declined line needs, and on `account_text` for the text.
-ghost use Prim.Native.Nat.{_+_, _≤_};
-ghost use mathlib.Core.List.{[]};
-ghost use lib.ListN.{length, replicate};
+ghost use Prim.Native.Nat.{_≤_};
+ghost use lib.ListN.{length};
 ghost use Rattle.text.specs.Print.{Wrote};
-ghost use Rattle.spread.specs.Ratio.{usualLists};
 ghost use Rattle.door.specs.Job.{jobOf};
-ghost use Rattle.setter.specs.Answer.{part, ElementsReady, TablesReady, tablesJob, Fits};
+ghost use Rattle.sheet.specs.Sheet.{tables};
+ghost use Rattle.setter.specs.Answer.{ElementsLong, TablesLong, elementsJob, tablesJob, Fits};
 ghost use Rattle.account_text.specs.Short.{longest};
-ghost use Rattle.account_sheet.specs.Answer.{declinedText, Declined, Told, Answered};
+ghost use Rattle.account_sheet.specs.Answer.{declinedText, Declined, lists, Told, Answered};
 
 // A refusal by its number and place; of a line that is too long also the extent that it needs, and the measure. It is found in a table of this function's own, for
 // 1,024 base characters.
@@ -17,6 +16,8 @@ fn write_declined(
     why: refusal::Refusal,
     em: u32,
     measure: u32,
+    ratios: [[u32; 3]; 2],
+    profile: u32,
     class: &[u32],
     width: &[u32],
     before: &[u32],
@@ -24,16 +25,19 @@ fn write_declined(
     flag: &[u32],
     rclass: &[u32],
     rwidth: &[u32],
+    lclass: &[u32],
+    lwidth: &[u32],
     kind: &[u32],
     ebase: &[u32],
     eruby: &[u32],
     lkind: &[u32],
     eleft: &[u32],
     runs: &[u32],
+    lruns: &[u32],
     out: &mut [u8],
 ) -> usize
-    requires { let job = jobOf em measure usualLists 0 (now class) (now width) (now before) (now after) (now flag) (now rclass) (now rwidth) [] [] (now kind) (now ebase) (now eruby) (now lkind) (now eleft) (now runs) [] in ⌜ Declined job why (now out) ⌝ }
-    ensures { λ r. let job = jobOf em measure usualLists 0 (now (class .entry)) (now (width .entry)) (now (before .entry)) (now (after .entry)) (now (flag .entry)) (now (rclass .entry)) (now (rwidth .entry)) [] [] (now (kind .entry)) (now (ebase .entry)) (now (eruby .entry)) (now (lkind .entry)) (now (eleft .entry)) (now (runs .entry)) [] in ⌜ Wrote (now (out .entry)) 0 (declinedText job why) r (now (out .exit)) ⌝ }
+    requires { let job = jobOf em measure ratios profile (now class) (now width) (now before) (now after) (now flag) (now rclass) (now rwidth) (now lclass) (now lwidth) (now kind) (now ebase) (now eruby) (now lkind) (now eleft) (now runs) (now lruns) in ⌜ Declined job why (now out) ⌝ }
+    ensures { λ r. let job = jobOf em measure ratios profile (now (class .entry)) (now (width .entry)) (now (before .entry)) (now (after .entry)) (now (flag .entry)) (now (rclass .entry)) (now (rwidth .entry)) (now (lclass .entry)) (now (lwidth .entry)) (now (kind .entry)) (now (ebase .entry)) (now (eruby .entry)) (now (lkind .entry)) (now (eleft .entry)) (now (runs .entry)) (now (lruns .entry)) in ⌜ Wrote (now (out .entry)) 0 (declinedText job why) r (now (out .exit)) ⌝ }
 {
     let at = result::write_refusal(why, out);
     if refusal::number(why) != 11 {
@@ -43,8 +47,8 @@ fn write_declined(
     match layout::layout(
         &mut t,
         em,
-        spread::USUAL,
-        0,
+        ratios,
+        profile,
         class,
         width,
         before,
@@ -52,15 +56,15 @@ fn write_declined(
         flag,
         rclass,
         rwidth,
-        &eleft[0..0],
-        &eleft[0..0],
+        lclass,
+        lwidth,
         kind,
         ebase,
         eruby,
         lkind,
         eleft,
         runs,
-        &eleft[0..0],
+        lruns,
     ) {
         door::Checked::Refused(_) => return at, // unreachable: a job whose line is declined has no fault of its own
         door::Checked::Passed => {}
@@ -70,10 +74,12 @@ fn write_declined(
     account_text::put_needs(out, at, needed, measure)
 }
 
-// The account of a job in lists, in text. A sheet has no ratios and no profile: it means 1:2:1 and 0. It has no left reading.
+// The account of a job in lists, in text.
 fn tell_lists(
     em: u32,
     measure: u32,
+    ratios: [[u32; 3]; 2],
+    profile: u32,
     class: &[u32],
     width: &[u32],
     before: &[u32],
@@ -81,25 +87,28 @@ fn tell_lists(
     flag: &[u32],
     rclass: &[u32],
     rwidth: &[u32],
+    lclass: &[u32],
+    lwidth: &[u32],
     kind: &[u32],
     ebase: &[u32],
     eruby: &[u32],
     lkind: &[u32],
     eleft: &[u32],
     runs: &[u32],
+    lruns: &[u32],
     rows: &mut [u32],
     told: &mut [u32],
     extents: &mut [u32],
     out: &mut [u8],
 ) -> usize
     requires { ⌜ longest ≤ length (now out) ⌝ }
-    ensures { λ r. ⌜ Told (jobOf em measure usualLists 0 (now (class .entry)) (now (width .entry)) (now (before .entry)) (now (after .entry)) (now (flag .entry)) (now (rclass .entry)) (now (rwidth .entry)) [] [] (now (kind .entry)) (now (ebase .entry)) (now (eruby .entry)) (now (lkind .entry)) (now (eleft .entry)) (now (runs .entry)) []) (now (rows .entry)) (now (told .entry)) (now (extents .entry)) (now (out .entry)) r (now (rows .exit)) (now (told .exit)) (now (extents .exit)) (now (out .exit)) ⌝ }
+    ensures { λ r. let job = jobOf em measure ratios profile (now (class .entry)) (now (width .entry)) (now (before .entry)) (now (after .entry)) (now (flag .entry)) (now (rclass .entry)) (now (rwidth .entry)) (now (lclass .entry)) (now (lwidth .entry)) (now (kind .entry)) (now (ebase .entry)) (now (eruby .entry)) (now (lkind .entry)) (now (eleft .entry)) (now (runs .entry)) (now (lruns .entry)) in ⌜ Told job (lists (now (rows .entry)) (now (told .entry)) (now (extents .entry))) (now (out .entry)) r (lists (now (rows .exit)) (now (told .exit)) (now (extents .exit))) (now (out .exit)) ⌝ }
 {
     match job_account::account_job(
         em,
         measure,
-        spread::USUAL,
-        0,
+        ratios,
+        profile,
         class,
         width,
         before,
@@ -107,15 +116,15 @@ fn tell_lists(
         flag,
         rclass,
         rwidth,
-        &eleft[0..0],
-        &eleft[0..0],
+        lclass,
+        lwidth,
         kind,
         ebase,
         eruby,
         lkind,
         eleft,
         runs,
-        &eleft[0..0],
+        lruns,
         rows,
         told,
         extents,
@@ -124,6 +133,8 @@ fn tell_lists(
             why,
             em,
             measure,
+            ratios,
+            profile,
             class,
             width,
             before,
@@ -131,12 +142,15 @@ fn tell_lists(
             flag,
             rclass,
             rwidth,
+            lclass,
+            lwidth,
             kind,
             ebase,
             eruby,
             lkind,
             eleft,
             runs,
+            lruns,
             out,
         ),
         job::Answer::Set(n) => {
@@ -147,10 +161,12 @@ fn tell_lists(
     }
 }
 
-// The same, where the elements and their runs stand in tables: kind, base count and ruby count of e elements, 1,024 apart, and u runs.
+// The same, where left characters, elements and runs stand in tables: class and width of left characters 2,048 apart; kind, base count, ruby count, left kind and left count of elements 1,024 apart.
 fn tell_elements(
     em: u32,
     measure: u32,
+    ratios: [[u32; 3]; 2],
+    profile: u32,
     class: &[u32],
     width: &[u32],
     before: &[u32],
@@ -158,25 +174,34 @@ fn tell_elements(
     flag: &[u32],
     rclass: &[u32],
     rwidth: &[u32],
-    e: usize,
+    n: sheet::Counts,
+    left: &[u32],
     elem: &[u32],
-    u: usize,
     runs: &[u32],
+    lruns: &[u32],
     rows: &mut [u32],
     told: &mut [u32],
     extents: &mut [u32],
     out: &mut [u8],
 ) -> usize
-    requires { ⌜ ElementsReady e u (now elem) (now runs) (now out) × (longest ≤ length (now out)) ⌝ }
-    ensures { λ r. ⌜ Told (jobOf em measure usualLists 0 (now (class .entry)) (now (width .entry)) (now (before .entry)) (now (after .entry)) (now (flag .entry)) (now (rclass .entry)) (now (rwidth .entry)) [] [] (part 0 e (now (elem .entry))) (part 1024 (1024 + e) (now (elem .entry))) (part 2048 (2048 + e) (now (elem .entry))) (replicate e 78) (replicate e 0) (part 0 u (now (runs .entry))) []) (now (rows .entry)) (now (told .entry)) (now (extents .entry)) (now (out .entry)) r (now (rows .exit)) (now (told .exit)) (now (extents .exit)) (now (out .exit)) ⌝ }
+    requires { ⌜ ElementsLong n (now left) (now elem) (now runs) (now lruns) ⌝ }
+    requires { ⌜ longest ≤ length (now out) ⌝ }
+    ensures { λ r. let job = elementsJob em measure ratios profile (now (class .entry)) (now (width .entry)) (now (before .entry)) (now (after .entry)) (now (flag .entry)) (now (rclass .entry)) (now (rwidth .entry)) n (now (left .entry)) (now (elem .entry)) (now (runs .entry)) (now (lruns .entry)) in ⌜ Told job (lists (now (rows .entry)) (now (told .entry)) (now (extents .entry))) (now (out .entry)) r (lists (now (rows .exit)) (now (told .exit)) (now (extents .exit))) (now (out .exit)) ⌝ }
 {
+    let l = n.lefts;
+    let l1 = 2048 + l;
+    let e = n.elements;
     let e1 = 1024 + e;
     let e2 = 2048 + e;
-    let lkind = [door::LEFT_NONE; 1024];
-    let eleft = [0; 1024];
+    let e3 = 3072 + e;
+    let e4 = 4096 + e;
+    let u = n.runs;
+    let v = n.lruns;
     tell_lists(
         em,
         measure,
+        ratios,
+        profile,
         class,
         width,
         before,
@@ -184,12 +209,15 @@ fn tell_elements(
         flag,
         rclass,
         rwidth,
+        &left[0..l],
+        &left[2048..l1],
         &elem[0..e],
         &elem[1024..e1],
         &elem[2048..e2],
-        &lkind[0..e],
-        &eleft[0..e],
+        &elem[3072..e3],
+        &elem[4096..e4],
         &runs[0..u],
+        &lruns[0..v],
         rows,
         told,
         extents,
@@ -203,15 +231,18 @@ fn tell_tables(
     set: &[u32],
     base: &[u32],
     ruby: &[u32],
+    left: &[u32],
     elem: &[u32],
     runs: &[u32],
+    lruns: &[u32],
     rows: &mut [u32],
     told: &mut [u32],
     extents: &mut [u32],
     out: &mut [u8],
 ) -> usize
-    requires { ⌜ TablesReady n (now set) (now base) (now ruby) (now elem) (now runs) (now out) × (longest ≤ length (now out)) ⌝ }
-    ensures { λ r. ⌜ Told (tablesJob n (now (set .entry)) (now (base .entry)) (now (ruby .entry)) (now (elem .entry)) (now (runs .entry))) (now (rows .entry)) (now (told .entry)) (now (extents .entry)) (now (out .entry)) r (now (rows .exit)) (now (told .exit)) (now (extents .exit)) (now (out .exit)) ⌝ }
+    requires { ⌜ TablesLong n (tables (now set) (now base) (now ruby) (now left) (now elem) (now runs) (now lruns)) ⌝ }
+    requires { ⌜ longest ≤ length (now out) ⌝ }
+    ensures { λ r. let job = tablesJob n (tables (now (set .entry)) (now (base .entry)) (now (ruby .entry)) (now (left .entry)) (now (elem .entry)) (now (runs .entry)) (now (lruns .entry))) in ⌜ Told job (lists (now (rows .entry)) (now (told .entry)) (now (extents .entry))) (now (out .entry)) r (lists (now (rows .exit)) (now (told .exit)) (now (extents .exit))) (now (out .exit)) ⌝ }
 {
     let b = n.bases;
     let b1 = 1024 + b;
@@ -223,6 +254,8 @@ fn tell_tables(
     tell_elements(
         set[0],
         set[1],
+        [[set[2], set[3], set[4]], [set[5], set[6], set[7]]],
+        set[8],
         &base[0..b],
         &base[1024..b1],
         &base[2048..b2],
@@ -230,10 +263,11 @@ fn tell_tables(
         &base[4096..b4],
         &ruby[0..r],
         &ruby[2048..r1],
-        n.elements,
+        n,
+        left,
         elem,
-        n.runs,
         runs,
+        lruns,
         rows,
         told,
         extents,
@@ -244,28 +278,32 @@ fn tell_tables(
 // The account of a sheet. The answer is how many bytes of `out` its text has.
 pub fn account_sheet(
     s: &[u8],
-    set: &mut [u32; 2],
+    set: &mut [u32; 9],
     base: &mut [u32; 5120],
     ruby: &mut [u32; 4096],
-    elem: &mut [u32; 3072],
+    left: &mut [u32; 4096],
+    elem: &mut [u32; 5120],
     runs: &mut [u32; 32768],
+    lruns: &mut [u32; 32768],
     rows: &mut [u32; 6144],
     told: &mut [u32; 1024],
     extents: &mut [u32; 1024],
     out: &mut [u8; 131072],
 ) -> usize
-    ensures { λ r. ⌜ Answered (now (s .entry)) (now (set .entry)) (now (base .entry)) (now (ruby .entry)) (now (elem .entry)) (now (runs .entry)) (now (rows .entry)) (now (told .entry)) (now (extents .entry)) (now (out .entry)) r (now (set .exit)) (now (base .exit)) (now (ruby .exit)) (now (elem .exit)) (now (runs .exit)) (now (rows .exit)) (now (told .exit)) (now (extents .exit)) (now (out .exit)) ⌝ }
+    ensures { λ r. ⌜ Answered (now (s .entry)) (tables (now (set .entry)) (now (base .entry)) (now (ruby .entry)) (now (left .entry)) (now (elem .entry)) (now (runs .entry)) (now (lruns .entry))) (lists (now (rows .entry)) (now (told .entry)) (now (extents .entry))) (now (out .entry)) r (tables (now (set .exit)) (now (base .exit)) (now (ruby .exit)) (now (left .exit)) (now (elem .exit)) (now (runs .exit)) (now (lruns .exit))) (lists (now (rows .exit)) (now (told .exit)) (now (extents .exit))) (now (out .exit)) ⌝ }
     ensures { λ r. ⌜ Fits r (now (out .exit)) ⌝ }
 {
-    match sheet::read_sheet(s, set, base, ruby, elem, runs) {
+    match sheet::read_sheet(s, set, base, ruby, left, elem, runs, lruns) {
         sheet::Reading::Refused(why) => result::write_refusal(why, out),
         sheet::Reading::Sound(n) => tell_tables(
             n,
             set,
             base,
             ruby,
+            left,
             elem,
             runs,
+            lruns,
             rows,
             told,
             extents,

@@ -5,11 +5,13 @@ use frames::Frame;
 fn account_front(
     got: u32,
     text: &[u8],
-    set: &mut [u32; 2],
+    set: &mut [u32; 9],
     base: &mut [u32; 5120],
     ruby: &mut [u32; 4096],
-    elem: &mut [u32; 3072],
+    left: &mut [u32; 4096],
+    elem: &mut [u32; 5120],
     runs: &mut [u32; 32768],
+    lruns: &mut [u32; 32768],
     rows: &mut [u32; 6144],
     told: &mut [u32; 1024],
     extents: &mut [u32; 1024],
@@ -21,8 +23,10 @@ fn account_front(
         set,
         base,
         ruby,
+        left,
         elem,
         runs,
+        lruns,
         rows,
         told,
         extents,
@@ -34,11 +38,13 @@ fn account_front(
 // One sheet; whether there was one.
 fn answer_one(
     text: &mut [u8; 65536],
-    set: &mut [u32; 2],
+    set: &mut [u32; 9],
     base: &mut [u32; 5120],
     ruby: &mut [u32; 4096],
-    elem: &mut [u32; 3072],
+    left: &mut [u32; 4096],
+    elem: &mut [u32; 5120],
     runs: &mut [u32; 32768],
+    lruns: &mut [u32; 32768],
     rows: &mut [u32; 6144],
     told: &mut [u32; 1024],
     extents: &mut [u32; 1024],
@@ -55,8 +61,10 @@ fn answer_one(
         set,
         base,
         ruby,
+        left,
         elem,
         runs,
+        lruns,
         rows,
         told,
         extents,
@@ -68,29 +76,33 @@ fn answer_one(
 
 fn main() {
     let mut text = [0; 65536];
-    let mut set = [0; 2];
+    let mut set = [0; 9];
     let mut base = [0; 5120];
     let mut ruby = [0; 4096];
-    let mut elem = [0; 3072];
+    let mut left = [0; 4096];
+    let mut elem = [0; 5120];
     let mut runs = [0; 32768];
+    let mut lruns = [0; 32768];
     let mut rows = [0; 6144];
     let mut told = [0; 1024];
     let mut extents = [0; 1024];
     let mut out = [0; 131072];
-    let mut left: u32 = 1000000;
-    while 0 < left {
+    let mut rest: u32 = 1000000;
+    while 0 < rest {
         let more = answer_one(
             &mut text,
             &mut set,
             &mut base,
             &mut ruby,
+            &mut left,
             &mut elem,
             &mut runs,
+            &mut lruns,
             &mut rows,
             &mut told,
             &mut extents,
             &mut out,
         );
-        left = if more { left - 1 } else { 0 };
+        rest = if more { rest - 1 } else { 0 };
     }
 }

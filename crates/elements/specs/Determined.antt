@@ -1,17 +1,27 @@
--- What `elements_at` leaves: its answer, the table of elements and that of runs. "Any two results meeting one contract are shown equal."
+-- What the functions of this crate leave: the answer, the table of elements, and those of runs and left runs. "Any two results meeting one contract are shown equal."
 use mathlib.Core.List.{List}
 use mathlib.Core.Path.{_≡_, _∙_, sym}
 use Prim.Native.Nat.{ℕ}
 use lib.Seq.{sets}
-use Rattle.rows.specs.declared.Part.{Part}
 use Rattle.rows.specs.Table.{laid}
+use Rattle.elements.specs.declared.Line.{Line}
 use Rattle.elements.specs.declared.Elements.{Elements}
-use Rattle.elements.specs.Elements.{elements}
+use Rattle.elements.specs.Element.{Taken}
+use Rattle.elements.specs.Elements.{Listed}
 
-abbrev pub ElementsRead : List ℕ → Part → List ℕ → List ℕ → Elements → List ℕ → List ℕ → Type 0
-ElementsRead s head was wasRuns r now runs =
-    (r ≡ elements s head .end) × (now ≡ laid was 0 1024 (elements s head .rows)) × (runs ≡ sets wasRuns 0 (elements s head .runs))
+-- a line
+pub record LineRead (t : Taken) (used lused : ℕ) (wasRuns wasLeft : List ℕ) (r : Line) (runs lruns : List ℕ) : Type 0 where
+  pub line : r ≡ t .line
+  pub right : runs ≡ sets wasRuns used (t .runs)
+  pub left : lruns ≡ sets wasLeft lused (t .lruns)
 
-pub elements-determined : (s : List ℕ) (head : Part) (was wasRuns : List ℕ) {now now′ runs runs′ : List ℕ} {r r′ : Elements} →
-    ElementsRead s head was wasRuns r now runs → ElementsRead s head was wasRuns r′ now′ runs′ → (r ≡ r′) × (now ≡ now′) × (runs ≡ runs′)
-elements-determined s head was wasRuns x y = (x .0 ∙ sym (y .0), x .1 ∙ sym (y .1), x .2 ∙ sym (y .2))
+-- the lines of the section
+pub record ListRead (t : Listed) (was wasRuns wasLeft : List ℕ) (r : Elements) (table runs lruns : List ℕ) : Type 0 where
+  pub end : r ≡ t .end
+  pub rows : table ≡ laid was 0 1024 (t .rows)
+  pub right : runs ≡ sets wasRuns 0 (t .runs)
+  pub left : lruns ≡ sets wasLeft 0 (t .lruns)
+
+pub list-determined : {t : Listed} {was wasRuns wasLeft table table′ runs runs′ lruns lruns′ : List ℕ} {r r′ : Elements} →
+    ListRead t was wasRuns wasLeft r table runs lruns → ListRead t was wasRuns wasLeft r′ table′ runs′ lruns′ → (r ≡ r′) × (table ≡ table′) × (runs ≡ runs′) × (lruns ≡ lruns′)
+list-determined x y = (x .end ∙ sym (y .end), x .rows ∙ sym (y .rows), x .right ∙ sym (y .right), x .left ∙ sym (y .left))

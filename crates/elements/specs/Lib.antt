@@ -1,10 +1,9 @@
 pub mod Element
 pub mod Elements
 pub mod Ready
-pub mod Runs
-pub mod Reading
-pub mod Whole
 pub mod Print
 pub mod Printed
 pub mod Breaks
+pub mod Reading
+pub mod Steps
 pub mod Determined

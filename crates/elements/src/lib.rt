@@ -1,37 +1,46 @@
-// The section `elem` (document 01, "The job sheet"): its lines to a table of kinds and counts, column by column as `rows` has them, and the runs of all J elements, one
-// after the other, to a table of their own. Counts that a kind does not show on the sheet stand as 0. It relies on `text` for numbers and words, on `rows` for the
-// line that begins the section and for numbers stored, and on `refusal`.
+// The section `elem` (document 01, "The job sheet"; form two: document 02, R-6): its lines to a table of kinds and counts, column by column as `rows` has them; the runs of all J elements, one
+// after the other, to a table of their own, and the left runs to another. What a line does not show stands as 0, and a left kind as N. It relies on `text` for numbers and words, on `rows` for
+// the line that begins the section and for numbers stored, and on `refusal`.
 ghost use mathlib.Core.Path.{_≡_};
 ghost use lib.Seq.{sets};
-ghost use Rattle.rows.specs.Table.{strided, laid};
-ghost use Rattle.elements.specs.Element.{plain, mono, group, either, short, jukugo, element, rowOf};
-ghost use Rattle.elements.specs.Elements.{lines};
-ghost use Rattle.elements.specs.Determined.{ElementsRead};
-ghost use Rattle.elements.specs.Ready.{RunsReady, PutReady, LinesReady, ElementsReady};
+ghost use Rattle.rows.specs.Table.{strided};
+ghost use Rattle.elements.specs.Element.{plainAt, monoAt, groupAt, jukugoAt, either, rightAt, byteAt, isCounted, isListed, countsOf, countedAt, listedAt, leftAt, stopBy, wordAt, element, rowOf};
+ghost use Rattle.elements.specs.Elements.{lines, elements};
+ghost use Rattle.elements.specs.Determined.{LineRead, ListRead};
+ghost use Rattle.elements.specs.Ready.{RunsReady, LineReady, PutReady, LinesReady, ElementsReady};
 
-// An element as its line has it: the kind's letter, its base and ruby counts, and how many runs its line holds.
+// The two forms of a sheet. In form two "each M, G and J line ends in a letter for the left kind (M, G, J; N for none) and its counts".
+pub enum SheetForm {
+    One,
+    Two,
+}
+
+// An element as its line has it: the kind's letter, its base and ruby counts, and how many runs its line holds; the left kind's letter, the left count, and how many left runs.
 pub struct Element {
     pub kind: u32,
     pub base: u32,
     pub ruby: u32,
     pub runs: usize,
+    pub left: u32,
+    pub count: u32,
+    pub lruns: usize,
 }
 
-// A line of the section: its element and the place past it.
+// A line of the section, or its part without the left kind: its element and the place past it.
 pub enum Line {
     Holds(Element, usize),
     Broken,
 }
 
-// How far the reading has come: the count of elements, the count of runs, the place past them and the number of the line there; or why the sheet is refused.
+// How far the reading has come: the counts of elements, runs and left runs, the place past them and the number of the line there; or why the sheet is refused.
 pub enum Elements {
-    Read(usize, usize, usize, u32),
+    Read(usize, usize, usize, usize, u32),
     Refused(refusal::Refusal),
 }
 
 // `P`.
 fn plain_at(s: &[u8], at: usize) -> Line
-    ensures { λ r. ⌜ r ≡ plain (now (s .entry)) at ⌝ }
+    ensures { λ r. ⌜ r ≡ plainAt (now (s .entry)) at ⌝ }
 {
     let text::Place::At(next) = text::read_word(s, at, b"P\n") else {
         return Line::Broken;
@@ -42,19 +51,22 @@ fn plain_at(s: &[u8], at: usize) -> Line
             base: 0,
             ruby: 0,
             runs: 0,
+            left: 78,
+            count: 0,
+            lruns: 0,
         },
         next,
     )
 }
 
-// `M r`.
-fn mono_at(s: &[u8], at: usize) -> Line
-    ensures { λ r. ⌜ r ≡ mono (now (s .entry)) at ⌝ }
+// `M r`, ended by the byte `stop`.
+fn mono_at(s: &[u8], at: usize, stop: u8) -> Line
+    ensures { λ r. ⌜ r ≡ monoAt stop (now (s .entry)) at ⌝ }
 {
     let text::Place::At(p) = text::read_word(s, at, b"M ") else {
         return Line::Broken;
     };
-    let text::Number::Is(r, next) = text::read_number(s, p, 10) else {
+    let text::Number::Is(r, next) = text::read_number(s, p, stop) else {
         return Line::Broken;
     };
     Line::Holds(
@@ -63,14 +75,17 @@ fn mono_at(s: &[u8], at: usize) -> Line
             base: 0,
             ruby: r,
             runs: 0,
+            left: 78,
+            count: 0,
+            lruns: 0,
         },
         next,
     )
 }
 
-// `G b r`.
-fn group_at(s: &[u8], at: usize) -> Line
-    ensures { λ r. ⌜ r ≡ group (now (s .entry)) at ⌝ }
+// `G b r`, ended by the byte `stop`.
+fn group_at(s: &[u8], at: usize, stop: u8) -> Line
+    ensures { λ r. ⌜ r ≡ groupAt stop (now (s .entry)) at ⌝ }
 {
     let text::Place::At(p) = text::read_word(s, at, b"G ") else {
         return Line::Broken;
@@ -78,7 +93,7 @@ fn group_at(s: &[u8], at: usize) -> Line
     let text::Number::Is(b, q) = text::read_number(s, p, 32) else {
         return Line::Broken;
     };
-    let text::Number::Is(r, next) = text::read_number(s, q, 10) else {
+    let text::Number::Is(r, next) = text::read_number(s, q, stop) else {
         return Line::Broken;
     };
     Line::Holds(
@@ -87,15 +102,18 @@ fn group_at(s: &[u8], at: usize) -> Line
             base: b,
             ruby: r,
             runs: 0,
+            left: 78,
+            count: 0,
+            lruns: 0,
         },
         next,
     )
 }
 
-// `J b` and b run lengths, b from 1 to 32; they go to `runs` from `used` on.
-fn jukugo_at(s: &[u8], at: usize, runs: &mut [u32], used: usize) -> Line
-    requires { ⌜ RunsReady used (now runs) ⌝ }
-    ensures { λ r. ⌜ (r ≡ jukugo (now (s .entry)) at .line) × (now (runs .exit) ≡ sets (now (runs .entry)) used (jukugo (now (s .entry)) at .runs)) ⌝ }
+// `J b` and b run lengths, b from 1 to 32, the last ended by the byte `stop`; they go to `runs` from `used` on.
+fn jukugo_at(s: &[u8], at: usize, stop: u8, runs: &mut [u32], used: usize) -> Line
+    requires { ⌜ RunsReady (now s) at used (now runs) ⌝ }
+    ensures { λ r. ⌜ (r ≡ jukugoAt stop (now (s .entry)) at .line) × (now (runs .exit) ≡ sets (now (runs .entry)) used (jukugoAt stop (now (s .entry)) at .runs)) ⌝ }
 {
     let text::Place::At(p) = text::read_word(s, at, b"J ") else {
         return Line::Broken;
@@ -110,7 +128,7 @@ fn jukugo_at(s: &[u8], at: usize, runs: &mut [u32], used: usize) -> Line
         return Line::Broken;
     }
     let n = b as usize;
-    let text::Place::At(next) = rows::fields_at(s, q, n, runs, used, 1) else {
+    let text::Place::At(next) = rows::fields_at(s, q, stop, n, runs, used, 1) else {
         return Line::Broken;
     };
     Line::Holds(
@@ -119,6 +137,9 @@ fn jukugo_at(s: &[u8], at: usize, runs: &mut [u32], used: usize) -> Line
             base: b,
             ruby: 0,
             runs: n,
+            left: 78,
+            count: 0,
+            lruns: 0,
         },
         next,
     )
@@ -134,72 +155,233 @@ fn either_of(a: Line, b: Line) -> Line
     }
 }
 
-// The kinds without runs.
-fn short_at(s: &[u8], at: usize) -> Line
-    ensures { λ r. ⌜ r ≡ short (now (s .entry)) at ⌝ }
+// What an M, G or J line shows in both forms, ended by the byte `stop`; a J's runs go to `runs` from `used` on.
+fn right_at(s: &[u8], at: usize, stop: u8, runs: &mut [u32], used: usize) -> Line
+    requires { ⌜ RunsReady (now s) at used (now runs) ⌝ }
+    ensures { λ r. ⌜ (r ≡ rightAt stop (now (s .entry)) at .line) × (now (runs .exit) ≡ sets (now (runs .entry)) used (rightAt stop (now (s .entry)) at .runs)) ⌝ }
 {
-    either_of(plain_at(s, at), either_of(mono_at(s, at), group_at(s, at)))
-}
-
-// A line of the section; a J's runs go to `runs` from `used` on.
-fn element_at(s: &[u8], at: usize, runs: &mut [u32], used: usize) -> Line
-    requires { ⌜ RunsReady used (now runs) ⌝ }
-    ensures { λ r. ⌜ (r ≡ element (now (s .entry)) at .line) × (now (runs .exit) ≡ sets (now (runs .entry)) used (element (now (s .entry)) at .runs)) ⌝ }
-{
-    match short_at(s, at) {
+    match either_of(mono_at(s, at, stop), group_at(s, at, stop)) {
         Line::Holds(e, next) => Line::Holds(e, next),
-        Line::Broken => jukugo_at(s, at, runs, used),
+        Line::Broken => jukugo_at(s, at, stop, runs, used),
     }
 }
 
-// The three numbers of element i into the columns of the table.
+// The byte at a place, 0 past the end.
+fn byte_at(s: &[u8], at: usize) -> u8
+    ensures { λ r. ⌜ r ≡ byteAt (now (s .entry)) at ⌝ }
+{
+    if s.len() <= at { 0 } else { s[at] }
+}
+
+// Whether the left kind's one count is the element's left count: G's, and M's on M.
+fn is_counted(kind: u32, letter: u8) -> bool
+    ensures { λ r. ⌜ r ≡ isCounted kind letter ⌝ }
+{
+    if letter == 71 {
+        return true;
+    }
+    if letter == 77 { kind == 77 } else { false }
+}
+
+// Whether its counts are left runs: those of M and J elsewhere; N has none.
+fn is_listed(letter: u8) -> bool
+    ensures { λ r. ⌜ r ≡ isListed letter ⌝ }
+{
+    if letter == 78 {
+        return true;
+    }
+    if letter == 77 { true } else { letter == 74 }
+}
+
+// How many counts follow the letter then: none after N, else one for each base character of the element.
+fn counts_of(kind: u32, base: u32, letter: u8) -> usize
+    ensures { λ r. ⌜ r ≡ countsOf kind base letter ⌝ }
+{
+    if letter == 78 {
+        return 0;
+    }
+    if kind == 77 { 1 } else { base as usize }
+}
+
+// The left kind and its one count, the element's left count.
+fn counted_at(s: &[u8], e: Element, at: usize, letter: u8) -> Line
+    ensures { λ r. ⌜ r ≡ countedAt letter e (now (s .entry)) at ⌝ }
+{
+    let text::Place::At(p) = text::read_word(s, at, &[letter, 32]) else {
+        return Line::Broken;
+    };
+    let text::Number::Is(n, next) = text::read_number(s, p, 10) else {
+        return Line::Broken;
+    };
+    Line::Holds(
+        Element {
+            kind: e.kind,
+            base: e.base,
+            ruby: e.ruby,
+            runs: e.runs,
+            left: letter as u32,
+            count: n,
+            lruns: 0,
+        },
+        next,
+    )
+}
+
+// The left kind and its counts, which go to `lruns` from `used` on.
+fn listed_at(s: &[u8], e: Element, at: usize, letter: u8, lruns: &mut [u32], used: usize) -> Line
+    requires { ⌜ RunsReady (now s) at used (now lruns) ⌝ }
+    ensures { λ r. ⌜ (r ≡ listedAt letter e (now (s .entry)) at .line) × (now (lruns .exit) ≡ sets (now (lruns .entry)) used (listedAt letter e (now (s .entry)) at .runs)) ⌝ }
+{
+    let n = counts_of(e.kind, e.base, letter);
+    let text::Place::At(p) = text::read_word(s, at, &[letter, rows::stop_of(10, n)]) else {
+        return Line::Broken;
+    };
+    let text::Place::At(next) = rows::fields_at(s, p, 10, n, lruns, used, 1) else {
+        return Line::Broken;
+    };
+    Line::Holds(
+        Element {
+            kind: e.kind,
+            base: e.base,
+            ruby: e.ruby,
+            runs: e.runs,
+            left: letter as u32,
+            count: 0,
+            lruns: n,
+        },
+        next,
+    )
+}
+
+// The end of a line of form two: the letter of the left kind and its counts, after what was read as e.
+fn left_at(s: &[u8], e: Element, at: usize, lruns: &mut [u32], used: usize) -> Line
+    requires { ⌜ RunsReady (now s) at used (now lruns) ⌝ }
+    ensures { λ r. ⌜ (r ≡ leftAt e (now (s .entry)) at .line) × (now (lruns .exit) ≡ sets (now (lruns .entry)) used (leftAt e (now (s .entry)) at .runs)) ⌝ }
+{
+    let letter = byte_at(s, at);
+    if is_counted(e.kind, letter) {
+        return counted_at(s, e, at, letter);
+    }
+    if is_listed(letter) {
+        return listed_at(s, e, at, letter, lruns, used);
+    }
+    Line::Broken
+}
+
+// The byte after what both forms show: LF in form one, in form two a space, and the left kind follows.
+fn stop_by(form: SheetForm) -> u8
+    ensures { λ r. ⌜ r ≡ stopBy form ⌝ }
+{
+    match form {
+        SheetForm::One => 10,
+        SheetForm::Two => 32,
+    }
+}
+
+// An M, G or J line whole; runs go to `runs` from `used` on, left runs to `lruns` from `lused` on.
+fn word_at(
+    s: &[u8],
+    form: SheetForm,
+    at: usize,
+    runs: &mut [u32],
+    used: usize,
+    lruns: &mut [u32],
+    lused: usize,
+) -> Line
+    requires { ⌜ LineReady (now s) at used lused (now runs) (now lruns) ⌝ }
+    ensures { λ r. ⌜ LineRead (wordAt form (now (s .entry)) at) used lused (now (runs .entry)) (now (lruns .entry)) r (now (runs .exit)) (now (lruns .exit)) ⌝ }
+{
+    let Line::Holds(e, next) = right_at(s, at, stop_by(form), runs, used) else {
+        return Line::Broken;
+    };
+    match form {
+        SheetForm::One => Line::Holds(e, next),
+        SheetForm::Two => left_at(s, e, next, lruns, lused),
+    }
+}
+
+// A line of the section.
+fn element_at(
+    s: &[u8],
+    form: SheetForm,
+    at: usize,
+    runs: &mut [u32],
+    used: usize,
+    lruns: &mut [u32],
+    lused: usize,
+) -> Line
+    requires { ⌜ LineReady (now s) at used lused (now runs) (now lruns) ⌝ }
+    ensures { λ r. ⌜ LineRead (element form (now (s .entry)) at) used lused (now (runs .entry)) (now (lruns .entry)) r (now (runs .exit)) (now (lruns .exit)) ⌝ }
+{
+    match plain_at(s, at) {
+        Line::Holds(e, next) => Line::Holds(e, next),
+        Line::Broken => word_at(s, form, at, runs, used, lruns, lused),
+    }
+}
+
+// The five numbers of element i into the columns of the table.
 fn put_element(e: Element, i: usize, table: &mut [u32])
     requires { ⌜ PutReady i (now table) ⌝ }
     ensures { λ _. ⌜ now (table .exit) ≡ strided (now (table .entry)) i 1024 (rowOf e) ⌝ }
 {
     let base = i + 1024;
     let ruby = base + 1024;
+    let left = ruby + 1024;
+    let count = left + 1024;
     table[i] = e.kind;
     table[base] = e.base;
     table[ruby] = e.ruby;
+    table[left] = e.left;
+    table[count] = e.count;
 }
 
 // n lines of the section, of which the first has the number `first`.
 fn lines_at(
     s: &[u8],
+    form: SheetForm,
     n: usize,
     from: usize,
     first: u32,
     table: &mut [u32],
     runs: &mut [u32],
+    lruns: &mut [u32],
 ) -> Elements
-    requires { ⌜ LinesReady n first (now table) (now runs) ⌝ }
-    ensures { λ r. ⌜ (r ≡ lines n n (now (s .entry)) from first 0 .end) × (now (table .exit) ≡ laid (now (table .entry)) 0 1024 (lines n n (now (s .entry)) from first 0 .rows)) × (now (runs .exit) ≡ sets (now (runs .entry)) 0 (lines n n (now (s .entry)) from first 0 .runs)) ⌝ }
+    requires { ⌜ LinesReady (now s) n first (now table) (now runs) (now lruns) ⌝ }
+    ensures { λ r. ⌜ ListRead (lines form n n (now (s .entry)) from first 0 0) (now (table .entry)) (now (runs .entry)) (now (lruns .entry)) r (now (table .exit)) (now (runs .exit)) (now (lruns .exit)) ⌝ }
 {
     let mut at = from;
     let mut line = first;
     let mut used: usize = 0;
+    let mut lused: usize = 0;
     let mut i: usize = 0;
     while i < n {
-        let Line::Holds(e, next) = element_at(s, at, runs, used) else {
+        let Line::Holds(e, next) = element_at(s, form, at, runs, used, lruns, lused) else {
             return Elements::Refused(refusal::Refusal::Form(line));
         };
         put_element(e, i, table);
         at = next;
         line += 1;
         used += e.runs;
+        lused += e.lruns;
         i += 1;
     }
-    Elements::Read(n, used, at, line)
+    Elements::Read(n, used, lused, at, line)
 }
 
-// The lines under the section's first line.
-pub fn elements_at(s: &[u8], head: rows::Part, table: &mut [u32], runs: &mut [u32]) -> Elements
-    requires { ⌜ ElementsReady head (now table) (now runs) ⌝ }
-    ensures { λ r. ⌜ ElementsRead (now (s .entry)) head (now (table .entry)) (now (runs .entry)) r (now (table .exit)) (now (runs .exit)) ⌝ }
+// The lines under the section's first line. A table holds a field of all elements 1,024 past the one before: kind, base count, ruby count, left kind, left count.
+pub fn elements_at(
+    s: &[u8],
+    form: SheetForm,
+    head: rows::Part,
+    table: &mut [u32],
+    runs: &mut [u32],
+    lruns: &mut [u32],
+) -> Elements
+    requires { ⌜ ElementsReady (now s) head (now table) (now runs) (now lruns) ⌝ }
+    ensures { λ r. ⌜ ListRead (elements form (now (s .entry)) head) (now (table .entry)) (now (runs .entry)) (now (lruns .entry)) r (now (table .exit)) (now (runs .exit)) (now (lruns .exit)) ⌝ }
 {
     match head {
         rows::Part::Refused(why) => Elements::Refused(why),
-        rows::Part::Read(n, from, first) => lines_at(s, n, from, first, table, runs),
+        rows::Part::Read(n, from, first) => lines_at(s, form, n, from, first, table, runs, lruns),
     }
 }

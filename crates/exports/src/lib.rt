@@ -98,23 +98,29 @@ pub extern "C" fn bv_set_sheet(sheet: &[u8], out: &mut [u8; 131072]) -> usize
     ensures { λ r. ⌜ Wrote (now (out .entry)) 0 (answerText (now (sheet .entry))) r (now (out .exit)) ⌝ }
     ensures { λ r. ⌜ Fits r (now (out .exit)) ⌝ }
 {
-    let mut set = [0; 2];
+    let mut set = [0; 9];
     let mut base = [0; 5120];
     let mut ruby = [0; 4096];
-    let mut elem = [0; 3072];
+    let mut left = [0; 4096];
+    let mut elem = [0; 5120];
     let mut runs = [0; 32768];
+    let mut lruns = [0; 32768];
     let mut bases = [0; 1024];
     let mut rubies = [0; 2048];
+    let mut lefts = [0; 2048];
     let mut lines = [0; 1024];
     setter::set_sheet(
         sheet,
         &mut set,
         &mut base,
         &mut ruby,
+        &mut left,
         &mut elem,
         &mut runs,
+        &mut lruns,
         &mut bases,
         &mut rubies,
+        &mut lefts,
         &mut lines,
         out,
     )
@@ -184,11 +190,13 @@ pub extern "C" fn bv_account_sheet(sheet: &[u8], out: &mut [u8; 131072]) -> usiz
     ensures { λ r. ⌜ Wrote (now (out .entry)) 0 (accountOfSheet (now (sheet .entry))) r (now (out .exit)) ⌝ }
     ensures { λ r. ⌜ Fits r (now (out .exit)) ⌝ }
 {
-    let mut set = [0; 2];
+    let mut set = [0; 9];
     let mut base = [0; 5120];
     let mut ruby = [0; 4096];
-    let mut elem = [0; 3072];
+    let mut left = [0; 4096];
+    let mut elem = [0; 5120];
     let mut runs = [0; 32768];
+    let mut lruns = [0; 32768];
     let mut rows = [0; 6144];
     let mut told = [0; 1024];
     let mut extents = [0; 1024];
@@ -197,8 +205,10 @@ pub extern "C" fn bv_account_sheet(sheet: &[u8], out: &mut [u8; 131072]) -> usiz
         &mut set,
         &mut base,
         &mut ruby,
+        &mut left,
         &mut elem,
         &mut runs,
+        &mut lruns,
         &mut rows,
         &mut told,
         &mut extents,

@@ -14,7 +14,7 @@ use lib.Dec.{ltb, eqb}
 use lib.ListN.{length, getD}
 use Rattle.basics.specs.Lists.{count, keep, each, All}
 use Rattle.refusal.specs.declared.Refusal.{Refusal}
-use Rattle.refusal.specs.declared.Refusal.the-variants.{Range, Ratio, Profile, Count, Short, Character, Blanks, Element, LeftKind, Supply, BlankInside, JukugoBase, Mixed, WesternOver, NoBreak, Form}
+use Rattle.refusal.specs.declared.Refusal.the-variants.{Range, Ratio, Profile, Count, Short, Character, Blanks, Element, LeftKind, Supply, BlankInside, JukugoBase, Mixed, WesternOver, NoBreak, Form, OtherForm}
 use Rattle.refusal.specs.Refusal.{placeOf}
 use Rattle.door.specs.declared.Piece.{Piece}
 use Rattle.door.specs.Job.{Job, baseCount, rubyCount, leftCount, elementCount, elements}
@@ -330,6 +330,7 @@ module _ (job : Job) (b r lefts l : ℕ) where
   listed (WesternOver p) h = in-element (WesternOver p) h
   listed (NoBreak p) h = in-lines p (h .0) (h .1)
   listed (Form p) h = absurd h
+  listed (OtherForm p) h = absurd h
 
 -- The head.
 

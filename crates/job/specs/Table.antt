@@ -9,7 +9,7 @@ use lib.Dec.{eqb}
 use lib.ListN.{getD}
 use Rattle.basics.specs.Lists.{any}
 use Rattle.refusal.specs.declared.Refusal.{Refusal}
-use Rattle.refusal.specs.declared.Refusal.the-variants.{Range, Ratio, Profile, Count, Short, Character, Blanks, Element, LeftKind, Supply, BlankInside, JukugoBase, Mixed, WesternOver, NoBreak, Form}
+use Rattle.refusal.specs.declared.Refusal.the-variants.{Range, Ratio, Profile, Count, Short, Character, Blanks, Element, LeftKind, Supply, BlankInside, JukugoBase, Mixed, WesternOver, NoBreak, Form, OtherForm}
 use Rattle.refusal.specs.Refusal.{numberOf, placeOf}
 use Rattle.word.specs.Answer.{blankInside, jukugoBase}
 use Rattle.word.specs.Answered.{mixedBoth, westernBoth}
@@ -54,9 +54,10 @@ Row job base ruby left lines (Mixed p) = Of job (λ x. mixedBoth (x .form) (give
 Row job base ruby left lines (WesternOver p) = Of job (λ x. westernBoth (x .form) (given job x) (glossOf job x)) p
 Row job base ruby left lines (NoBreak p) = Begins job p × (noBreak job p ≡ true)  -- "first base character of the line"
 Row job base ruby left lines (Form p) = ⊥  -- 13 is the sheet's own
+Row job base ruby left lines (OtherForm p) = ⊥  -- 17 is "given by the converter only"
 
 -- "Order: 1, 2 and 12, each by lowest place", 15 "checked after 1", 20 "checked after 15", 16 "after 5"; "then base characters and then ruby characters in turn, 3 before 4; then elements in turn, in the table's order
--- from 5; then leftover characters; then lines in turn": the numbers stage by stage, each stage's in the table's order. 13 is the sheet's own.
+-- from 5; then leftover characters; then lines in turn": the numbers stage by stage, each stage's in the table's order. 13 is the sheet's own, 17 the converter's.
 abbrev pub order : List (List ℕ)
 order =
     (1 ∷ [])

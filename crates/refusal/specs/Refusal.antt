@@ -5,7 +5,7 @@ use Prim.Native.Nat.{ℕ, _≤_}
 use native.Mathlib.Omega.{arith}
 use lib.Dec.{eqb}
 use Rattle.refusal.specs.declared.Refusal.{Refusal}
-use Rattle.refusal.specs.declared.Refusal.the-variants.{Range, Ratio, Profile, Count, Short, Character, Blanks, Element, LeftKind, Supply, BlankInside, JukugoBase, Mixed, WesternOver, NoBreak, Form}
+use Rattle.refusal.specs.declared.Refusal.the-variants.{Range, Ratio, Profile, Count, Short, Character, Blanks, Element, LeftKind, Supply, BlankInside, JukugoBase, Mixed, WesternOver, NoBreak, Form, OtherForm}
 
 abbrev pub numberOf : Refusal → ℕ
 numberOf (Range p) = 1
@@ -24,6 +24,7 @@ numberOf (Mixed p) = 9
 numberOf (WesternOver p) = 10
 numberOf (NoBreak p) = 11
 numberOf (Form p) = 13
+numberOf (OtherForm p) = 17
 
 -- 12 and 20 have the place 0
 abbrev pub placeOf : Refusal → ℕ
@@ -43,6 +44,7 @@ placeOf (Mixed p) = p
 placeOf (WesternOver p) = p
 placeOf (NoBreak p) = p
 placeOf (Form p) = p
+placeOf (OtherForm p) = p
 
 -- no number has more than two digits
 pub two-digits : (r : Refusal) → numberOf r ≤ 99
@@ -62,6 +64,7 @@ two-digits (Mixed p) = omega arith
 two-digits (WesternOver p) = omega arith
 two-digits (NoBreak p) = omega arith
 two-digits (Form p) = omega arith
+two-digits (OtherForm p) = omega arith
 
 -- The paper's number and place determine the case: `byPaper` finds it again.
 unfoldable pub byPaper : ℕ → ℕ → Refusal
@@ -80,7 +83,8 @@ byPaper n p =
     (cond (eqb n 9) (Mixed p)
     (cond (eqb n 10) (WesternOver p)
     (cond (eqb n 11) (NoBreak p)
-    (cond (eqb n 13) (Form p) Short))))))))))))))
+    (cond (eqb n 13) (Form p)
+    (cond (eqb n 17) (OtherForm p) Short)))))))))))))))
 
 back : (r : Refusal) → byPaper (numberOf r) (placeOf r) ≡ r
 unfolding byPaper
@@ -100,6 +104,7 @@ back (Mixed p) = refl
 back (WesternOver p) = refl
 back (NoBreak p) = refl
 back (Form p) = refl
+back (OtherForm p) = refl
 
 -- so a number gives its case
 pub of-number : (r : Refusal) (n : ℕ) → numberOf r ≡ n → r ≡ byPaper n (placeOf r)

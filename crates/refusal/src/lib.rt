@@ -37,6 +37,8 @@ pub enum Refusal {
     NoBreak(u32),
     // 13: job sheet text breaks its form; the line from 1, 0 if over-long.
     Form(u32),
+    // 17: a form two sheet that form one can't hold; the first line at fault. The converter's alone.
+    OtherForm(u32),
 }
 
 // The number that the refusal list gives it.
@@ -60,6 +62,7 @@ pub fn number(r: Refusal) -> u32
         Refusal::WesternOver(_) => 10,
         Refusal::NoBreak(_) => 11,
         Refusal::Form(_) => 13,
+        Refusal::OtherForm(_) => 17,
     }
 }
 
@@ -84,5 +87,6 @@ pub fn place(r: Refusal) -> u32
         Refusal::WesternOver(p) => p,
         Refusal::NoBreak(p) => p,
         Refusal::Form(p) => p,
+        Refusal::OtherForm(p) => p,
     }
 }

@@ -19,7 +19,7 @@ use Rattle.rows.specs.declared.Part.the-variants.{Read, Refused}
 use Rattle.rows.specs.Section.{onPlace, onPart, fields, Rows, lines, headOf, rowsOf, section}
 use Rattle.rows.specs.Whole.{fields-count}
 use Rattle.rows.specs.Print.{lineText, rowsText, Small, Counted}
-use Rattle.rows.specs.Printed.{LineStands, fields-stands, stands-fields, HeadIs, broken, over, within, head-is, head-back}
+use Rattle.rows.specs.Printed.{NumbersStand, fields-stands, stands-fields, HeadIs, broken, over, within, head-is, head-back}
 
 -- no line of k numbers stands at a place
 abbrev pub NoLine : ℕ → List ℕ → ℕ → Type 0
@@ -36,20 +36,20 @@ pub record RowsBreak (k left : ℕ) (s : List ℕ) (at line l : ℕ) : Type 0 wh
   pub none : NoLine k s next
   pub place : l ≡ line + length rows
 
-fields-none : (k : ℕ) (s : List ℕ) (at : ℕ) → fields k s at .end ≡ Off → NoLine k s at
+fields-none : (k : ℕ) (s : List ℕ) (at : ℕ) → fields 10 k s at .end ≡ Off → NoLine k s at
 fields-none k s at e r q c a x =
-    let f = rw c at (stands-fields r s at q a x) in
+    let f = rw c at (stands-fields 10 r s at q (omega arith) a x) in
     let g = ap (λ (t : _). t .end) f in
     let z : _≡_ {A = ℕ} 0 1 = cc in
     omega arith
 
-none-fields : (k : ℕ) (s : List ℕ) (at : ℕ) → NoLine k s at → (x : Place) → fields k s at .end ≡ x → x ≡ Off
+none-fields : (k : ℕ) (s : List ℕ) (at : ℕ) → NoLine k s at → (x : Place) → fields 10 k s at .end ≡ x → x ≡ Off
 none-fields k s at none (At q) e =
-    let f = fields-stands k s at q e in
-    absurd (none (fields k s at .values) q (fields-count k s at q e) (f .small) (f .text))
+    let f = fields-stands 10 k s at q e in
+    absurd (none (fields 10 k s at .values) q (fields-count 10 k s at q e) (f .small) (f .text))
 none-fields k s at none Off e = refl
 
-lines-stuck-more : (k left : ℕ) (s : List ℕ) (at line l : ℕ) (r : List ℕ) (x : Place) → ((p : ℕ) → x ≡ At p → (length r ≡ k) × LineStands s at r p) → (x ≡ Off → NoLine k s at) → (f : ℕ → Rows) →
+lines-stuck-more : (k left : ℕ) (s : List ℕ) (at line l : ℕ) (r : List ℕ) (x : Place) → ((p : ℕ) → x ≡ At p → (length r ≡ k) × NumbersStand 10 s at r p) → (x ≡ Off → NoLine k s at) → (f : ℕ → Rows) →
     ((p : ℕ) → f p .end ≡ Refused (Form l) → RowsBreak k left s p (line + 1) l) →
     onPlace {A = Rows} x (record { rows = r ∷ []; end = Refused (Form line) }) (λ p. record { rows = r ∷ f p .rows; end = f p .end }) .end ≡ Refused (Form l) →
     RowsBreak k (suc left) s at line l
@@ -75,7 +75,7 @@ pub lines-stuck : (k n left : ℕ) (s : List ℕ) (at line l : ℕ) → lines k 
 unfolding lines
 lines-stuck k n zero s at line l e = absurd (let z : _≡_ {A = ℕ} 0 1 = cc in omega arith)
 lines-stuck k n (suc left) s at line l e =
-    lines-stuck-more k left s at line l (fields k s at .values) (fields k s at .end) (λ p h. (fields-count k s at p h, fields-stands k s at p h)) (fields-none k s at)
+    lines-stuck-more k left s at line l (fields 10 k s at .values) (fields 10 k s at .end) (λ p h. (fields-count 10 k s at p h, fields-stands 10 k s at p h)) (fields-none k s at)
     (λ p. lines k n left s p (line + 1))
     (λ p. lines-stuck k n left s p (line + 1) l)
     e
@@ -86,11 +86,11 @@ unfolding lines rowsText onPlace
 stuck-rows k n zero rows s at line next h w a x none = absurd (omega arith)
 stuck-rows k n (suc left) [] s at line next h w a x none =
     let q : next ≡ at = x .past ∙ add-zero at in
-    let e = none-fields k s at (rw q at none) (fields k s at .end) refl in
+    let e = none-fields k s at (rw q at none) (fields 10 k s at .end) refl in
     rw (e, add-zero)
 stuck-rows k n (suc left) (r ∷ rows) s at line next h w a x none =
     let c = stands-cut (lineText r) (rowsText rows) x in
-    let f = rw (w .0) at (stands-fields r s at (c .mid) (a .0) (c .first)) in
+    let f = rw (w .0) at (stands-fields 10 r s at (c .mid) (omega arith) (a .0) (c .first)) in
     let t = stuck-rows k n left rows s (c .mid) (line + 1) next (le-of-suc-le-suc h) (w .1) (a .1) (c .second) none in
     let g : line + 1 + length rows ≡ line + suc (length rows) = omega arith in
     rw (f, ← g) t

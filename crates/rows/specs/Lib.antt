@@ -6,4 +6,5 @@ pub mod Whole
 pub mod Print
 pub mod Printed
 pub mod Breaks
+pub mod Chain
 pub mod Determined

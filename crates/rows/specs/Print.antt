@@ -8,12 +8,21 @@ use Rattle.text.specs.Text.{most}
 use Rattle.text.specs.Print.{bytes, decimal}
 use Rattle.text.specs.Stands.{Stands}
 
--- numbers on a line: "Single spaces, decimal without leading zeros .., each line ended by LF"
-unfoldable pub lineText : List ℕ → List ℕ
+-- numbers, each after a space: "Single spaces, decimal without leading zeros"
+unfoldable pub spaced : List ℕ → List ℕ
 unfolding decimal
-lineText [] = []
-lineText (v ∷ []) = decimal v ++ bytes "\n"
-lineText (v ∷ (w ∷ ws)) = decimal v ++ (bytes " " ++ lineText (w ∷ ws))
+spaced [] = []
+spaced (v ∷ vs) = bytes " " ++ (decimal v ++ spaced vs)
+
+-- numbers with single spaces, ended by the byte `last`
+unfoldable pub numbersText : ℕ → List ℕ → List ℕ
+unfolding decimal spaced
+numbersText last [] = []
+numbersText last (v ∷ vs) = decimal v ++ (spaced vs ++ (last ∷ []))
+
+-- a line of numbers: "each line ended by LF"
+abbrev pub lineText : List ℕ → List ℕ
+lineText vs = numbersText 10 vs
 
 -- a section's first line: its word, its count and LF
 unfoldable pub headText : List ℕ → ℕ → List ℕ
@@ -22,7 +31,7 @@ headText w n = w ++ (decimal n ++ bytes "\n")
 
 -- a line for each row
 unfoldable pub rowsText : List (List ℕ) → List ℕ
-unfolding lineText
+unfolding numbersText
 rowsText rows = each lineText rows
 
 -- "Sections .., each after its count"

@@ -1,14 +1,14 @@
 -- Theorems: a section is read exactly where its text stands (`section-is`, `stands-section`), its numbers are those that were read, and its count is refused exactly where a count over
 -- the maximum stands (`over-section`). Generic in the word, in k and in the maximum.
 use mathlib.Core.Bool.{Bool, true, false, cond}
-use mathlib.Core.List.{List, [], _∷_, _++_, map, append-nil, append-assoc}
+use mathlib.Core.List.{List, [], _∷_, _++_, map, append-assoc}
 use mathlib.Core.Path.{_≡_, refl, _∙_, ap, ap₂, sym}
-use Prim.Native.Nat.{ℕ, zero, suc, _+_, _≤_, _<_}
+use Prim.Native.Nat.{ℕ, zero, suc, _+_, _*_, _≤_, _<_}
 use native.Mathlib.Nat.{add-zero}
 use native.Mathlib.Omega.{arith}
 use borrow.Author.Tests.{ltb-true, ltb-false, lt-ltb, le-ltb}
 use lib.Dec.{eqb, ltb, eqb·suc-zero}
-use lib.ListN.{length, drop}
+use lib.ListN.{length, drop, length-append}
 use Rattle.basics.specs.Lists.{All}
 use Rattle.refusal.specs.declared.Refusal.{Refusal}
 use Rattle.refusal.specs.declared.Refusal.the-variants.{Form, Count}
@@ -18,13 +18,15 @@ use Rattle.text.specs.declared.Place.{Place}
 use Rattle.text.specs.declared.Place.the-variants.{At, Off}
 use Rattle.text.specs.Text.{most, number, word, stopOf}
 use Rattle.text.specs.Print.{decimal}
+use Rattle.text.specs.Written.{length-decimal}
+use Rattle.text.specs.Back.{wide}
 use Rattle.text.specs.Unique.{ended}
 use Rattle.text.specs.Stands.{Stands, stands-none, stands-then, stands-cut, number-stands, stands-number, word-stands, stands-word}
 use Rattle.rows.specs.declared.Part.{Part}
 use Rattle.rows.specs.declared.Part.the-variants.{Read, Refused}
 use Rattle.rows.specs.Section.{onNumber, onPlace, onPart, wordAt, numberAt, Fields, fields, Rows, lines, headOf, rowsOf, section}
 use Rattle.rows.specs.Whole.{fields-count, lines-whole}
-use Rattle.rows.specs.Print.{lineText, headText, rowsText, sectionText, Small, Kept, Counted}
+use Rattle.rows.specs.Print.{spaced, numbersText, lineText, headText, rowsText, sectionText, Small, Kept, Counted}
 
 -- What is read of a word or a number and then goes on: P holds of the whole if it holds where nothing is read, and wherever the word or the number stands.
 module _ {A : Type 0} (P : A → Type 0) (off : A) (none : P off) (s : List ℕ) (at : ℕ) where
@@ -44,53 +46,65 @@ module _ {A : Type 0} (P : A → Type 0) (off : A) (none : P off) (s : List ℕ)
   pub on-number : (stop : ℕ) (f : ℕ → ℕ → A) → ((v p : ℕ) → v ≤ most → Stands s at (ended v stop) p → P (f v p)) → P (onNumber (numberAt s stop at) off f)
   on-number stop f on = numbered stop f (number (drop at s) stop at) refl on
 
--- A line.
+-- Numbers, ended by the byte `last`.
 
-stop-small : (k : ℕ) → stopOf k < 48
-stop-small k = go (eqb k 0)
+stop-small : (last k : ℕ) → last < 48 → stopOf last k < 48
+stop-small last k h = go (eqb k 0)
   where
-    go : (b : Bool) → cond b 10 32 < 48
-    go true = omega arith
+    go : (b : Bool) → cond b last 32 < 48
+    go true = h
     go false = omega arith
 
+-- what k numbers follow: the byte after it, and the numbers
+pub spaced-numbers : (last : ℕ) (vs : List ℕ) → spaced vs ++ (last ∷ []) ≡ stopOf last (length vs) ∷ numbersText last vs
+unfolding spaced numbersText
+spaced-numbers last [] = refl
+spaced-numbers last (v ∷ vs) = rw (eqb·suc-zero (length vs)) (ap {B = List ℕ} (λ l. 32 ∷ l) (append-assoc (decimal v) (spaced vs) (last ∷ [])))
+
 -- a number, the byte after it, and the numbers after that
-pub line-cons : (v : ℕ) (vs : List ℕ) → lineText (v ∷ vs) ≡ ended v (stopOf (length vs)) ++ lineText vs
-unfolding lineText
-line-cons v [] = sym (append-nil (ended v 10))
-line-cons v (w ∷ ws) = rw (eqb·suc-zero (length ws)) (sym (append-assoc (decimal v) (32 ∷ []) (lineText (w ∷ ws))))
+pub numbers-cons : (last v : ℕ) (vs : List ℕ) → numbersText last (v ∷ vs) ≡ ended v (stopOf last (length vs)) ++ numbersText last vs
+unfolding numbersText
+numbers-cons last v vs = rw (spaced-numbers last vs) (sym (append-assoc (decimal v) (stopOf last (length vs) ∷ []) (numbersText last vs)))
 
-pub record LineStands (s : List ℕ) (at : ℕ) (values : List ℕ) (next : ℕ) : Type 0 where
+-- each takes two bytes at least
+pub spaced-long : (vs : List ℕ) → Small vs → 2 * length vs ≤ length (spaced vs)
+unfolding spaced
+spaced-long [] a = omega arith
+spaced-long (v ∷ vs) a = omega (arith, spaced-long vs (a .1), length-append (decimal v) (spaced vs), length-decimal v, wide v (a .0) .some)
+
+pub record NumbersStand (last : ℕ) (s : List ℕ) (at : ℕ) (values : List ℕ) (next : ℕ) : Type 0 where
   pub small : Small values
-  pub text : Stands s at (lineText values) next
+  pub text : Stands s at (numbersText last values) next
 
-fields-more : (k : ℕ) (s : List ℕ) (at next : ℕ) (x : Number) → number (drop at s) (stopOf k) at ≡ x → (f : ℕ → Fields) → ((p : ℕ) → f p .end ≡ At next → length (f p .values) ≡ k) →
-    ((p : ℕ) → f p .end ≡ At next → LineStands s p (f p .values) next) →
+fields-more : (last k : ℕ) (s : List ℕ) (at next : ℕ) (x : Number) → number (drop at s) (stopOf last k) at ≡ x → (f : ℕ → Fields) → ((p : ℕ) → f p .end ≡ At next → length (f p .values) ≡ k) →
+    ((p : ℕ) → f p .end ≡ At next → NumbersStand last s p (f p .values) next) →
     let g = onNumber {A = Fields} x (record { values = []; end = Off }) (λ v p. record { values = v ∷ f p .values; end = f p .end }) in
-    g .end ≡ At next → LineStands s at (g .values) next
+    g .end ≡ At next → NumbersStand last s at (g .values) next
 unfolding onNumber
-fields-more k s at next (Is v p) h f count on e =
-    let o = number-stands s at v (stopOf k) p h in
+fields-more last k s at next (Is v p) h f count on e =
+    let o = number-stands s at v (stopOf last k) p h in
     let t = on p e in
-    record { small = (o .0, t .small); text = rw (line-cons v (f p .values), count p e) (stands-then (o .1) (t .text)) }
-fields-more k s at next Fault h f count on e = absurd (let z : _≡_ {A = ℕ} 0 1 = cc in omega arith)
+    record { small = (o .0, t .small); text = rw (numbers-cons last v (f p .values), count p e) (stands-then (o .1) (t .text)) }
+fields-more last k s at next Fault h f count on e = absurd (let z : _≡_ {A = ℕ} 0 1 = cc in omega arith)
 
--- a line that was read is the line of its numbers
-pub fields-stands : (k : ℕ) (s : List ℕ) (at next : ℕ) → fields k s at .end ≡ At next → LineStands s at (fields k s at .values) next
-unfolding fields lineText
-fields-stands zero s at next e =
+-- numbers that were read stand there
+pub fields-stands : (last k : ℕ) (s : List ℕ) (at next : ℕ) → fields last k s at .end ≡ At next → NumbersStand last s at (fields last k s at .values) next
+unfolding fields numbersText
+fields-stands last zero s at next e =
     let f : at ≡ next = cc in
     record { small = tt; text = rw (← f) (stands-none s at) }
-fields-stands (suc k) s at next e =
-    fields-more k s at next (number (drop at s) (stopOf k) at) refl (λ p. fields k s p) (λ p. fields-count k s p next) (λ p. fields-stands k s p next) e
+fields-stands last (suc k) s at next e =
+    fields-more last k s at next (number (drop at s) (stopOf last k) at) refl (λ p. fields last k s p) (λ p. fields-count last k s p next) (λ p. fields-stands last k s p next) e
 
--- and the line of some numbers is read as them
-pub stands-fields : (vs s : List ℕ) (at next : ℕ) → Small vs → Stands s at (lineText vs) next → fields (length vs) s at ≡ record { values = vs; end = At next }
-unfolding fields lineText onNumber
-stands-fields [] s at next a x = ap (λ q. record { values = []; end = At q }) (sym (x .past ∙ add-zero at))
-stands-fields (v ∷ vs) s at next a x =
-    let c = stands-cut (ended v (stopOf (length vs))) (lineText vs) (rw (line-cons v vs) at x) in
-    let n = stands-number s at v (stopOf (length vs)) (c .mid) (stop-small (length vs)) (a .0) (c .first) in
-    let r = stands-fields vs s (c .mid) next (a .1) (c .second) in
+-- and numbers that stand there are read
+pub stands-fields : (last : ℕ) (vs s : List ℕ) (at next : ℕ) → last < 48 → Small vs → Stands s at (numbersText last vs) next →
+    fields last (length vs) s at ≡ record { values = vs; end = At next }
+unfolding fields numbersText onNumber
+stands-fields last [] s at next h a x = ap (λ q. record { values = []; end = At q }) (sym (x .past ∙ add-zero at))
+stands-fields last (v ∷ vs) s at next h a x =
+    let c = stands-cut (ended v (stopOf last (length vs))) (numbersText last vs) (rw (numbers-cons last v vs) at x) in
+    let n = stands-number s at v (stopOf last (length vs)) (c .mid) (stop-small last (length vs) h) (a .0) (c .first) in
+    let r = stands-fields last vs s (c .mid) next h (a .1) (c .second) in
     rw (n, r)
 
 -- The lines of a section.
@@ -99,7 +113,7 @@ pub record RowsStand (s : List ℕ) (at : ℕ) (rows : List (List ℕ)) (next : 
   pub small : All Small rows
   pub text : Stands s at (rowsText rows) next
 
-lines-more : (s : List ℕ) (at : ℕ) (r : List ℕ) (x : Place) → ((p : ℕ) → x ≡ At p → LineStands s at r p) → (f : ℕ → Rows) (broken : Rows) (q : Refusal) → broken .end ≡ Refused q → (m next l : ℕ) →
+lines-more : (s : List ℕ) (at : ℕ) (r : List ℕ) (x : Place) → ((p : ℕ) → x ≡ At p → NumbersStand 10 s at r p) → (f : ℕ → Rows) (broken : Rows) (q : Refusal) → broken .end ≡ Refused q → (m next l : ℕ) →
     ((p : ℕ) → f p .end ≡ Read m next l → RowsStand s p (f p .rows) next) →
     let g = onPlace x broken (λ p. record { rows = r ∷ f p .rows; end = f p .end }) in
     g .end ≡ Read m next l → RowsStand s at (g .rows) next
@@ -117,8 +131,8 @@ lines-stands k n zero s at line m next l e =
     let f : at ≡ next = cc in
     record { small = tt; text = rw (← f) (stands-none s at) }
 lines-stands k n (suc left) s at line m next l e =
-    lines-more s at (fields k s at .values) (fields k s at .end) (λ p. fields-stands k s at p) (λ p. lines k n left s p (line + 1))
-    (record { rows = fields k s at .values ∷ []; end = Refused (Form line) })
+    lines-more s at (fields 10 k s at .values) (fields 10 k s at .end) (λ p. fields-stands 10 k s at p) (λ p. lines k n left s p (line + 1))
+    (record { rows = fields 10 k s at .values ∷ []; end = Refused (Form line) })
     (Form line)
     refl
     m
@@ -134,7 +148,7 @@ unfolding lines rowsText onPlace
 stands-lines k n [] s at line next w a x = ap₂ (λ q l. record { rows = []; end = Read n q l }) (sym (x .past ∙ add-zero at)) (sym (add-zero line))
 stands-lines k n (r ∷ rows) s at line next w a x =
     let c = stands-cut (lineText r) (rowsText rows) x in
-    let f = rw (w .0) at (stands-fields r s at (c .mid) (a .0) (c .first)) in
+    let f = rw (w .0) at (stands-fields 10 r s at (c .mid) (omega arith) (a .0) (c .first)) in
     let t = stands-lines k n rows s (c .mid) (line + 1) next (w .1) (a .1) (c .second) in
     let g : line + 1 + length rows ≡ line + suc (length rows) = omega arith in
     rw (f, t, g)
@@ -214,7 +228,7 @@ lines-form : (k n left : ℕ) (s : List ℕ) (at line : ℕ) (q : Refusal) → l
 unfolding lines
 lines-form k n zero s at line q e = absurd (let z : _≡_ {A = ℕ} 0 1 = cc in omega arith)
 lines-form k n (suc left) s at line q e =
-    lines-form-more line (fields k s at .values) (fields k s at .end) (λ p. lines k n left s p (line + 1)) q (λ p. lines-form k n left s p (line + 1) q) e
+    lines-form-more line (fields 10 k s at .values) (fields 10 k s at .end) (λ p. lines k n left s p (line + 1)) q (λ p. lines-form k n left s p (line + 1) q) e
 
 pub data RowsIs (k n : ℕ) (s : List ℕ) (at : ℕ) (t : Rows) : Type 0 where
   rows-broken : (l : ℕ) → t .end ≡ Refused (Form l) → RowsIs k n s at t

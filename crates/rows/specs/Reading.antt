@@ -1,9 +1,9 @@
 -- How the loops come along: what is left to read, stored after what was read, makes up the whole.
 use mathlib.Core.Bool.{Bool, true, false, cond}
 use mathlib.Core.List.{List, [], _∷_}
-use mathlib.Core.Path.{_≡_, refl, _∙_, ap}
+use mathlib.Core.Path.{_≡_, refl, _∙_, ap, sym}
 use Prim.Native.Nat.{ℕ, suc, _+_, _-_, _*_, _^_, _≤_, _<_}
-use native.Mathlib.Nat.{suc-mul, sub-zero}
+use native.Mathlib.Nat.{suc-mul, sub-zero, mul-le-mul-right}
 use native.Mathlib.Omega.{arith}
 use borrow.Author.Tests.{ltb-false}
 use lib.Dec.{ltb}
@@ -14,6 +14,7 @@ use Rattle.text.specs.declared.Number.the-variants.{Is, Fault}
 use Rattle.text.specs.declared.Place.{Place}
 use Rattle.text.specs.declared.Place.the-variants.{At, Off}
 use Rattle.text.specs.Text.{number, word, stopOf}
+use Rattle.text.specs.Stands.{number-past}
 use Rattle.rows.specs.declared.Part.{Part}
 use Rattle.rows.specs.declared.Part.the-variants.{Read, Refused}
 use Rattle.rows.specs.Section.{onNumber, onPlace, onPart, fields, lines, headOf, rowsOf, countOf, lineOf}
@@ -21,17 +22,17 @@ use Rattle.rows.specs.Table.{strided, laid, length-strided, FieldsReady,
 
 -- A line: `left` of its k numbers are still to be read.
 
-pub record FieldsLeft (s : List ℕ) (from k : ℕ) (was : List ℕ) (to step : ℕ) (out : List ℕ) (at p left : ℕ) : Type 0 where
-  pub room : p + left * step < length out + step
+pub record FieldsLeft (s : List ℕ) (from last k : ℕ) (was : List ℕ) (to step : ℕ) (out : List ℕ) (at p left : ℕ) : Type 0 where
+  pub room : (j : ℕ) → j ≤ left → at + 2 * j ≤ length s → p + j * step < length out + step
   pub long : length out ≡ length was
-  pub end : fields left s at .end ≡ fields k s from .end
-  pub stored : strided out p step (fields left s at .values) ≡ strided was to step (fields k s from .values)
+  pub end : fields last left s at .end ≡ fields last k s from .end
+  pub stored : strided out p step (fields last left s at .values) ≡ strided was to step (fields last k s from .values)
 
-pub fields-first : {k to step : ℕ} {out : List ℕ} (s : List ℕ) (from : ℕ) → FieldsReady k to step out → FieldsLeft s from k out to step out from to k
-fields-first s from ready = record { room = ready .room; long = refl; end = refl; stored = refl }
+pub fields-first : {s : List ℕ} {from k to step : ℕ} {out : List ℕ} (last : ℕ) → FieldsReady s from k to step out → FieldsLeft s from last k out to step out from to k
+fields-first last ready = record { room = ready .room; long = refl; end = refl; stored = refl }
 
-module _ {s : List ℕ} {from k : ℕ} {was : List ℕ} {to step : ℕ} {out : List ℕ} {at p left : ℕ} (inv : FieldsLeft s from k was to step out at p left) where
-  pub fields-done : left ≤ 0 → (At at ≡ fields k s from .end) × (out ≡ strided was to step (fields k s from .values))
+module _ {s : List ℕ} {from last k : ℕ} {was : List ℕ} {to step : ℕ} {out : List ℕ} {at p left : ℕ} (inv : FieldsLeft s from last k was to step out at p left) where
+  pub fields-done : left ≤ 0 → (At at ≡ fields last k s from .end) × (out ≡ strided was to step (fields last k s from .values))
   unfolding fields strided
   fields-done h =
       let e : left ≡ 0 = omega arith in
@@ -41,29 +42,30 @@ module _ {s : List ℕ} {from k : ℕ} {was : List ℕ} {to step : ℕ} {out : L
     one-more : left ≡ suc (left - 1)
     one-more = omega arith
 
-    product : left * step ≡ (left - 1) * step + step
-    product = ap (λ n. n * step) one-more ∙ suc-mul (left - 1) step
+    module _ (stop : ℕ) (stops : stop ≡ stopOf last (left - 1)) where
+      -- a number that was read has its place
+      pub place : (v next : ℕ) → Is v next ≡ number (drop at s) stop at → p < length out
+      place v next h =
+          let past = number-past s at v stop next (sym h) in
+          let fits : at + 2 * 1 ≤ length s = omega (arith, past .0, past .1) in
+          omega (arith, inv .room 1 (omega arith) fits)
 
-    pub place : p < length out
-    place = omega (arith, inv .room, product)
-
-    module _ (stop : ℕ) (stops : stop ≡ stopOf (left - 1)) where
-      step-fields : fields left s at ≡
+      step-fields : fields last left s at ≡
           onNumber (number (drop at s) stop at)
           (record { values = []; end = Off })
-          (λ v next. record { values = v ∷ fields (left - 1) s next .values; end = fields (left - 1) s next .end })
+          (λ v next. record { values = v ∷ fields last (left - 1) s next .values; end = fields last (left - 1) s next .end })
       unfolding fields
-      step-fields = ap (λ n. fields n s at) one-more ∙ rw stops
+      step-fields = ap (λ n. fields last n s at) one-more ∙ rw stops
 
-      pub fields-fault : Fault ≡ number (drop at s) stop at → (Off ≡ fields k s from .end) × (out ≡ strided was to step (fields k s from .values))
+      pub fields-fault : Fault ≡ number (drop at s) stop at → (Off ≡ fields last k s from .end) × (out ≡ strided was to step (fields last k s from .values))
       unfolding onNumber strided
       fields-fault h = (rw (step-fields, ← h) at (inv .end), rw (step-fields, ← h) at (inv .stored))
 
-      pub fields-next : (v next : ℕ) → Is v next ≡ number (drop at s) stop at → FieldsLeft s from k was to step (set out p v) next (p + step) (left - 1)
+      pub fields-next : (v next : ℕ) → Is v next ≡ number (drop at s) stop at → FieldsLeft s from last k was to step (set out p v) next (p + step) (left - 1)
       unfolding onNumber strided
       fields-next v next h =
           record {
-            room = omega (arith, length-set out p v, inv .room, product);
+            room = λ j few fits. omega (arith, length-set out p v, inv .room (suc j) (omega arith) (omega (arith, number-past s at v stop next (sym h) .0)), suc-mul j step);
             long = length-set out p v ∙ inv .long;
             end = rw (step-fields, ← h) at (inv .end);
             stored = rw (step-fields, ← h) at (inv .stored);
@@ -89,33 +91,37 @@ module _ {s : List ℕ} {k n from first most : ℕ} {was out : List ℕ} {at lin
       (rw e at (inv .end), rw e at (inv .stored))
 
   module _ (more : i < n) where
-    pub fields-ready : RowsReady k most (Read n from first) was → FieldsReady k i most out
-    fields-ready ready = record { room = omega (arith, ready .few, ready .room, inv .long); small = omega (arith, ready .small, inv .long) }
+    pub fields-ready : RowsReady k most (Read n from first) was → FieldsReady s at k i most out
+    fields-ready ready =
+        record {
+          room = λ j few fits. omega (arith, ready .few, ready .room, inv .long, mul-le-mul-right most few);
+          small = omega (arith, ready .small, inv .long);
+        }
 
     pub line-fits : RowsReady k most (Read n from first) was → line + 1 < 2 ^ 32
     line-fits ready = omega (arith, ready .lines, inv .counted)
 
     one-line : lines k n (n - i) s at line ≡
-        onPlace (fields k s at .end)
-        (record { rows = fields k s at .values ∷ []; end = Refused (Form line) })
-        (λ next. record { rows = fields k s at .values ∷ lines k n (n - (i + 1)) s next (line + 1) .rows; end = lines k n (n - (i + 1)) s next (line + 1) .end })
+        onPlace (fields 10 k s at .end)
+        (record { rows = fields 10 k s at .values ∷ []; end = Refused (Form line) })
+        (λ next. record { rows = fields 10 k s at .values ∷ lines k n (n - (i + 1)) s next (line + 1) .rows; end = lines k n (n - (i + 1)) s next (line + 1) .end })
     unfolding lines
     one-line =
         let e : n - i ≡ suc (n - (i + 1)) = omega arith in
         ap (λ m. lines k n m s at line) e
 
-    module _ (now : List ℕ) (put : now ≡ strided out i most (fields k s at .values)) where
-      pub rows-broken : Off ≡ fields k s at .end → (Refused (Form line) ≡ lines k n n s from first .end) × (now ≡ laid was 0 most (lines k n n s from first .rows))
+    module _ (now : List ℕ) (put : now ≡ strided out i most (fields 10 k s at .values)) where
+      pub rows-broken : Off ≡ fields 10 k s at .end → (Refused (Form line) ≡ lines k n n s from first .end) × (now ≡ laid was 0 most (lines k n n s from first .rows))
       unfolding onPlace laid
       rows-broken h = (rw (one-line, ← h) at (inv .end), put ∙ (rw (one-line, ← h) at (inv .stored)))
 
-      pub rows-next : (next : ℕ) → At next ≡ fields k s at .end → RowsLeft s k n from first most was now next (line + 1) (i + 1)
+      pub rows-next : (next : ℕ) → At next ≡ fields 10 k s at .end → RowsLeft s k n from first most was now next (line + 1) (i + 1)
       unfolding onPlace laid
       rows-next next h =
           record {
             within = omega arith;
             counted = omega (arith, inv .counted);
-            long = ap length put ∙ (length-strided out i most (fields k s at .values) ∙ inv .long);
+            long = ap length put ∙ (length-strided out i most (fields 10 k s at .values) ∙ inv .long);
             end = rw (one-line, ← h) at (inv .end);
             stored = rw put (rw (one-line, ← h) at (inv .stored));
           }

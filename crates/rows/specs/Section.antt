@@ -49,28 +49,28 @@ pub record Fields : Type 0 where
   pub values : List ℕ
   pub end : Place
 
--- k numbers: "Single spaces", "each line ended by LF"
-unfoldable pub fields : ℕ → List ℕ → ℕ → Fields
+-- k numbers with "single spaces", the last ended by the byte `last`
+unfoldable pub fields : ℕ → ℕ → List ℕ → ℕ → Fields
 unfolding onNumber number
-fields zero s at = record { values = []; end = At at }
-fields (suc k) s at =
-    onNumber (numberAt s (stopOf k) at)
+fields last zero s at = record { values = []; end = At at }
+fields last (suc k) s at =
+    onNumber (numberAt s (stopOf last k) at)
     (record { values = []; end = Off })
-    (λ v next. record { values = v ∷ fields k s next .values; end = fields k s next .end })
+    (λ v next. record { values = v ∷ fields last k s next .values; end = fields last k s next .end })
 
 -- The lines that were read, of a line with a fault what was read of it, and how the reading ended.
 pub record Rows : Type 0 where
   pub rows : List (List ℕ)
   pub end : Part
 
--- the lines of a section of n of which some are left, k numbers each: "the first fault met, 13 ..", with the number of its line
+-- the lines of a section of n of which some are left, k numbers each, "each line ended by LF": "the first fault met, 13 ..", with the number of its line
 unfoldable pub lines : ℕ → ℕ → ℕ → List ℕ → ℕ → ℕ → Rows
 unfolding onPlace fields
 lines k n zero s at line = record { rows = []; end = Read n at line }
 lines k n (suc left) s at line =
-    onPlace (fields k s at .end)
-    (record { rows = fields k s at .values ∷ []; end = Refused (Form line) })
-    (λ next. record { rows = fields k s at .values ∷ lines k n left s next (line + 1) .rows; end = lines k n left s next (line + 1) .end })
+    onPlace (fields 10 k s at .end)
+    (record { rows = fields 10 k s at .values ∷ []; end = Refused (Form line) })
+    (λ next. record { rows = fields 10 k s at .values ∷ lines k n left s next (line + 1) .rows; end = lines k n left s next (line + 1) .end })
 
 -- "Sections .. each after its count": the word, the count and LF. "Within a line form comes before count": 13 with the line, then 2 with the section's place.
 unfoldable pub headOf : List ℕ → ℕ → ℕ → List ℕ → Part → Part

@@ -1,8 +1,10 @@
 -- A table that holds lines column by column: number j of line i stands at i + j * step.
-use mathlib.Core.List.{List, [], _∷_, map}
-use mathlib.Core.Path.{_≡_, refl, _∙_, ap}
-use Prim.Native.Nat.{ℕ, _+_, _*_, _^_, _≤_, _<_}
+use mathlib.Core.List.{List, [], _∷_, _++_, map}
+use mathlib.Core.Path.{_≡_, refl, _∙_, ap, sym}
+use Prim.Native.Nat.{ℕ, suc, _+_, _*_, _^_, _≤_, _<_}
+use native.Mathlib.Nat.{add-zero}
 use native.Mathlib.Numerals.{add-one}
+use native.Mathlib.Omega.{arith}
 use lib.ListN.{length, set, getD, length-set}
 use lib.Seq.{sets}
 use Rattle.rows.specs.declared.Part.{Part}
@@ -22,9 +24,9 @@ laid t i step (r ∷ rows) = laid (strided t i step r) (i + 1) step rows
 abbrev pub column : ℕ → List (List ℕ) → List ℕ
 column j rows = map (λ (r : List ℕ). getD r j 0) rows
 
--- the table has a place for each of k numbers from `to` on
-pub record FieldsReady (k to step : ℕ) (out : List ℕ) : Type 0 where
-  pub room : to + k * step < length out + step
+-- the table has a place for each of k numbers from `to` on, as far as the sheet can hold them: a number takes two bytes at least
+pub record FieldsReady (s : List ℕ) (from k to step : ℕ) (out : List ℕ) : Type 0 where
+  pub room : (j : ℕ) → j ≤ k → from + 2 * j ≤ length s → to + j * step < length out + step
   pub small : length out + step < 2 ^ 64
 
 -- and for those of each line of a section
@@ -48,6 +50,15 @@ pub length-laid : (t : List ℕ) (i step : ℕ) (rows : List (List ℕ)) → len
 unfolding laid
 length-laid t i step [] = refl
 length-laid t i step (r ∷ rows) = length-laid (strided t i step r) (i + 1) step rows ∙ length-strided t i step r
+
+-- lines, and more lines after them
+pub laid-append : (t : List ℕ) (i step : ℕ) (xs ys : List (List ℕ)) → laid t i step (xs ++ ys) ≡ laid (laid t i step xs) (i + length xs) step ys
+unfolding laid
+laid-append t i step [] ys = ap (λ k. laid t k step ys) (sym (add-zero i))
+laid-append t i step (x ∷ xs) ys = laid-append (strided t i step x) (i + 1) step xs ys ∙ ap (λ k. laid (laid (strided t i step x) (i + 1) step xs) k step ys) (one-on i (length xs))
+  where
+    one-on : (i n : ℕ) → i + 1 + n ≡ i + suc n
+    one-on i n = omega arith
 
 -- numbers one after the other
 pub strided-one : (t : List ℕ) (at : ℕ) (vs : List ℕ) → strided t at 1 vs ≡ sets t at vs

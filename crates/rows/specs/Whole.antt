@@ -29,10 +29,10 @@ unfolding onNumber
 one-more k next (Is v p) f h e = ap suc (h p e)
 one-more k next Fault f h e = absurd (let z : _≡_ {A = ℕ} 0 1 = cc in omega arith)
 
-pub fields-count : (k : ℕ) (s : List ℕ) (at next : ℕ) → fields k s at .end ≡ At next → length (fields k s at .values) ≡ k
+pub fields-count : (last k : ℕ) (s : List ℕ) (at next : ℕ) → fields last k s at .end ≡ At next → length (fields last k s at .values) ≡ k
 unfolding fields
-fields-count zero s at next e = refl
-fields-count (suc k) s at next e = one-more k next (number (drop at s) (stopOf k) at) (λ p. fields k s p) (λ p. fields-count k s p next) e
+fields-count last zero s at next e = refl
+fields-count last (suc k) s at next e = one-more k next (number (drop at s) (stopOf last k) at) (λ p. fields last k s p) (λ p. fields-count last k s p next) e
 
 -- lines that were read to their end
 line-more : (k n left m next l : ℕ) (r : List ℕ) (x : Place) (f : ℕ → Rows) (broken : Rows) (q : Refusal) → broken .end ≡ Refused q → ((p : ℕ) → x ≡ At p → length r ≡ k) →
@@ -49,11 +49,11 @@ pub lines-whole : (k n left : ℕ) (s : List ℕ) (at line m next l : ℕ) → l
 unfolding lines
 lines-whole k n zero s at line m next l e = (cc, record { count = refl; wide = tt })
 lines-whole k n (suc left) s at line m next l e =
-    line-more k n left m next l (fields k s at .values) (fields k s at .end) (λ p. lines k n left s p (line + 1))
-    (record { rows = fields k s at .values ∷ []; end = Refused (Form line) })
+    line-more k n left m next l (fields 10 k s at .values) (fields 10 k s at .end) (λ p. lines k n left s p (line + 1))
+    (record { rows = fields 10 k s at .values ∷ []; end = Refused (Form line) })
     (Form line)
     refl
-    (λ p. fields-count k s at p)
+    (λ p. fields-count 10 k s at p)
     (λ p. lines-whole k n left s p (line + 1) m next l)
     e
 
@@ -68,8 +68,8 @@ lines-counted : (k n left : ℕ) (s : List ℕ) (at line : ℕ) → lineOf (line
 unfolding lines
 lines-counted k n zero s at line = omega arith
 lines-counted k n (suc left) s at line =
-    line-counted line left (fields k s at .values) (fields k s at .end) (λ p. lines k n left s p (line + 1))
-    (record { rows = fields k s at .values ∷ []; end = Refused (Form line) })
+    line-counted line left (fields 10 k s at .values) (fields 10 k s at .end) (λ p. lines k n left s p (line + 1))
+    (record { rows = fields 10 k s at .values ∷ []; end = Refused (Form line) })
     (Form line)
     refl
     (λ p. lines-counted k n left s p (line + 1))

@@ -14,31 +14,32 @@ pub enum Part {
     Refused(refusal::Refusal),
 }
 
-// The byte after a number that `left` more follow in its line.
-fn stop_of(left: usize) -> u8
-    ensures { λ r. ⌜ r ≡ stopOf left ⌝ }
+// The byte after what `left` more numbers follow: a space, or `last` after the last of them.
+pub fn stop_of(last: u8, left: usize) -> u8
+    ensures { λ r. ⌜ r ≡ stopOf last left ⌝ }
 {
-    if left == 0 { 10 } else { 32 }
+    if left == 0 { last } else { 32 }
 }
 
-// k numbers to the end of their line; the i-th goes to `to + i * step`.
+// k numbers, the last ended by the byte `last`; the i-th goes to `to + i * step`.
 pub fn fields_at(
     s: &[u8],
     from: usize,
+    last: u8,
     k: usize,
     out: &mut [u32],
     to: usize,
     step: usize,
 ) -> text::Place
-    requires { ⌜ FieldsReady k to step (now out) ⌝ }
-    ensures { λ r. ⌜ FieldsRead k (now (s .entry)) from to step (now (out .entry)) r (now (out .exit)) ⌝ }
+    requires { ⌜ FieldsReady (now s) from k to step (now out) ⌝ }
+    ensures { λ r. ⌜ FieldsRead last k (now (s .entry)) from to step (now (out .entry)) r (now (out .exit)) ⌝ }
 {
     let mut at = from;
     let mut p = to;
     let mut left = k;
     while 0 < left {
         left -= 1;
-        let text::Number::Is(v, next) = text::read_number(s, at, stop_of(left)) else {
+        let text::Number::Is(v, next) = text::read_number(s, at, stop_of(last, left)) else {
             return text::Place::Off;
         };
         out[p] = v;
@@ -60,7 +61,7 @@ pub fn rows_at(s: &[u8], head: Part, k: usize, most: usize, out: &mut [u32]) -> 
     let mut line = first;
     let mut i: usize = 0;
     while i < n {
-        let text::Place::At(next) = fields_at(s, at, k, out, i, most) else {
+        let text::Place::At(next) = fields_at(s, at, 10, k, out, i, most) else {
             return Part::Refused(refusal::Refusal::Form(line));
         };
         at = next;

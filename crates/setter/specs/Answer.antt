@@ -1,18 +1,16 @@
 -- The answer to a sheet (document 01, "The job sheet"), from its bytes alone, and what the lent tables and lists are afterwards.
-use mathlib.Core.List.{List, []}
+use mathlib.Core.List.{List}
 use mathlib.Core.Option.{Option, none, some}
 use mathlib.Core.Path.{_≡_}
 use Prim.Native.Nat.{ℕ, _+_, _-_, _≤_}
-use lib.ListN.{length, getD, take, drop, replicate}
-use lib.Seq.{sets}
+use lib.ListN.{length, getD, take, drop}
 use Rattle.text.specs.Print.{Wrote}
 use Rattle.refusal.specs.declared.Refusal.{Refusal}
-use Rattle.rows.specs.Table.{laid, column}
+use Rattle.rows.specs.Table.{column}
 use Rattle.sheet.specs.declared.Counts.{Counts}
 use Rattle.sheet.specs.declared.Reading.{Reading}
 use Rattle.sheet.specs.declared.Reading.the-variants.{Sound, Refused}
-use Rattle.sheet.specs.Sheet.{Sheet, reading, emOf, measureOf}
-use Rattle.spread.specs.Ratio.{usualLists}
+use Rattle.sheet.specs.Sheet.{Sheet, reading, emOf, measureOf, ratiosIn, ratiosOf, profileOf, Tables, Into}
 use Rattle.line.specs.declared.Side.the-variants.{Right, Left}
 use Rattle.door.specs.Job.{Job, jobOf}
 use Rattle.job.specs.Line.{ends, baseIn, readingIn, byLine}
@@ -37,15 +35,15 @@ unfoldable pub jobText : Job → ℕ → ℕ → ℕ → ℕ → List ℕ
 unfolding textBy fault
 jobText job base ruby left lines = textBy job (fault job base ruby left lines)
 
--- "`set 2` with em and measure ..; `base` (class, width, blank before, blank after, flag); `ruby` (class, width); `elem`": the job that a sheet holds; it has no ratios
--- and no profile, and means 1:2:1 and 0, and no left reading: each element's left kind is `N`, 78
+-- The job that a sheet holds, of either form: "`set 9` (form one's two numbers, the six ratio numbers, and one number for the profile ..)", "`base` (class, width, blank before, blank after, flag)",
+-- "`ruby` (class, width)", `left` the same, and of the elements kind, base count, ruby count, left kind and left count. What form one does not show the reading has put in.
 unfoldable pub sheetJob : Sheet → Job
 sheetJob t =
     jobOf
     (emOf t)
     (measureOf t)
-    usualLists
-    0
+    (ratiosOf t)
+    (profileOf t)
     (column 0 (t .base))
     (column 1 (t .base))
     (column 2 (t .base))
@@ -53,15 +51,15 @@ sheetJob t =
     (column 4 (t .base))
     (column 0 (t .ruby))
     (column 1 (t .ruby))
-    []
-    []
+    (column 0 (t .left))
+    (column 1 (t .left))
     (column 0 (t .elem))
     (column 1 (t .elem))
     (column 2 (t .elem))
-    (replicate (length (t .elem)) 78)
-    (replicate (length (t .elem)) 0)
+    (column 3 (t .elem))
+    (column 4 (t .elem))
     (t .runs)
-    []
+    (t .lruns)
 
 -- "The other checks follow a sound reading." The program's result lists have the maximum lengths.
 unfoldable pub answerBy : Sheet → Reading → List ℕ
@@ -74,80 +72,97 @@ unfoldable pub answerText : List ℕ → List ℕ
 unfolding answerBy reading
 answerText s = answerBy (reading s) (reading s .end)
 
--- no sheet has a left reading, so the list for their positions is not lent
-abbrev pub spare : List ℕ
-spare = replicate 2048 0
+-- The result lists: where base characters, ruby characters and left characters stand, and where lines end.
+pub record Lists : Type 0 where
+  pub base : List ℕ
+  pub ruby : List ℕ
+  pub left : List ℕ
+  pub lines : List ℕ
 
--- the result lists, where the reading is sound and where it is not
-unfoldable pub listsBy : Sheet → Reading → List ℕ → List ℕ → List ℕ → (List ℕ) × (List ℕ) × (List ℕ)
+abbrev pub lists : List ℕ → List ℕ → List ℕ → List ℕ → Lists
+lists base ruby left lines = record { base = base; ruby = ruby; left = left; lines = lines }
+
+-- as a job's outcome leaves them
+abbrev pub leaves : Job → Lists → Lists
+leaves job was = let o = outcome job (was .base) (was .ruby) (was .left) (was .lines) in lists (o .base) (o .ruby) (o .left) (o .lines)
+
+-- and as a sheet leaves them: moved only where the reading is sound
+unfoldable pub listsBy : Sheet → Reading → Lists → Lists
 unfolding sheetJob outcome
-listsBy t (Refused r) base ruby lines = (base, ruby, lines)
-listsBy t (Sound n) base ruby lines = let o = outcome (sheetJob t) base ruby spare lines in (o .base, o .ruby, o .lines)
+listsBy t (Refused r) was = was
+listsBy t (Sound n) was = leaves (sheetJob t) was
 
 -- A job is told: its lists are the outcome's, and its text stands at the front of `out`.
-pub record Told (job : Job) (base ruby left lines out : List ℕ) (r : ℕ) (newBase newRuby newLines newOut : List ℕ) : Type 0 where
-  pub bases : newBase ≡ outcome job base ruby left lines .base
-  pub rubies : newRuby ≡ outcome job base ruby left lines .ruby
-  pub ends : newLines ≡ outcome job base ruby left lines .lines
-  pub text : Wrote out 0 (jobText job (length base) (length ruby) (length left) (length lines)) r newOut
+pub record Told (job : Job) (was : Lists) (out : List ℕ) (r : ℕ) (now : Lists) (newOut : List ℕ) : Type 0 where
+  pub holds : now ≡ leaves job was
+  pub text : Wrote out 0 (jobText job (length (was .base)) (length (was .ruby)) (length (was .left)) (length (was .lines))) r newOut
   pub short : r ≤ longest
 
 -- the part of a table from a up to e
 abbrev pub part : ℕ → ℕ → List ℕ → List ℕ
 part a e t = take (e - a) (drop a t)
 
--- the job that the tables hold, each field a part of its table
-abbrev pub tablesJob : Counts → List ℕ → List ℕ → List ℕ → List ℕ → List ℕ → Job
-tablesJob n set base ruby elem runs =
-    jobOf
-    (getD set 0 0)
-    (getD set 1 0)
-    usualLists
-    0
-    (part 0 (n .bases) base)
-    (part 1024 (1024 + n .bases) base)
-    (part 2048 (2048 + n .bases) base)
-    (part 3072 (3072 + n .bases) base)
-    (part 4096 (4096 + n .bases) base)
-    (part 0 (n .rubies) ruby)
-    (part 2048 (2048 + n .rubies) ruby)
-    []
-    []
+-- The job that the tables hold, each field a part of its table: first its left characters, elements and runs, of a job whose other fields are given,
+abbrev pub elementsJob : ℕ → ℕ → List (List ℕ) → ℕ → List ℕ → List ℕ → List ℕ → List ℕ → List ℕ → List ℕ → List ℕ → Counts → List ℕ → List ℕ → List ℕ → List ℕ → Job
+elementsJob em measure ratios profile class width before after flag rubyClass rubyWidth n left elem runs lruns =
+    jobOf em measure ratios profile class width before after flag rubyClass rubyWidth
+    (part 0 (n .lefts) left)
+    (part 2048 (2048 + n .lefts) left)
     (part 0 (n .elements) elem)
     (part 1024 (1024 + n .elements) elem)
     (part 2048 (2048 + n .elements) elem)
-    (replicate (n .elements) 78)
-    (replicate (n .elements) 0)
+    (part 3072 (3072 + n .elements) elem)
+    (part 4096 (4096 + n .elements) elem)
     (part 0 (n .runs) runs)
-    []
+    (part 0 (n .lruns) lruns)
 
--- the tables are as long as that asks for, and there is room for the text
-pub record ElementsReady (e u : ℕ) (elem runs out : List ℕ) : Type 0 where
-  pub longElem : length elem ≡ 3072
+-- then all of it
+abbrev pub tablesJob : Counts → Tables → Job
+tablesJob n t =
+    elementsJob
+    (getD (t .set) 0 0)
+    (getD (t .set) 1 0)
+    (ratiosIn (t .set))
+    (getD (t .set) 8 0)
+    (part 0 (n .bases) (t .base))
+    (part 1024 (1024 + n .bases) (t .base))
+    (part 2048 (2048 + n .bases) (t .base))
+    (part 3072 (3072 + n .bases) (t .base))
+    (part 4096 (4096 + n .bases) (t .base))
+    (part 0 (n .rubies) (t .ruby))
+    (part 2048 (2048 + n .rubies) (t .ruby))
+    n
+    (t .left)
+    (t .elem)
+    (t .runs)
+    (t .lruns)
+
+-- the tables are as long as that asks for
+pub record ElementsLong (n : Counts) (left elem runs lruns : List ℕ) : Type 0 where
+  pub longLeft : length left ≡ 4096
+  pub longElem : length elem ≡ 5120
   pub longRuns : length runs ≡ 32768
-  pub elements : e ≤ 1024
-  pub few : u ≤ 32768
-  pub room : longest ≤ length out
+  pub longLruns : length lruns ≡ 32768
+  pub lefts : n .lefts ≤ 2048
+  pub elements : n .elements ≤ 1024
+  pub fewRuns : n .runs ≤ 32768
+  pub fewLruns : n .lruns ≤ 32768
 
-pub record TablesReady (n : Counts) (set base ruby elem runs out : List ℕ) : Type 0 where
-  pub two : length set ≡ 2
-  pub longBase : length base ≡ 5120
-  pub longRuby : length ruby ≡ 4096
+pub record TablesLong (n : Counts) (t : Tables) : Type 0 where
+  pub nine : length (t .set) ≡ 9
+  pub longBase : length (t .base) ≡ 5120
+  pub longRuby : length (t .ruby) ≡ 4096
   pub bases : n .bases ≤ 1024
   pub rubies : n .rubies ≤ 2048
-  pub rest : ElementsReady (n .elements) (n .runs) elem runs out
+  pub rest : ElementsLong n (t .left) (t .elem) (t .runs) (t .lruns)
 
 -- n bytes at the front of a list, for those who write them out
 abbrev pub Fits : ℕ → List ℕ → Type 0
 Fits n xs = (n ≤ length xs) × (n ≡ length (take n xs))
 
 -- A sheet is answered: the tables hold what was read, the result lists what the job's outcome leaves in them, and `out` begins with the answer.
-pub record Answered (s set base ruby elem runs bases rubies lines out : List ℕ) (r : ℕ) (newSet newBase newRuby newElem newRuns newBases newRubies newLines newOut : List ℕ) : Type 0 where
+pub record Answered (s : List ℕ) (was : Tables) (before : Lists) (out : List ℕ) (r : ℕ) (t : Tables) (now : Lists) (newOut : List ℕ) : Type 0 where
   pub text : Wrote out 0 (answerText s) r newOut
   pub short : r ≤ longest
-  pub lists : (newBases, newRubies, newLines) ≡ listsBy (reading s) (reading s .end) bases rubies lines
-  pub setHolds : newSet ≡ laid set 0 2 (reading s .set)
-  pub baseHolds : newBase ≡ laid base 0 1024 (reading s .base)
-  pub rubyHolds : newRuby ≡ laid ruby 0 2048 (reading s .ruby)
-  pub elemHolds : newElem ≡ laid elem 0 1024 (reading s .elem)
-  pub runsHold : newRuns ≡ sets runs 0 (reading s .runs)
+  pub holds : now ≡ listsBy (reading s) (reading s .end) before
+  pub read : Into s was (reading s .end) t

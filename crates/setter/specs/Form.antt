@@ -13,7 +13,7 @@ use Rattle.sheet.specs.declared.Reading.{Reading}
 use Rattle.sheet.specs.declared.Reading.the-variants.{Sound, Refused}
 use Rattle.sheet.specs.Sheet.{reading}
 use Rattle.sheet.specs.Form.{Over}
-use Rattle.sheet.specs.Place.{Breaks}
+use Rattle.sheet.specs.Breaks.{Breaks}
 use Rattle.line.specs.declared.Side.the-variants.{Right, Left}
 use Rattle.door.specs.Job.{Job}
 use Rattle.job.specs.Line.{ends, baseIn, readingIn, byLine}
@@ -52,7 +52,7 @@ module _ (s : List ℕ) where
   pub thirteen-written : (l : ℕ) → (answerText s ≡ bytes "refused 13 " ++ (decimal l ++ bytes "\n")) ↔ Breaks s l
   thirteen-written = thirteen-by s (answerText s) read gives
 
-  -- "2: a count over its maximum; 0 base, 1 ruby, 2 elements"
+  -- "2: a count over its maximum; 0 base, 1 ruby, 2 elements", of left characters "places 3 for the count"
   pub two-written : (which : ℕ) → (answerText s ≡ bytes "refused 2 " ++ (decimal which ++ bytes "\n")) ↔ Over s which
   two-written = two-by s (answerText s) read gives
 

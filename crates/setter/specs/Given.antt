@@ -6,7 +6,6 @@ use mathlib.Core.Logic.{_↔_}
 use mathlib.Core.Path.{_≡_, refl, _∙_, ap, sym, subst}
 use Prim.Native.Nat.{ℕ, _≤_}
 use native.Mathlib.Omega.{arith}
-use lib.ListN.{replicate, length-replicate}
 use Rattle.text.specs.Text.{most}
 use Rattle.text.specs.Print.{bytes, decimal}
 use Rattle.text.specs.Unique.{decimal-one}
@@ -17,12 +16,12 @@ use Rattle.sheet.specs.declared.Counts.{Counts}
 use Rattle.sheet.specs.declared.Reading.the-variants.{Sound, Refused}
 use Rattle.sheet.specs.Sheet.{reading}
 use Rattle.sheet.specs.Faults.{ours, thirteen-or-two}
-use Rattle.sheet.specs.Form.{Over, in-base, in-ruby, in-elem}
-use Rattle.sheet.specs.Exact.{two-exactly}
-use Rattle.sheet.specs.Place.{Breaks, place-exactly, place-most}
+use Rattle.sheet.specs.Form.{Over}
+use Rattle.sheet.specs.Breaks.{Breaks, place-most}
+use Rattle.sheet.specs.Exact.{two-exactly, place-exactly}
+use Rattle.sheet.specs.Place.{over-most}
 use Rattle.door.specs.Job.{Job}
-use Rattle.job.specs.Table.{Row, First}
-use Rattle.job.specs.Demands as demands
+use Rattle.job.specs.Table.{First}
 use Rattle.result.specs.Text.{lineTwo, refusalText}
 use Rattle.setter.specs.Answer.{sheetJob}
 use Rattle.setter.specs.Sheet.{no-count, no-short}
@@ -62,11 +61,6 @@ text-of : (r : Refusal) → refusalText r ≡ lineTwo (bytes "refused") (numberO
 unfolding refusalText
 text-of r = refl
 
-over-most : {s : List ℕ} {which : ℕ} → Over s which → which ≤ 2
-over-most (in-base em measure n rest short he hm h small e) = omega arith
-over-most (in-ruby em measure base n rest short he hm kept h small e) = omega arith
-over-most (in-elem em measure base ruby n rest short he hm kept kept-ruby h small e) = omega arith
-
 module _ (s : List ℕ) where
   abbrev job : Job
   job = sheetJob (reading s)
@@ -90,7 +84,7 @@ module _ (s : List ℕ) where
   twelve-given : (p : ℕ) → Given s 12 p → ⊥
   twelve-given p (by-sheet r n q e) = let g = not-read r Short (is-short r n) e in let z : _≡_ {A = ℕ} 0 1 = cc in omega arith
   twelve-given p (by-job c r n is first) =
-      no-short s c is 1024 2048 2048 1024 (omega arith) (omega arith) (omega arith) (subst (First job 1024 2048 2048 1024) (is-short r n) first .holds)
+      no-short s c is 1024 2048 2048 1024 (omega arith) (omega arith) (omega arith) (omega arith) (subst (First job 1024 2048 2048 1024) (is-short r n) first .holds)
 
   -- an answer that is the reading's refusal where there is one, and `refused N P` for no other cause
   module _ (answer : List ℕ) (read : (r : Refusal) → reading s .end ≡ Refused r → answer ≡ refusalText r)

@@ -4,6 +4,7 @@ pub mod Tell
 pub mod Printed
 pub mod Whole
 pub mod Determined
+pub mod One
 pub mod Sheet
 pub mod Given
 pub mod Form

@@ -13,11 +13,12 @@ use lib.ListN.{length, getD, length-map}
 use Rattle.refusal.specs.declared.Refusal.{Refusal}
 use Rattle.refusal.specs.declared.Refusal.the-variants.{Count, Short, Form}
 use Rattle.rows.specs.Table.{column}
+use Rattle.elements.specs.declared.SheetForm.{SheetForm}
 use Rattle.sheet.specs.declared.Counts.{Counts}
 use Rattle.sheet.specs.declared.Reading.the-variants.{Sound}
 use Rattle.sheet.specs.Sheet.{Sheet, reading}
 use Rattle.sheet.specs.Form.{Written, InForm, sheetText, sheetOf}
-use Rattle.sheet.specs.Exact.{sound-exactly}
+use Rattle.sheet.specs.Reads.{sheet-reads}
 use Rattle.sheet.specs.Sound.{sound}
 use Rattle.door.specs.Job.{Job, baseCount, rubyCount, leftCount, elementCount}
 use Rattle.job.specs.declared.Answer.the-variants.{Set, Refused}
@@ -29,9 +30,9 @@ use Rattle.setter.specs.Answer.{jobText, sheetJob, answerBy, answerText}
 use Rattle.setter.specs.Tell.{refused-text, set-text}
 
 -- what is written of the sheet of some numbers is the text of their job
-pub sheet-answered : (r : Written) → InForm r → answerText (sheetText r) ≡ jobText (sheetJob (sheetOf r)) 1024 2048 2048 1024
+pub sheet-answered : (f : SheetForm) (r : Written) → InForm f r → answerText (sheetText f r) ≡ jobText (sheetJob (sheetOf f r)) 1024 2048 2048 1024
 unfolding answerText answerBy sheetOf
-sheet-answered r form = ap (λ (t : Sheet). answerBy t (t .end)) (sound-exactly (sheetText r) r .1 (form, refl))
+sheet-answered f r form = ap (λ (t : Sheet). answerBy t (t .end)) (sheet-reads (sheetText f r) f r form refl)
 
 -- a column is as long as its section
 long : (j : ℕ) (rows : List (List ℕ)) → length (column j rows) ≡ length rows
@@ -54,9 +55,9 @@ module _ (s : List ℕ) (c : Counts) (is : reading s .end ≡ Sound c) where
   unfolding elementCount sheetJob
   elements-few = le-trans (min-le-left _ _) (omega (arith, long 0 (reading s .elem), sound s c is .elem .count, sound s c is .elem .few))
 
-  pub lefts-none : leftCount job ≡ 0
+  pub lefts-few : leftCount job ≤ 2048
   unfolding leftCount sheetJob
-  lefts-none = refl
+  lefts-few = le-trans (min-le-left _ _) (omega (arith, long 0 (reading s .left), sound s c is .left .count, sound s c is .left .few))
 
   -- so the refusal list gives it no 2, and no 12 where the result lists have the maximum lengths; 13 is the sheet's own
   module _ (base ruby left lines : ℕ) where
@@ -64,7 +65,7 @@ module _ (s : List ℕ) (c : Counts) (is : reading s .end ≡ Sound c) where
     no-count p (inl x) = omega (arith, x .1, bases-few)
     no-count p (inr (inl x)) = omega (arith, x .1, rubies-few)
     no-count p (inr (inr (inl x))) = omega (arith, x .1, elements-few)
-    no-count p (inr (inr (inr x))) = omega (arith, x .1, lefts-none)
+    no-count p (inr (inr (inr x))) = omega (arith, x .1, lefts-few)
 
     short-by : (n m k : ℕ) (a b c d : Bool) → n ≤ base → n ≤ lines → m ≤ ruby → k ≤ left → ltb base n ≡ a → ltb lines n ≡ b → ltb ruby m ≡ c → ltb left k ≡ d → (a || (b || (c || d))) ≡ true → ⊥
     short-by n m k true b c d g h i j ea eb ec ed e = omega (arith, ltb-true base n ea)
@@ -73,10 +74,10 @@ module _ (s : List ℕ) (c : Counts) (is : reading s .end ≡ Sound c) where
     short-by n m k false false false true g h i j ea eb ec ed e = omega (arith, ltb-true left k ed)
     short-by n m k false false false false g h i j ea eb ec ed e = absurd (let z : _≡_ {A = ℕ} 0 1 = cc in omega arith)
 
-    pub no-short : 1024 ≤ base → 2048 ≤ ruby → 1024 ≤ lines → Row job base ruby left lines Short → ⊥
-    no-short g h i e =
+    pub no-short : 1024 ≤ base → 2048 ≤ ruby → 2048 ≤ left → 1024 ≤ lines → Row job base ruby left lines Short → ⊥
+    no-short g h k i e =
         short-by (baseCount job) (rubyCount job) (leftCount job) (ltb base (baseCount job)) (ltb lines (baseCount job)) (ltb ruby (rubyCount job)) (ltb left (leftCount job))
-        (omega (arith, bases-few)) (omega (arith, bases-few)) (omega (arith, rubies-few)) (omega (arith, lefts-none)) refl refl refl refl e
+        (omega (arith, bases-few)) (omega (arith, bases-few)) (omega (arith, rubies-few)) (omega (arith, lefts-few)) refl refl refl refl e
 
   -- The same of the answer.
   module _ (base ruby left lines : List ℕ) where
@@ -93,7 +94,7 @@ module _ (s : List ℕ) (c : Counts) (is : reading s .end ≡ Sound c) where
       -- "12: a result list too short": of no sheet
       pub never-short : result .answer ≡ Refused Short → ⊥
       never-short e =
-          no-short (length base) (length ruby) (length left) (length lines) (omega (arith, bases)) (omega (arith, rubies)) (omega (arith, ends))
+          no-short (length base) (length ruby) (length left) (length lines) (omega (arith, bases)) (omega (arith, rubies)) (omega (arith, lefts)) (omega (arith, ends))
           (refused-exactly job base ruby left lines Short .0 e .holds)
 
       job-written : answerText s ≡ jobText job (length base) (length ruby) (length left) (length lines)

@@ -1,7 +1,7 @@
 -- The text that was written is the job's: the refusal that it was given, or its result.
 use mathlib.Core.List.{List}
 use mathlib.Core.Option.{Option, none, some}
-use mathlib.Core.Path.{_≡_, sym, ap, ap₂, subst, _∙_}
+use mathlib.Core.Path.{_≡_, sym, ap, subst, _∙_}
 use Prim.Native.Nat.{ℕ, _≤_}
 use native.Mathlib.Omega.{arith}
 use lib.ListN.{length}
@@ -17,7 +17,7 @@ use Rattle.job.specs.Demands.{lines-filled, base-told, reading-told}
 use Rattle.result.specs.Text.{resultText, refusalText}
 use Rattle.result.specs.Set.{accepted, door}
 use Rattle.result.specs.Short.{longest, result-short, refusal-short}
-use Rattle.setter.specs.Answer.{setText, textBy, jobText, Told}
+use Rattle.setter.specs.Answer.{setText, textBy, jobText, lists, Told}
 use Rattle.setter.specs.Over.{result-over}
 
 module _ (job : Job) (base ruby left lines : List ℕ) where
@@ -60,21 +60,22 @@ module _ (job : Job) (base ruby left lines : List ℕ) where
   set-short e b r l = result-short job b r l (door job base ruby left lines e) (lines-filled job base ruby left lines (accepted job base ruby left lines e))
 
 -- what the entry point left, and a text after it
+abbrev Tells : Job → List ℕ → List ℕ → List ℕ → List ℕ → List ℕ → Outcome → ℕ → List ℕ → Type 0
+Tells job base ruby left lines out o r now = Told job (lists base ruby left lines) out r (lists (o .base) (o .ruby) (o .left) (o .lines)) now
+
 module _ {job : Job} {base ruby left lines out : List ℕ} {o : Outcome} (e : o ≡ outcome job base ruby left lines) {r : ℕ} {now : List ℕ} where
-  tells : {xs : List ℕ} → jobText job (length base) (length ruby) (length left) (length lines) ≡ xs → length xs ≤ longest → Wrote out 0 xs r now → Told job base ruby left lines out r (o .base) (o .ruby) (o .lines) now
+  tells : {xs : List ℕ} → jobText job (length base) (length ruby) (length left) (length lines) ≡ xs → length xs ≤ longest → Wrote out 0 xs r now → Tells job base ruby left lines out o r now
   tells same few wrote =
       record {
-        bases = ap (λ (x : Outcome). x .base) e;
-        rubies = ap (λ (x : Outcome). x .ruby) e;
-        ends = ap (λ (x : Outcome). x .lines) e;
+        holds = ap (λ (x : Outcome). lists (x .base) (x .ruby) (x .left) (x .lines)) e;
         text = subst (λ xs. Wrote out 0 xs r now) (sym same) wrote;
         short = omega (arith, wrote .next);
       }
 
-  pub told-refused : {why : Refusal} → o .answer ≡ Refused why → Wrote out 0 (refusalText why) r now → Told job base ruby left lines out r (o .base) (o .ruby) (o .lines) now
+  pub told-refused : {why : Refusal} → o .answer ≡ Refused why → Wrote out 0 (refusalText why) r now → Tells job base ruby left lines out o r now
   told-refused {why} is wrote = tells (refused-text job base ruby left lines (ap (λ (x : Outcome). x .answer) (sym e) ∙ is)) (omega (arith, refusal-short why)) wrote
 
-  pub told-set : {n : ℕ} → o .answer ≡ Set n → Wrote out 0 (resultText job (o .base) (o .ruby) (o .left)) r now → Told job base ruby left lines out r (o .base) (o .ruby) (o .lines) now
+  pub told-set : {n : ℕ} → o .answer ≡ Set n → Wrote out 0 (resultText job (o .base) (o .ruby) (o .left)) r now → Tells job base ruby left lines out o r now
   told-set is wrote =
       tells (set-text job base ruby left lines (ap (λ (x : Outcome). x .answer) (sym e) ∙ is) ∙ ap (λ (x : Outcome). resultText job (x .base) (x .ruby) (x .left)) (sym e))
       (set-short job base ruby left lines (ap (λ (x : Outcome). x .answer) (sym e) ∙ is) (o .base) (o .ruby) (o .left)) wrote

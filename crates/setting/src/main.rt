@@ -6,13 +6,16 @@ use libc::STDOUT_FILENO;
 fn main() {
     let mut text = [0u8; 65536];
     let n = io::read_full(STDIN_FILENO, &mut text);
-    let mut set = [0; 2];
+    let mut set = [0; 9];
     let mut base = [0; 5120];
     let mut ruby = [0; 4096];
-    let mut elem = [0; 3072];
+    let mut left = [0; 4096];
+    let mut elem = [0; 5120];
     let mut runs = [0; 32768];
+    let mut lruns = [0; 32768];
     let mut bases = [0; 1024];
     let mut rubies = [0; 2048];
+    let mut lefts = [0; 2048];
     let mut lines = [0; 1024];
     let mut out = [0; 131072];
     let k = setter::set_sheet(
@@ -20,10 +23,13 @@ fn main() {
         &mut set,
         &mut base,
         &mut ruby,
+        &mut left,
         &mut elem,
         &mut runs,
+        &mut lruns,
         &mut bases,
         &mut rubies,
+        &mut lefts,
         &mut lines,
         &mut out,
     );

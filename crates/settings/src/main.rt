@@ -5,13 +5,16 @@ use frames::Frame;
 fn set_front(
     got: u32,
     text: &[u8],
-    set: &mut [u32; 2],
+    set: &mut [u32; 9],
     base: &mut [u32; 5120],
     ruby: &mut [u32; 4096],
-    elem: &mut [u32; 3072],
+    left: &mut [u32; 4096],
+    elem: &mut [u32; 5120],
     runs: &mut [u32; 32768],
+    lruns: &mut [u32; 32768],
     bases: &mut [u32; 1024],
     rubies: &mut [u32; 2048],
+    lefts: &mut [u32; 2048],
     lines: &mut [u32; 1024],
     out: &mut [u8; 131072],
 ) -> u32 {
@@ -21,10 +24,13 @@ fn set_front(
         set,
         base,
         ruby,
+        left,
         elem,
         runs,
+        lruns,
         bases,
         rubies,
+        lefts,
         lines,
         out,
     );
@@ -34,13 +40,16 @@ fn set_front(
 // One sheet; whether there was one.
 fn answer_one(
     text: &mut [u8; 65536],
-    set: &mut [u32; 2],
+    set: &mut [u32; 9],
     base: &mut [u32; 5120],
     ruby: &mut [u32; 4096],
-    elem: &mut [u32; 3072],
+    left: &mut [u32; 4096],
+    elem: &mut [u32; 5120],
     runs: &mut [u32; 32768],
+    lruns: &mut [u32; 32768],
     bases: &mut [u32; 1024],
     rubies: &mut [u32; 2048],
+    lefts: &mut [u32; 2048],
     lines: &mut [u32; 1024],
     out: &mut [u8; 131072],
 ) -> bool {
@@ -55,10 +64,13 @@ fn answer_one(
         set,
         base,
         ruby,
+        left,
         elem,
         runs,
+        lruns,
         bases,
         rubies,
+        lefts,
         lines,
         out,
     );
@@ -68,29 +80,35 @@ fn answer_one(
 
 fn main() {
     let mut text = [0; 65536];
-    let mut set = [0; 2];
+    let mut set = [0; 9];
     let mut base = [0; 5120];
     let mut ruby = [0; 4096];
-    let mut elem = [0; 3072];
+    let mut left = [0; 4096];
+    let mut elem = [0; 5120];
     let mut runs = [0; 32768];
+    let mut lruns = [0; 32768];
     let mut bases = [0; 1024];
     let mut rubies = [0; 2048];
+    let mut lefts = [0; 2048];
     let mut lines = [0; 1024];
     let mut out = [0; 131072];
-    let mut left: u32 = 1000000;
-    while 0 < left {
+    let mut rest: u32 = 1000000;
+    while 0 < rest {
         let more = answer_one(
             &mut text,
             &mut set,
             &mut base,
             &mut ruby,
+            &mut left,
             &mut elem,
             &mut runs,
+            &mut lruns,
             &mut bases,
             &mut rubies,
+            &mut lefts,
             &mut lines,
             &mut out,
         );
-        left = if more { left - 1 } else { 0 };
+        rest = if more { rest - 1 } else { 0 };
     }
 }

@@ -1,16 +1,19 @@
-// A job sheet whole (document 01, "The job sheet"): its four sections in their fixed order into lent tables, and how the reading ended. "The sheet is read top to bottom and the
-// first fault met .. is given"; a table holds what was read before it. Nothing is asked of the caller. It relies on `rows` for the sections of numbers, on `elements` for the
-// section `elem`, on `text` for words and on `refusal`.
+// A job sheet whole, of form one (document 01, "The job sheet") or form two (document 02, R-6), told apart by the first line: its sections in their fixed order into lent tables, and how the
+// reading ended. "The sheet is read top to bottom and the first fault met .. is given"; a table holds what was read before it. The tables are the same for both forms, so that those above need
+// not know the form. Nothing is asked of the caller. It relies on `rows` for the sections of numbers, on `elements` for the section `elem`, on `text` for words and on `refusal`.
 ghost use mathlib.Core.Path.{_≡_};
 ghost use Rattle.rows.specs.Section.{countOf};
-ghost use Rattle.sheet.specs.Sheet.{opening, endOf, Into};
+ghost use Rattle.rows.specs.Table.{laid};
+ghost use Rattle.sheet.specs.Sheet.{opening, formBy, house, leftHead, LineFits, endOf, tables, Into};
 
-// How many base characters, ruby characters, elements and runs a sheet has.
+// How many base characters, ruby characters, left characters, elements, runs and left runs a sheet has.
 pub struct Counts {
     pub bases: usize,
     pub rubies: usize,
+    pub lefts: usize,
     pub elements: usize,
     pub runs: usize,
+    pub lruns: usize,
 }
 
 // A sheet that keeps its form, or 13 or 2 with its place.
@@ -19,7 +22,7 @@ pub enum Reading {
     Refused(refusal::Refusal),
 }
 
-// "Over-length comes before both"; then the fixed text `set 2`.
+// "Over-length comes before both"; then the fixed text `set 2`, or "Form two begins with `set 9`".
 fn opening_of(s: &[u8]) -> rows::Part
     ensures { λ r. ⌜ r ≡ opening (now (s .entry)) ⌝ }
 {
@@ -27,7 +30,10 @@ fn opening_of(s: &[u8]) -> rows::Part
         return rows::Part::Refused(refusal::Refusal::Form(0));
     }
     let text::Place::At(p) = text::read_word(s, 0, b"set 2\n") else {
-        return rows::Part::Refused(refusal::Refusal::Form(1));
+        let text::Place::At(q) = text::read_word(s, 0, b"set 9\n") else {
+            return rows::Part::Refused(refusal::Refusal::Form(1));
+        };
+        return rows::Part::Read(9, q, 2);
     };
     rows::Part::Read(2, p, 2)
 }
@@ -41,43 +47,99 @@ fn count_of(p: rows::Part) -> usize
     }
 }
 
+// The form that the first line tells.
+fn form_of(set: rows::Part) -> elements::SheetForm
+    ensures { λ r. ⌜ r ≡ formBy set ⌝ }
+{
+    if count_of(set) == 9 {
+        elements::SheetForm::Two
+    } else {
+        elements::SheetForm::One
+    }
+}
+
+// What form one does not show behind em and measure: both ratios 1:2:1, and profile 0.
+fn put_house(set: rows::Part, numbers: &mut [u32; 9])
+    ensures { λ _. ⌜ now (numbers .exit) ≡ laid (now (numbers .entry)) 2 9 (house set) ⌝ }
+{
+    if count_of(set) == 2 {
+        numbers[2] = 1;
+        numbers[3] = 2;
+        numbers[4] = 1;
+        numbers[5] = 1;
+        numbers[6] = 2;
+        numbers[7] = 1;
+        numbers[8] = 0;
+    }
+}
+
+// The first line of the section `left`; form one has none, and no left characters.
+fn left_head(s: &[u8], form: elements::SheetForm, last: rows::Part) -> rows::Part
+    requires { ⌜ LineFits last ⌝ }
+    ensures { λ r. ⌜ r ≡ leftHead form (now (s .entry)) last ⌝ }
+{
+    match form {
+        elements::SheetForm::Two => rows::head_at(s, last, b"left ", 2048, 3),
+        elements::SheetForm::One => match last {
+            rows::Part::Read(_, at, line) => rows::Part::Read(0, at, line),
+            rows::Part::Refused(why) => rows::Part::Refused(why),
+        },
+    }
+}
+
 // "Nothing after": the last line's LF is the last byte.
-fn ending(s: &[u8], base: rows::Part, ruby: rows::Part, elem: elements::Elements) -> Reading
-    ensures { λ r. ⌜ r ≡ endOf (now (s .entry)) base ruby elem ⌝ }
+fn ending(
+    s: &[u8],
+    base: rows::Part,
+    ruby: rows::Part,
+    left: rows::Part,
+    elem: elements::Elements,
+) -> Reading
+    ensures { λ r. ⌜ r ≡ endOf (now (s .entry)) base ruby left elem ⌝ }
 {
     match elem {
         elements::Elements::Refused(why) => Reading::Refused(why),
-        elements::Elements::Read(n, runs, at, line) => {
+        elements::Elements::Read(n, runs, lruns, at, line) => {
             if at != s.len() {
                 return Reading::Refused(refusal::Refusal::Form(line));
             }
             Reading::Sound(Counts {
                 bases: count_of(base),
                 rubies: count_of(ruby),
+                lefts: count_of(left),
                 elements: n,
                 runs,
+                lruns,
             })
         }
     }
 }
 
-// Reads a job sheet. Em and measure go to `set`. A table holds its section column by column: class, width, blank before, blank after and flag of base character i stand at i, 1024 + i, ..,
-// 4096 + i of `base`; class and width of ruby character i at i and 2048 + i of `ruby`; kind (its letter's byte), base count and ruby count of element i at i, 1024 + i and 2048 + i of
-// `elem`. `runs` holds the runs of all J elements in order.
+// Reads a job sheet. `set` gets em, measure, the three numbers of the ruby ratio, the three of the base ratio, and the profile; of form one 1, 2, 1, 1, 2, 1, 0 behind em and measure. A table holds
+// its section column by column: class, width, blank before, blank after and flag of base character i stand at i, 1024 + i, .., 4096 + i of `base`; class and width of ruby character i at i and
+// 2048 + i of `ruby`, of left character i so of `left`; kind (its letter's byte), base count, ruby count, left kind (N, 78, where there is none) and left count of element i at i, 1024 + i, ..,
+// 4096 + i of `elem`. `runs` holds the runs of all J elements in order, `lruns` the left runs.
 pub fn read_sheet(
     s: &[u8],
-    set: &mut [u32; 2],
+    set: &mut [u32; 9],
     base: &mut [u32; 5120],
     ruby: &mut [u32; 4096],
-    elem: &mut [u32; 3072],
+    left: &mut [u32; 4096],
+    elem: &mut [u32; 5120],
     runs: &mut [u32; 32768],
+    lruns: &mut [u32; 32768],
 ) -> Reading
-    ensures { λ r. ⌜ Into (now (s .entry)) (now (set .entry)) (now (base .entry)) (now (ruby .entry)) (now (elem .entry)) (now (runs .entry)) r (now (set .exit)) (now (base .exit)) (now (ruby .exit)) (now (elem .exit)) (now (runs .exit)) ⌝ }
+    ensures { λ r. ⌜ Into (now (s .entry)) (tables (now (set .entry)) (now (base .entry)) (now (ruby .entry)) (now (left .entry)) (now (elem .entry)) (now (runs .entry)) (now (lruns .entry))) r (tables (now (set .exit)) (now (base .exit)) (now (ruby .exit)) (now (left .exit)) (now (elem .exit)) (now (runs .exit)) (now (lruns .exit))) ⌝ }
 {
-    let a = rows::rows_at(s, opening_of(s), 1, 2, set);
+    let o = opening_of(s);
+    let form = form_of(o);
+    let a = rows::rows_at(s, o, 1, 9, set);
+    put_house(a, set);
     let b = rows::section_at(s, a, b"base ", 5, 1024, 0, base);
     let c = rows::section_at(s, b, b"ruby ", 2, 2048, 1, ruby);
-    let h = rows::head_at(s, c, b"elem ", 1024, 2);
-    let d = elements::elements_at(s, h, elem, runs);
-    ending(s, b, c, d)
+    let g = left_head(s, form, c);
+    let l = rows::rows_at(s, g, 2, 2048, left);
+    let h = rows::head_at(s, l, b"elem ", 1024, 2);
+    let d = elements::elements_at(s, form, h, elem, runs, lruns);
+    ending(s, b, c, l, d)
 }

@@ -4,14 +4,14 @@ use mathlib.Core.Path.{_≡_, refl, _∙_, ap, sym}
 use mathlib.Core.List.{List, [], _∷_, _++_, append-nil, append-assoc}
 use native.Mathlib.Nat.{zero-add}
 use native.Mathlib.Omega.{arith}
-use lib.ListN.{length, drop, length-append}
+use lib.ListN.{length, drop, length-append, length-drop}
 use lib.Seq.{drop-drop, drop-length, drop-append-seam}
 use Rattle.text.specs.declared.Number.the-variants.{Is}
 use Rattle.text.specs.declared.Place.the-variants.{At}
 use Rattle.text.specs.Text.{most, number, word}
 use Rattle.text.specs.Print.{width, decimal}
 use Rattle.text.specs.Written.{length-decimal}
-use Rattle.text.specs.Back.{number-back}
+use Rattle.text.specs.Back.{number-back, wide}
 use Rattle.text.specs.Unique.{Reads, ended, number-only, word-only, word-back}
 
 -- t stands in s at the place `at` and ends before the place `next`: the bytes of s from `at` on are t and then those from `next` on
@@ -56,12 +56,24 @@ stands-cut a b {s} {at} {q} x =
           };
     }
 
+-- a text of some bytes ends within the sheet
+pub stands-within : {s : List ℕ} {at : ℕ} (t : List ℕ) {next : ℕ} → Stands s at t next → 0 < length t → next ≤ length s
+stands-within {s} {at} t {next} x h = omega (arith, x .past, ap length (x .text), length-append t (drop next s), length-drop at s, length-drop next s)
+
 -- a number is read exactly where it stands in decimal, followed by the byte that ends it
 module _ (s : List ℕ) (at n stop next : ℕ) where
   pub number-stands : number (drop at s) stop at ≡ Is n next → (n ≤ most) × Stands s at (ended n stop) next
   number-stands e =
       let o = number-only (drop at s) stop at n next e in
       (o .0, stands-of s at (ended n stop) next (o .1))
+
+  -- with the byte that ends it a number takes two bytes of the sheet at least
+  pub number-past : number (drop at s) stop at ≡ Is n next → (at + 2 ≤ next) × (next ≤ length s)
+  number-past e =
+      let o = number-stands e in
+      let l = length-append (decimal n) (stop ∷ []) in
+      let w = wide n (o .0) .some in
+      (omega (arith, o .1 .past, l, length-decimal n, w), stands-within (ended n stop) (o .1) (omega (arith, l)))
 
   pub stands-number : stop < 48 → n ≤ most → Stands s at (ended n stop) next → number (drop at s) stop at ≡ Is n next
   stands-number h g x =

@@ -44,6 +44,6 @@ word [] s at = At at
 word (w ∷ ws) [] at = Off
 word (w ∷ ws) (b ∷ s) at = cond (eqb b w) (word ws s (at + 1)) Off
 
--- "Single spaces .. each line ended by LF": the byte after a number of a line that k more numbers follow
-abbrev pub stopOf : ℕ → ℕ
-stopOf k = cond (eqb k 0) 10 32
+-- "Single spaces": the byte after what k more numbers follow, a space, or `last` after the last of them
+abbrev pub stopOf : ℕ → ℕ → ℕ
+stopOf last k = cond (eqb k 0) last 32

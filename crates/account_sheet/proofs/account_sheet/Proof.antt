@@ -1,11 +1,32 @@
 -- The reading's answer decides. Where it is a refusal its text is written and no list has moved; where it is sound the tables hold the sheet's job, and what is told of that job is the account.
-use Rattle.result.specs.Short.{refusal-short}
-use Rattle.setter.specs.Whole.{tables-ready}
-use Rattle.account_sheet.specs.Whole.{fits, answered-refused, answered-sound}
 use borrow.Author.Needs.{needs}
 use native.Mathlib.Omega.{arith}
+use Rattle.sheet.specs.Sheet.{tables}
+use Rattle.result.specs.Short.{refusal-short}
+use Rattle.setter.specs.Whole.{Lent, tables-long}
+use Rattle.account_sheet.specs.Whole.{fits, answered-refused, answered-sound}
 use Rattle.account_sheet.proofs.account_sheet.Statement.{statement}
 use Rattle.account_sheet.proofs.account_sheet.Tie as tie
+
+abbrev read : tie.After-tell-tables-arg18 → tie.After-read-sheet
+read d = d .before .before .before .before .before .before .before .before .before .before .before .before .before .before .before .before .before .before .before .before .before
+
+abbrev counts : tie.After-tell-tables-arg18 → tie.After-n
+counts d = d .before .before .before .before .before .before .before .before .before .before .before .before .before .before .before .before .before .before .before
+
+-- the tables are as long as they are lent, where the reading is sound
+lent : (d : tie.After-tell-tables-arg18) → Lent (tables (read d .read-sheet .last .1 .0) (read d .read-sheet .last .1 .1 .0) (read d .read-sheet .last .1 .1 .1 .0)
+    (read d .read-sheet .last .1 .1 .1 .1 .0) (read d .read-sheet .last .1 .1 .1 .1 .1 .0) (read d .read-sheet .last .1 .1 .1 .1 .1 .1 .0) (read d .read-sheet .last .1 .1 .1 .1 .1 .1 .1 .0))
+lent d =
+    record {
+      nine = d .before .before .before .before .before .before .before .before .before .before .before .before .before .before .before .before .tell-tables-arg2 .given .0;
+      longBase = d .before .before .before .before .before .before .before .before .before .before .before .before .before .before .tell-tables-arg4 .given .0;
+      longRuby = d .before .before .before .before .before .before .before .before .before .before .before .before .tell-tables-arg6 .given .0;
+      longLeft = d .before .before .before .before .before .before .before .before .before .before .tell-tables-arg8 .given .0;
+      longElem = d .before .before .before .before .before .before .before .before .tell-tables-arg10 .given .0;
+      longRuns = d .before .before .before .before .before .before .tell-tables-arg12 .given .0;
+      longLruns = d .before .before .before .before .tell-tables-arg14 .given .0;
+    }
 
 read-sheet-requires : tie.Need-read-sheet-requires
 read-sheet-requires c κs = search needs
@@ -20,13 +41,19 @@ enum-known-n : tie.Need-enum-known-n
 enum-known-n c = search needs
 
 tell-tables-requires : tie.Need-tell-tables-requires
-tell-tables-requires c κs = (tables-ready (c .before .before .before .before .before .before .before .before .before .before .before .before .before .before .before .before .before .read-sheet .ensures) (c .before .before .before .before .before .before .before .before .before .before .before .before .before .before .before .n .given .1) (c .before .before .before .before .before .before .before .before .before .before .before .before .tell-tables-arg2 .given .0) (c .before .before .before .before .before .before .before .before .before .before .tell-tables-arg4 .given .0) (c .before .before .before .before .before .before .before .before .tell-tables-arg6 .given .0) (c .before .before .before .before .before .before .tell-tables-arg8 .given .0) (c .before .before .before .before .tell-tables-arg10 .given .0) (omega (arith, c .tell-tables-arg14 .given .0 .1)), omega (arith, c .tell-tables-arg14 .given .0 .1))
+tell-tables-requires c κs = (tables-long (read c .read-sheet .ensures) (counts c .n .given .1) (lent c), omega (arith, c .tell-tables-arg18 .given .0 .1))
 
 returns : tie.Need-returns
-returns c = let a = answered-refused (c .before .before .before .before .before .read-sheet .ensures) (c .before .before .before .why .given .1) (c .write-refusal .ensures) in (a, fits a (c .before .write-refusal-arg .given .0 .1))
+returns c =
+    let a = answered-refused (c .before .before .before .before .before .read-sheet .ensures) (c .before .before .before .why .given .1) (c .write-refusal .ensures) in
+    (a, fits a (c .before .write-refusal-arg .given .0 .1))
 
 returns-2 : tie.Need-returns-2
-returns-2 c = let a = answered-sound (c .before .before .before .before .before .before .before .before .before .before .before .before .before .before .before .before .before .before .read-sheet .ensures) (c .before .before .before .before .before .before .before .before .before .before .before .before .before .before .before .before .n .given .1) (c .before .before .before .before .before .before .before .before .before .before .before .before .before .tell-tables-arg2 .given .0) (c .before .before .before .before .before .before .before .before .before .before .before .tell-tables-arg4 .given .0) (c .before .before .before .before .before .before .before .before .before .tell-tables-arg6 .given .0) (c .before .before .before .before .before .before .before .tell-tables-arg8 .given .0) (c .before .before .before .before .before .tell-tables-arg10 .given .0) (c .before .before .before .before .tell-tables-arg11 .given .0 .1) (c .before .before .before .tell-tables-arg12 .given .0 .1) (c .before .before .tell-tables-arg13 .given .0 .1) (c .tell-tables .ensures) in (a, fits a (c .before .tell-tables-arg14 .given .0 .1))
+returns-2 c =
+    let d = c .before in
+    let a = answered-sound (read d .read-sheet .ensures) (counts d .n .given .1) (lent d) (d .before .before .before .tell-tables-arg15 .given .0 .1)
+    (d .before .before .tell-tables-arg16 .given .0 .1) (d .before .tell-tables-arg17 .given .0 .1) (c .tell-tables .ensures) in
+    (a, fits a (d .tell-tables-arg18 .given .0 .1))
 
 pub account-sheet-spec : {M : Type 1} → statement M
 account-sheet-spec =

@@ -1,7 +1,19 @@
 -- The parts of the two tables of characters lie within them; the rest is the job with its elements in tables.
+use mathlib.Core.List.{List}
+use mathlib.Core.Path.{_≡_}
+use Prim.Native.Nat.{ℕ, _+_, _≤_}
 use borrow.Author.Needs.{needs}
+use native.Mathlib.Omega.{arith}
+use lib.ListN.{length}
 use Rattle.account_sheet.proofs.tell_tables.Statement.{statement}
 use Rattle.account_sheet.proofs.tell_tables.Tie as tie
+
+-- both columns of a table of two
+within : (t : List ℕ) (n : ℕ) → length t ≡ 4096 → n ≤ 2048 → (n ≤ length t) × (2048 + n ≤ length t)
+within t n f h = (omega arith, omega arith)
+
+rubies : (a : tie.Start) → (a .args .n .rubies ≤ length (a .args .ruby .now)) × (2048 + a .args .n .rubies ≤ length (a .args .ruby .now))
+rubies a = within (a .args .ruby .now) (a .args .n .rubies) (a .pre .0 .longRuby) (a .pre .0 .rubies)
 
 add-b1 : tie.Need-add-b1
 add-b1 c = search needs
@@ -23,6 +35,27 @@ shared-slice-read-tell-elements c = search needs
 
 shared-slice-read-tell-elements-2 : tie.Need-shared-slice-read-tell-elements-2
 shared-slice-read-tell-elements-2 c = search needs
+
+shared-slice-read-t25 : tie.Need-shared-slice-read-t25
+shared-slice-read-t25 c = search needs
+
+shared-slice-read-t27 : tie.Need-shared-slice-read-t27
+shared-slice-read-t27 c = search needs
+
+shared-slice-read-t29 : tie.Need-shared-slice-read-t29
+shared-slice-read-t29 c = search needs
+
+shared-slice-read-t32 : tie.Need-shared-slice-read-t32
+shared-slice-read-t32 c = search needs
+
+shared-slice-read-t34 : tie.Need-shared-slice-read-t34
+shared-slice-read-t34 c = search needs
+
+shared-slice-read-t36 : tie.Need-shared-slice-read-t36
+shared-slice-read-t36 c = search needs
+
+shared-slice-read-tell-elements-3 : tie.Need-shared-slice-read-tell-elements-3
+shared-slice-read-tell-elements-3 c = search needs
 
 sub-tell-elements : tie.Need-sub-tell-elements
 sub-tell-elements c = search needs
@@ -76,7 +109,9 @@ part-tell-elements-start-6 : tie.Need-part-tell-elements-start-6
 part-tell-elements-start-6 c = search needs
 
 part-tell-elements-end-6 : tie.Need-part-tell-elements-end-6
-part-tell-elements-end-6 c = search needs
+part-tell-elements-end-6 c = rubies
+    (c .before .before .before .before .before .before .before .before .before .before .before .before .before .before .before .before .before .before .before .before .before .before
+    .before .before .before) .0
 
 sub-tell-elements-7 : tie.Need-sub-tell-elements-7
 sub-tell-elements-7 c = search needs
@@ -85,7 +120,9 @@ part-tell-elements-start-7 : tie.Need-part-tell-elements-start-7
 part-tell-elements-start-7 c = search needs
 
 part-tell-elements-end-7 : tie.Need-part-tell-elements-end-7
-part-tell-elements-end-7 c = search needs
+part-tell-elements-end-7 c = rubies
+    (c .before .before .before .before .before .before .before .before .before .before .before .before .before .before .before .before .before .before .before .before .before .before
+    .before .before .before .before) .1
 
 tell-elements-requires : tie.Need-tell-elements-requires
 tell-elements-requires c κs = search needs
@@ -116,6 +153,13 @@ tell-tables-spec =
     add-r1
     shared-slice-read-tell-elements
     shared-slice-read-tell-elements-2
+    shared-slice-read-t25
+    shared-slice-read-t27
+    shared-slice-read-t29
+    shared-slice-read-t32
+    shared-slice-read-t34
+    shared-slice-read-t36
+    shared-slice-read-tell-elements-3
     sub-tell-elements
     part-tell-elements-start
     part-tell-elements-end

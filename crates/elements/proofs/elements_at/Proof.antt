@@ -15,14 +15,14 @@ enum-known-head-2 c = search needs
 
 lines-at-requires : tie.Need-lines-at-requires
 lines-at-requires c κs =
-    let h = c .before .before .before in
-    reading.lines-ready _ _ _ _ _ _ (h .head2 .given .1) (h .before .before .before .before .before .pre)
+    let h = c .before .before .before .before in
+    reading.lines-ready _ _ _ _ _ _ _ _ (h .head2 .given .1) (h .before .before .before .before .before .before .pre)
 
 returns : tie.Need-returns
 unfolding elements onPart laid
 returns c =
     let e = c .before .head .given .1 in
-    (rw e, rw e, rw e)
+    record { end = rw e; rows = rw e; right = rw e; left = rw e }
 
 same-length : tie.Need-same-length
 same-length c = search needs
@@ -30,10 +30,13 @@ same-length c = search needs
 same-length-2 : tie.Need-same-length-2
 same-length-2 c = search needs
 
+same-length-3 : tie.Need-same-length-3
+same-length-3 c = search needs
+
 returns-2 : tie.Need-returns-2
 returns-2 c =
-    let l = c .before .before .before .before in
-    rw (reading.elements-of _ _ _ _ _ (l .before .before .before .before .head2 .given .1)) (l .lines-at .ensures)
+    let l = c .before .before .before .before .before .before in
+    rw (reading.elements-of _ _ _ _ _ _ (l .before .before .before .before .before .head2 .given .1)) (l .lines-at .ensures)
 
 pub elements-at-spec : {M : Type 1} → statement M
 elements-at-spec =
@@ -45,4 +48,5 @@ elements-at-spec =
     returns
     same-length
     same-length-2
+    same-length-3
     returns-2)

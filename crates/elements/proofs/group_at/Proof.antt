@@ -1,7 +1,7 @@
 -- `elements::group_at` meets its contract. Each return rewrites the definition with what was read on the way there.
 use mathlib.Core.Path.{_∙_, sym}
 use Rattle.rows.specs.Section.{onPlace, onNumber}
-use Rattle.elements.specs.Element.{group}
+use Rattle.elements.specs.Element.{groupAt}
 use borrow.Author.Needs.{needs}
 use Rattle.elements.proofs.group_at.Statement.{statement}
 use Rattle.elements.proofs.group_at.Tie as tie
@@ -19,7 +19,7 @@ enum-told : tie.Need-enum-told
 enum-told c = search needs
 
 returns : tie.Need-returns
-unfolding group onPlace
+unfolding groupAt onPlace
 returns c =
     rw (← (sym (c .enum-told .given .1) ∙ c .before .before .read-word .ensures))
 
@@ -33,7 +33,7 @@ enum-told-2 : tie.Need-enum-told-2
 enum-told-2 c = search needs
 
 returns-2 : tie.Need-returns-2
-unfolding group onPlace onNumber
+unfolding groupAt onPlace onNumber
 returns-2 c =
     let n = c .before .before in
     rw (← (sym (n .before .before .p .given .1) ∙ n .before .before .before .before .read-word .ensures), ← (sym (c .enum-told2 .given .1) ∙ n .read-number .ensures))
@@ -48,14 +48,14 @@ enum-told-3 : tie.Need-enum-told-3
 enum-told-3 c = search needs
 
 returns-3 : tie.Need-returns-3
-unfolding group onPlace onNumber
+unfolding groupAt onPlace onNumber
 returns-3 c =
     let m = c .before .before in
     let n = m .before .before .before .before in
     rw (← (sym (n .before .before .p .given .1) ∙ n .before .before .before .before .read-word .ensures), ← (sym (m .before .before .b .given .1) ∙ n .read-number .ensures), ← (sym (c .enum-told3 .given .1) ∙ m .read-number2 .ensures))
 
 returns-4 : tie.Need-returns-4
-unfolding group onPlace onNumber
+unfolding groupAt onPlace onNumber
 returns-4 c =
     let m = c .before .before .before in
     let n = m .before .before .before .before in

@@ -1,9 +1,10 @@
--- `elements::jukugo_at` meets its contract. Each return rewrites the J by what was read of its line (`Runs`);
+-- `elements::jukugo_at` meets its contract. Each return rewrites the J by what was read of its line (`Steps`);
 -- numbers stored a stride of 1 apart are a list stored.
 use mathlib.Core.Path.{_∙_, sym}
 use Rattle.rows.specs.Section.{onPlace}
 use Rattle.rows.specs.Table.{strided-one}
-use Rattle.elements.specs.Runs as runs
+use Rattle.elements.specs.Ready.{runs-fit}
+use Rattle.elements.specs.Steps as runs
 use borrow.Author.Needs.{needs}
 use Rattle.elements.proofs.jukugo_at.Statement.{statement}
 use Rattle.elements.proofs.jukugo_at.Tie as tie
@@ -24,7 +25,7 @@ returns : tie.Need-returns
 returns c =
     let w = c .before .before in
     let a = w .before .before .before .before .args in
-    let j = runs.jukugo-no-word (a .s .now) (a .at) (sym (c .enum-told .given .1) ∙ w .read-word .ensures) in
+    let j = runs.jukugo-no-word (a .stop) (a .s .now) (a .at) (sym (c .enum-told .given .1) ∙ w .read-word .ensures) in
     (rw j, rw j)
 
 read-number-requires : tie.Need-read-number-requires
@@ -41,7 +42,7 @@ returns-2 c =
     let n = c .before .before in
     let w = n .before .before .before .before in
     let a = w .before .before .before .before .args in
-    let j = runs.jukugo-no-count (a .s .now) (a .at) (sym (n .before .before .p .given .1) ∙ w .read-word .ensures) (sym (c .enum-told2 .given .1) ∙ n .read-number .ensures) in
+    let j = runs.jukugo-no-count (a .stop) (a .s .now) (a .at) (sym (n .before .before .p .given .1) ∙ w .read-word .ensures) (sym (c .enum-told2 .given .1) ∙ n .read-number .ensures) in
     (rw j, rw j)
 
 returns-3 : tie.Need-returns-3
@@ -52,7 +53,7 @@ returns-3 c =
     let a = w .before .before .before .before .args in
     let word = sym (n .before .before .p .given .1) ∙ w .read-word .ensures in
     let count = sym (k .before .b .given .1) ∙ n .read-number .ensures in
-    let j = runs.jukugo-none (a .s .now) (a .at) word count (search needs) in
+    let j = runs.jukugo-none (a .stop) (a .s .now) (a .at) word count (search needs) in
     (rw j, rw j)
 
 returns-4 : tie.Need-returns-4
@@ -63,14 +64,22 @@ returns-4 c =
     let a = w .before .before .before .before .args in
     let word = sym (n .before .before .p .given .1) ∙ w .read-word .ensures in
     let count = sym (k .before .b .given .1) ∙ n .read-number .ensures in
-    let j = runs.jukugo-many (a .s .now) (a .at) word count (search needs) (search needs) in
+    let j = runs.jukugo-many (a .stop) (a .s .now) (a .at) word count (search needs) (search needs) in
     (rw j, rw j)
 
 cast-n : tie.Need-cast-n
 cast-n c = search needs
 
 fields-at-requires : tie.Need-fields-at-requires
-fields-at-requires c κs = search needs
+fields-at-requires c κs =
+    let t = c .before in
+    let k = t .before .before in
+    let n = k .before .before .before in
+    let w = n .before .before .before .before in
+    let a = w .before .before .before .before .args in
+    let word = sym (n .before .before .p .given .1) ∙ w .read-word .ensures in
+    let count = sym (k .before .b .given .1) ∙ n .read-number .ensures in
+    runs-fit _ _ (w .before .before .before .before .pre) (runs.runs-past (a .stop) (a .s .now) (a .at) word count)
 
 enum-known-next : tie.Need-enum-known-next
 enum-known-next c = search needs
@@ -92,7 +101,7 @@ returns-5 c =
     let a = w .before .before .before .before .args in
     let word = sym (n .before .before .p .given .1) ∙ w .read-word .ensures in
     let count = sym (k .before .b .given .1) ∙ n .read-number .ensures in
-    let j = runs.jukugo-runs (a .s .now) (a .at) word count (search needs) (search needs) in
+    let j = runs.jukugo-runs (a .stop) (a .s .now) (a .at) word count (search needs) (search needs) in
     (rw (j, ← (sym (c .enum-told3 .given .1) ∙ f .fields-at .ensures .0)), rw j (f .fields-at .ensures .1 ∙ strided-one _ _ _))
 
 same-length-2 : tie.Need-same-length-2
@@ -109,7 +118,7 @@ returns-6 c =
     let a = w .before .before .before .before .args in
     let word = sym (n .before .before .p .given .1) ∙ w .read-word .ensures in
     let count = sym (k .before .b .given .1) ∙ n .read-number .ensures in
-    let j = runs.jukugo-runs (a .s .now) (a .at) word count (search needs) (search needs) in
+    let j = runs.jukugo-runs (a .stop) (a .s .now) (a .at) word count (search needs) (search needs) in
     (rw (j, ← (sym (c .before .next .given .1) ∙ f .fields-at .ensures .0)), rw j (f .fields-at .ensures .1 ∙ strided-one _ _ _))
 
 pub jukugo-at-spec : {M : Type 1} → statement M

@@ -2,6 +2,7 @@
 -- a turn takes one line and its runs, and a line with a fault or the last ends it.
 use mathlib.Core.Path.{_∙_, sym}
 use Prim.Native.Nat.{_-_}
+use native.Mathlib.Omega.{arith}
 use Rattle.elements.specs.Reading.{LinesLeft}
 use Rattle.elements.specs.Reading as reading
 use borrow.Author.Needs.{needs}
@@ -9,18 +10,19 @@ use Rattle.elements.proofs.lines_at.Statement.{statement}
 use Rattle.elements.proofs.lines_at.Tie as tie
 
 abbrev Inv-loop : tie.InvT-loop
-Inv-loop s n from first table₀ runs₀ at₀ line₀ used₀ i₀ table runs at line used i = LinesLeft s n from first table₀ runs₀ table runs at line used i
+Inv-loop s form n from first table₀ runs₀ lruns₀ at₀ line₀ used₀ lused₀ i₀ table runs lruns at line used lused i =
+    LinesLeft s form n from first table₀ runs₀ lruns₀ table runs lruns at line used lused i
 
 abbrev μ-loop : tie.MeasureT-loop
-μ-loop s n from first table₀ runs₀ at₀ line₀ used₀ i₀ table runs at line used i = n - i
+μ-loop s form n from first table₀ runs₀ lruns₀ at₀ line₀ used₀ lused₀ i₀ table runs lruns at line used lused i = n - i
 
 loop-holds : tie.Need-loop-holds Inv-loop μ-loop
-loop-holds c = reading.lines-first _ _ _ _ _ _
+loop-holds c = reading.lines-first _ _ _ _ _ _ _ _
 
 element-at-requires : tie.Need-element-at-requires Inv-loop μ-loop
 element-at-requires c κs =
-    let l = c .before .before in
-    reading.runs-ready (l .loop .inv) (c .before .loop-test .taken) (l .before .before .before .before .pre)
+    let l = c .before .before .before in
+    reading.line-ready (l .loop .inv) (c .before .before .loop-test .taken) (l .before .before .before .before .before .pre)
 
 enum-known-e : tie.Need-enum-known-e Inv-loop μ-loop
 enum-known-e c = search needs
@@ -34,51 +36,73 @@ same-length c = search needs
 same-length-2 : tie.Need-same-length-2 Inv-loop μ-loop
 same-length-2 c = search needs
 
+same-length-3 : tie.Need-same-length-3 Inv-loop μ-loop
+same-length-3 c = search needs
+
 returns : tie.Need-returns Inv-loop μ-loop
 returns c =
-    let f = c .before .before .before .before in
-    let l = f .before .before .before in
-    reading.lines-broken (l .loop .inv) (f .before .before .loop-test .taken) _ (f .element-at .ensures .1) (sym (c .enum-told .given .1) ∙ f .element-at .ensures .0)
+    let f = c .before .before .before .before .before .before in
+    let l = f .before .before .before .before in
+    let r = f .element-at .ensures in
+    reading.lines-broken (l .loop .inv) (f .before .before .before .loop-test .taken) _ _ (r .right) (r .left) (sym (c .enum-told .given .1) ∙ r .line)
 
 put-element-requires : tie.Need-put-element-requires Inv-loop μ-loop
 put-element-requires c κs =
-    let f = c .before .before .before .before .before .before in
-    let l = f .before .before .before in
-    reading.put-ready (l .loop .inv) (f .before .before .loop-test .taken) (l .before .before .before .before .pre)
+    let k = c .before in
+    let f = k .before .before .before .before .before .before .before in
+    let l = f .before .before .before .before in
+    reading.put-ready (l .loop .inv) (f .before .before .before .loop-test .taken) (l .before .before .before .before .before .pre)
 
 add-line : tie.Need-add-line Inv-loop μ-loop
 add-line c =
-    let f = c .before .before .before .before .before .before .before .before .before in
-    let l = f .before .before .before in
-    let h = reading.line-fits (l .loop .inv) (f .before .before .loop-test .taken) (l .before .before .before .before .pre) in
+    let k = c .before .before .before .before in
+    let f = k .before .before .before .before .before .before .before in
+    let l = f .before .before .before .before in
+    let h = reading.line-fits (l .loop .inv) (f .before .before .before .loop-test .taken) (l .before .before .before .before .before .pre) in
     search needs
 
 add-used : tie.Need-add-used Inv-loop μ-loop
 add-used c =
-    let f = c .before .before .before .before .before .before .before .before .before .before in
-    let l = f .before .before .before in
+    let k = c .before .before .before .before .before in
+    let f = k .before .before .before .before .before .before .before in
+    let l = f .before .before .before .before in
+    let h = reading.used-fits (l .loop .inv) (f .before .before .before .loop-test .taken) _ _ (sym (k .before .e .given .1) ∙ f .element-at .ensures .line) in
+    record { fits = omega (arith, h .0) }
+
+add-lused : tie.Need-add-lused Inv-loop μ-loop
+add-lused c =
     let k = c .before .before .before .before .before .before in
-    let h = reading.used-fits (l .loop .inv) (f .before .before .loop-test .taken) (l .before .before .before .before .pre) _ _ (sym (k .e .given .1) ∙ f .element-at .ensures .0) in
-    record { fits = h }
+    let f = k .before .before .before .before .before .before .before in
+    let l = f .before .before .before .before in
+    let h = reading.used-fits (l .loop .inv) (f .before .before .before .loop-test .taken) _ _ (sym (k .before .e .given .1) ∙ f .element-at .ensures .line) in
+    record { fits = omega (arith, h .1) }
 
 add-i : tie.Need-add-i Inv-loop μ-loop
-add-i c = search needs
+add-i c =
+    let k = c .before .before .before .before .before .before in
+    let f = k .before .before .before .before .before .before .before in
+    let l = f .before .before .before .before in
+    record { fits = omega (arith, f .before .before .before .loop-test .taken, l .before .before .before .before .before .pre .few) }
 
 loop-less : tie.Need-loop-less Inv-loop μ-loop
 loop-less c = search needs
 
 loop-again : tie.Need-loop-again Inv-loop μ-loop
 loop-again c =
-    let f = c .before .before .before .before .before .before .before .before .before .before in
-    let l = f .before .before .before in
     let k = c .before .before .before .before .before .before in
-    reading.lines-next (l .loop .inv) (f .before .before .loop-test .taken) _ (f .element-at .ensures .1) _ _ (sym (k .e .given .1) ∙ f .element-at .ensures .0) _ (c .before .before .before .put-element .ensures)
-
-same-length-3 : tie.Need-same-length-3 Inv-loop μ-loop
-same-length-3 c = search needs
+    let f = k .before .before .before .before .before .before .before in
+    let l = f .before .before .before .before in
+    let r = f .element-at .ensures in
+    reading.lines-next (l .loop .inv) (f .before .before .before .loop-test .taken) _ _ (r .right) (r .left) _ _ (sym (k .before .e .given .1) ∙ f .element-at .ensures .line) _ (c .before .before .before .before .put-element .ensures)
 
 same-length-4 : tie.Need-same-length-4 Inv-loop μ-loop
 same-length-4 c = search needs
+
+same-length-5 : tie.Need-same-length-5 Inv-loop μ-loop
+same-length-5 c = search needs
+
+same-length-6 : tie.Need-same-length-6 Inv-loop μ-loop
+same-length-6 c = search needs
 
 returns-2 : tie.Need-returns-2 Inv-loop μ-loop
 returns-2 c = reading.lines-done (c .before .loop .inv) (c .loop-test .left)
@@ -95,13 +119,16 @@ lines-at-spec =
     enum-told
     same-length
     same-length-2
+    same-length-3
     returns
     put-element-requires
     add-line
     add-used
+    add-lused
     add-i
     loop-less
     loop-again
-    same-length-3
     same-length-4
+    same-length-5
+    same-length-6
     returns-2)

@@ -1,7 +1,7 @@
 -- `elements::mono_at` meets its contract. Each return rewrites the definition with what was read on the way there.
 use mathlib.Core.Path.{_∙_, sym}
 use Rattle.rows.specs.Section.{onPlace, onNumber}
-use Rattle.elements.specs.Element.{mono}
+use Rattle.elements.specs.Element.{monoAt}
 use borrow.Author.Needs.{needs}
 use Rattle.elements.proofs.mono_at.Statement.{statement}
 use Rattle.elements.proofs.mono_at.Tie as tie
@@ -19,7 +19,7 @@ enum-told : tie.Need-enum-told
 enum-told c = search needs
 
 returns : tie.Need-returns
-unfolding mono onPlace
+unfolding monoAt onPlace
 returns c =
     rw (← (sym (c .enum-told .given .1) ∙ c .before .before .read-word .ensures))
 
@@ -33,13 +33,13 @@ enum-told-2 : tie.Need-enum-told-2
 enum-told-2 c = search needs
 
 returns-2 : tie.Need-returns-2
-unfolding mono onPlace onNumber
+unfolding monoAt onPlace onNumber
 returns-2 c =
     let n = c .before .before in
     rw (← (sym (n .before .before .p .given .1) ∙ n .before .before .before .before .read-word .ensures), ← (sym (c .enum-told2 .given .1) ∙ n .read-number .ensures))
 
 returns-3 : tie.Need-returns-3
-unfolding mono onPlace onNumber
+unfolding monoAt onPlace onNumber
 returns-3 c =
     let n = c .before .before .before in
     rw (← (sym (n .before .before .p .given .1) ∙ n .before .before .before .before .read-word .ensures), ← (sym (c .before .r .given .1) ∙ n .read-number .ensures))

@@ -1,7 +1,7 @@
 -- `elements::plain_at` meets its contract. Each return rewrites the definition with what was read on the way there.
 use mathlib.Core.Path.{_∙_, sym}
 use Rattle.rows.specs.Section.{onPlace}
-use Rattle.elements.specs.Element.{plain}
+use Rattle.elements.specs.Element.{plainAt}
 use borrow.Author.Needs.{needs}
 use Rattle.elements.proofs.plain_at.Statement.{statement}
 use Rattle.elements.proofs.plain_at.Tie as tie
@@ -19,12 +19,12 @@ enum-told : tie.Need-enum-told
 enum-told c = search needs
 
 returns : tie.Need-returns
-unfolding plain onPlace
+unfolding plainAt onPlace
 returns c =
     rw (← (sym (c .enum-told .given .1) ∙ c .before .before .read-word .ensures))
 
 returns-2 : tie.Need-returns-2
-unfolding plain onPlace
+unfolding plainAt onPlace
 returns-2 c =
     rw (← (sym (c .before .next .given .1) ∙ c .before .before .before .read-word .ensures))
 

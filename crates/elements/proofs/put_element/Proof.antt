@@ -1,4 +1,4 @@
--- `elements::put_element` meets its contract. The three stores are the row, each 1,024 past the one before.
+-- `elements::put_element` meets its contract. The five stores are the row, each 1,024 past the one before.
 use lib.ListN.{length-set}
 use Rattle.rows.specs.Table.{strided}
 use borrow.Author.Needs.{needs}
@@ -10,6 +10,12 @@ add-base c = search needs
 
 add-ruby : tie.Need-add-ruby
 add-ruby c = search needs
+
+add-left : tie.Need-add-left
+add-left c = search needs
+
+add-count : tie.Need-add-count
+add-count c = search needs
 
 mul-table : tie.Need-mul-table
 mul-table c = search needs
@@ -29,6 +35,18 @@ mul-table-3 c = search needs
 slice-write-table-3 : tie.Need-slice-write-table-3
 slice-write-table-3 c = simp length-set (search needs)
 
+mul-table-4 : tie.Need-mul-table-4
+mul-table-4 c = search needs
+
+slice-write-table-4 : tie.Need-slice-write-table-4
+slice-write-table-4 c = simp length-set (search needs)
+
+mul-table-5 : tie.Need-mul-table-5
+mul-table-5 c = search needs
+
+slice-write-table-5 : tie.Need-slice-write-table-5
+slice-write-table-5 c = simp length-set (search needs)
+
 same-length : tie.Need-same-length
 same-length c = search needs
 
@@ -42,11 +60,17 @@ put-element-spec =
     (tie.spec
     add-base
     add-ruby
+    add-left
+    add-count
     mul-table
     slice-write-table
     mul-table-2
     slice-write-table-2
     mul-table-3
     slice-write-table-3
+    mul-table-4
+    slice-write-table-4
+    mul-table-5
+    slice-write-table-5
     same-length
     returns)

@@ -8,13 +8,13 @@ use Rattle.rows.proofs.fields_at.Statement.{statement}
 use Rattle.rows.proofs.fields_at.Tie as tie
 
 abbrev Inv-loop : tie.InvT-loop
-Inv-loop s from k out₀ to step at₀ p₀ left₀ out at p left = FieldsLeft s from k out₀ to step out at p left
+Inv-loop s from last k out₀ to step at₀ p₀ left₀ out at p left = FieldsLeft s from last k out₀ to step out at p left
 
 abbrev μ-loop : tie.MeasureT-loop
-μ-loop s from k out₀ to step at₀ p₀ left₀ out at p left = left
+μ-loop s from last k out₀ to step at₀ p₀ left₀ out at p left = left
 
 loop-holds : tie.Need-loop-holds Inv-loop μ-loop
-loop-holds c = reading.fields-first _ _ (c .before .before .pre)
+loop-holds c = reading.fields-first _ (c .before .before .pre)
 
 sub-left : tie.Need-sub-left Inv-loop μ-loop
 sub-left c = search needs
@@ -42,15 +42,22 @@ returns c =
 
 mul-out : tie.Need-mul-out Inv-loop μ-loop
 mul-out c =
-    let h = reading.place (c .before .before .before .before .before .before .loop .inv) (c .before .before .before .before .before .loop-test .taken) in
+    let n = c .before .before .before in
+    let l = n .before .before .before in
+    let h = reading.place (l .loop .inv) (n .before .before .loop-test .taken) _ (n .before .stop-of .ensures) _ _ (sym (c .before .v .given .1) ∙ n .read-number .ensures) in
     search needs
 
 slice-write-out : tie.Need-slice-write-out Inv-loop μ-loop
-slice-write-out c = reading.place (c .before .before .before .before .before .before .loop .inv) (c .before .before .before .before .before .loop-test .taken)
+slice-write-out c =
+    let n = c .before .before .before in
+    let l = n .before .before .before in
+    reading.place (l .loop .inv) (n .before .before .loop-test .taken) _ (n .before .stop-of .ensures) _ _ (sym (c .before .v .given .1) ∙ n .read-number .ensures)
 
 add-p : tie.Need-add-p Inv-loop μ-loop
 add-p c =
-    let h = reading.place (c .before .before .before .before .before .before .loop .inv) (c .before .before .before .before .before .loop-test .taken) in
+    let n = c .before .before .before in
+    let l = n .before .before .before in
+    let h = reading.place (l .loop .inv) (n .before .before .loop-test .taken) _ (n .before .stop-of .ensures) _ _ (sym (c .before .v .given .1) ∙ n .read-number .ensures) in
     search needs
 
 loop-less : tie.Need-loop-less Inv-loop μ-loop

@@ -1,29 +1,30 @@
--- The parts that are lent lie within their tables. What is told of the job in lists is what is told here, where each element's left kind is none.
-use mathlib.Core.List.{List, []}
-use Prim.Native.Nat.{ℕ, _+_}
+-- The parts that are lent lie within their tables; what is told of the job in lists is what is told here.
+use mathlib.Core.List.{List}
+use mathlib.Core.Path.{_≡_}
+use Prim.Native.Nat.{ℕ, _≤_}
 use borrow.Author.Needs.{needs}
-use Rattle.spread.specs.Ratio.{usualLists}
-use Rattle.door.specs.Job.{Job, jobOf}
-use Rattle.setter.specs.Answer.{part}
-use Rattle.setter.specs.Whole.{none-left}
+use native.Mathlib.Omega.{arith}
+use lib.ListN.{length}
 use Rattle.setter.proofs.set_elements.Statement.{statement}
 use Rattle.setter.proofs.set_elements.Tie as tie
 
-abbrev start : tie.After-set-lists → tie.Start
-start f = f .before .before .before .before .before .before .before .before .before .before .before .before .before .before .before .before .before .before .before .before .before .before .before .before .before .before
+within : (t : List ℕ) {e most : ℕ} → length t ≡ most → e ≤ most → e ≤ length t
+within t f h = omega arith
 
--- the job, by the left kinds and counts of its elements
-abbrev job : tie.Start → List ℕ → List ℕ → Job
-job a lkind eleft =
-    let x = a .args in
-    jobOf (x .em) (x .measure) usualLists 0 (x .class .now) (x .width .now) (x .before .now) (x .after .now) (x .flag .now) (x .rclass .now) (x .rwidth .now) [] []
-    (part 0 (x .e) (x .elem .now)) (part 1024 (1024 + x .e) (x .elem .now)) (part 2048 (2048 + x .e) (x .elem .now)) lkind eleft (part 0 (x .u) (x .runs .now)) []
+add-l1 : tie.Need-add-l1
+add-l1 c = search needs
 
 add-e1 : tie.Need-add-e1
 add-e1 c = search needs
 
 add-e2 : tie.Need-add-e2
 add-e2 c = search needs
+
+add-e3 : tie.Need-add-e3
+add-e3 c = search needs
+
+add-e4 : tie.Need-add-e4
+add-e4 c = search needs
 
 sub-set-lists : tie.Need-sub-set-lists
 sub-set-lists c = search needs
@@ -79,6 +80,34 @@ part-set-lists-start-6 c = search needs
 part-set-lists-end-6 : tie.Need-part-set-lists-end-6
 part-set-lists-end-6 c = search needs
 
+sub-set-lists-7 : tie.Need-sub-set-lists-7
+sub-set-lists-7 c = search needs
+
+part-set-lists-start-7 : tie.Need-part-set-lists-start-7
+part-set-lists-start-7 c = search needs
+
+part-set-lists-end-7 : tie.Need-part-set-lists-end-7
+part-set-lists-end-7 c = search needs
+
+sub-set-lists-8 : tie.Need-sub-set-lists-8
+sub-set-lists-8 c = search needs
+
+part-set-lists-start-8 : tie.Need-part-set-lists-start-8
+part-set-lists-start-8 c = search needs
+
+part-set-lists-end-8 : tie.Need-part-set-lists-end-8
+part-set-lists-end-8 c = search needs
+
+sub-set-lists-9 : tie.Need-sub-set-lists-9
+sub-set-lists-9 c = search needs
+
+part-set-lists-start-9 : tie.Need-part-set-lists-start-9
+part-set-lists-start-9 c = search needs
+
+part-set-lists-end-9 : tie.Need-part-set-lists-end-9
+part-set-lists-end-9 c = let a = c .before .before .before .before .before .before .before .before .before .before .before .before .before .before .before .before .before .before .before
+    .before .before .before .before .before in within (a .args .lruns .now) (a .pre .0 .longLruns) (a .pre .0 .fewLruns)
+
 set-lists-requires : tie.Need-set-lists-requires
 set-lists-requires c κs = search needs
 
@@ -94,18 +123,21 @@ same-length-3 c = search needs
 same-length-4 : tie.Need-same-length-4
 same-length-4 c = search needs
 
+same-length-5 : tie.Need-same-length-5
+same-length-5 c = search needs
+
 returns : tie.Need-returns
-returns c =
-    let f = c .before .before .before .before .before .before .before .before in
-    let a = start f in
-    none-left (job a) (a .args .e) (a .pre .elements) (f .set-lists .ensures)
+returns c = c .before .before .before .before .before .before .before .before .before .before .set-lists .ensures
 
 pub set-elements-spec : {M : Type 1} → statement M
 set-elements-spec =
     tie.close
     (tie.spec
+    add-l1
     add-e1
     add-e2
+    add-e3
+    add-e4
     sub-set-lists
     part-set-lists-start
     part-set-lists-end
@@ -124,9 +156,19 @@ set-elements-spec =
     sub-set-lists-6
     part-set-lists-start-6
     part-set-lists-end-6
+    sub-set-lists-7
+    part-set-lists-start-7
+    part-set-lists-end-7
+    sub-set-lists-8
+    part-set-lists-start-8
+    part-set-lists-end-8
+    sub-set-lists-9
+    part-set-lists-start-9
+    part-set-lists-end-9
     set-lists-requires
     same-length
     same-length-2
     same-length-3
     same-length-4
+    same-length-5
     returns)

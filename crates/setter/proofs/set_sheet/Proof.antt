@@ -1,10 +1,31 @@
 -- The reading's answer decides. Where it is a refusal its text is written and no list has moved; where it is sound the tables hold the sheet's job, and what is told of that job is the answer.
-use Rattle.result.specs.Short.{refusal-short}
-use Rattle.setter.specs.Whole.{fits, answered-refused, tables-ready, answered-sound}
 use borrow.Author.Needs.{needs}
 use native.Mathlib.Omega.{arith}
+use Rattle.sheet.specs.Sheet.{tables}
+use Rattle.result.specs.Short.{refusal-short}
+use Rattle.setter.specs.Whole.{Lent, fits, answered-refused, tables-long, answered-sound}
 use Rattle.setter.proofs.set_sheet.Statement.{statement}
 use Rattle.setter.proofs.set_sheet.Tie as tie
+
+abbrev read : tie.After-set-tables-arg19 → tie.After-read-sheet
+read d = d .before .before .before .before .before .before .before .before .before .before .before .before .before .before .before .before .before .before .before .before .before .before
+
+abbrev counts : tie.After-set-tables-arg19 → tie.After-n
+counts d = d .before .before .before .before .before .before .before .before .before .before .before .before .before .before .before .before .before .before .before .before
+
+-- the tables are as long as they are lent, where the reading is sound
+lent : (d : tie.After-set-tables-arg19) → Lent (tables (read d .read-sheet .last .1 .0) (read d .read-sheet .last .1 .1 .0) (read d .read-sheet .last .1 .1 .1 .0)
+    (read d .read-sheet .last .1 .1 .1 .1 .0) (read d .read-sheet .last .1 .1 .1 .1 .1 .0) (read d .read-sheet .last .1 .1 .1 .1 .1 .1 .0) (read d .read-sheet .last .1 .1 .1 .1 .1 .1 .1 .0))
+lent d =
+    record {
+      nine = d .before .before .before .before .before .before .before .before .before .before .before .before .before .before .before .before .before .set-tables-arg2 .given .0;
+      longBase = d .before .before .before .before .before .before .before .before .before .before .before .before .before .before .before .set-tables-arg4 .given .0;
+      longRuby = d .before .before .before .before .before .before .before .before .before .before .before .before .before .set-tables-arg6 .given .0;
+      longLeft = d .before .before .before .before .before .before .before .before .before .before .before .set-tables-arg8 .given .0;
+      longElem = d .before .before .before .before .before .before .before .before .before .set-tables-arg10 .given .0;
+      longRuns = d .before .before .before .before .before .before .before .set-tables-arg12 .given .0;
+      longLruns = d .before .before .before .before .before .set-tables-arg14 .given .0;
+    }
 
 read-sheet-requires : tie.Need-read-sheet-requires
 read-sheet-requires c κs = search needs
@@ -19,9 +40,7 @@ enum-known-n : tie.Need-enum-known-n
 enum-known-n c = search needs
 
 set-tables-requires : tie.Need-set-tables-requires
-set-tables-requires c κs =
-    tables-ready (c .before .before .before .before .before .before .before .before .before .before .before .before .before .before .before .before .before .read-sheet .ensures) (c .before .before .before .before .before .before .before .before .before .before .before .before .before .before .before .n .given .1) (c .before .before .before .before .before .before .before .before .before .before .before .before .set-tables-arg2 .given .0) (c .before .before .before .before .before .before .before .before .before .before .set-tables-arg4 .given .0) (c .before .before .before .before .before .before .before .before .set-tables-arg6 .given .0) (c .before .before .before .before .before .before .set-tables-arg8 .given .0) (c .before .before .before .before .set-tables-arg10 .given .0)
-    (omega (arith, c .set-tables-arg14 .given .0 .1))
+set-tables-requires c κs = (tables-long (read c .read-sheet .ensures) (counts c .n .given .1) (lent c), omega (arith, c .set-tables-arg19 .given .0 .1))
 
 returns : tie.Need-returns
 returns c =
@@ -30,9 +49,10 @@ returns c =
 
 returns-2 : tie.Need-returns-2
 returns-2 c =
-    let a = answered-sound (c .before .before .before .before .before .before .before .before .before .before .before .before .before .before .before .before .before .before .read-sheet .ensures) (c .before .before .before .before .before .before .before .before .before .before .before .before .before .before .before .before .n .given .1) (c .before .before .before .before .before .before .before .before .before .before .before .before .before .set-tables-arg2 .given .0) (c .before .before .before .before .before .before .before .before .before .before .before .set-tables-arg4 .given .0) (c .before .before .before .before .before .before .before .before .before .set-tables-arg6 .given .0) (c .before .before .before .before .before .before .before .set-tables-arg8 .given .0) (c .before .before .before .before .before .set-tables-arg10 .given .0)
-    (c .before .before .before .before .set-tables-arg11 .given .0 .1) (c .before .before .before .set-tables-arg12 .given .0 .1) (c .before .before .set-tables-arg13 .given .0 .1) (c .set-tables .ensures) in
-    (a, fits a (c .before .set-tables-arg14 .given .0 .1))
+    let d = c .before in
+    let a = answered-sound (read d .read-sheet .ensures) (counts d .n .given .1) (lent d) (d .before .before .before .before .set-tables-arg15 .given .0 .1)
+    (d .before .before .before .set-tables-arg16 .given .0 .1) (d .before .before .set-tables-arg17 .given .0 .1) (d .before .set-tables-arg18 .given .0 .1) (c .set-tables .ensures) in
+    (a, fits a (d .set-tables-arg19 .given .0 .1))
 
 pub set-sheet-spec : {M : Type 1} → statement M
 set-sheet-spec =

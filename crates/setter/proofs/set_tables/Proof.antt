@@ -1,7 +1,19 @@
 -- The parts of the two tables of characters lie within them; the rest is the job with its elements in tables.
+use mathlib.Core.List.{List}
+use mathlib.Core.Path.{_≡_}
+use Prim.Native.Nat.{ℕ, _+_, _≤_}
 use borrow.Author.Needs.{needs}
+use native.Mathlib.Omega.{arith}
+use lib.ListN.{length}
 use Rattle.setter.proofs.set_tables.Statement.{statement}
 use Rattle.setter.proofs.set_tables.Tie as tie
+
+-- both columns of a table of two
+within : (t : List ℕ) (n : ℕ) → length t ≡ 4096 → n ≤ 2048 → (n ≤ length t) × (2048 + n ≤ length t)
+within t n f h = (omega arith, omega arith)
+
+rubies : (a : tie.Start) → (a .args .n .rubies ≤ length (a .args .ruby .now)) × (2048 + a .args .n .rubies ≤ length (a .args .ruby .now))
+rubies a = within (a .args .ruby .now) (a .args .n .rubies) (a .pre .0 .longRuby) (a .pre .0 .rubies)
 
 add-b1 : tie.Need-add-b1
 add-b1 c = search needs
@@ -23,6 +35,27 @@ shared-slice-read-set-elements c = search needs
 
 shared-slice-read-set-elements-2 : tie.Need-shared-slice-read-set-elements-2
 shared-slice-read-set-elements-2 c = search needs
+
+shared-slice-read-t26 : tie.Need-shared-slice-read-t26
+shared-slice-read-t26 c = search needs
+
+shared-slice-read-t28 : tie.Need-shared-slice-read-t28
+shared-slice-read-t28 c = search needs
+
+shared-slice-read-t30 : tie.Need-shared-slice-read-t30
+shared-slice-read-t30 c = search needs
+
+shared-slice-read-t33 : tie.Need-shared-slice-read-t33
+shared-slice-read-t33 c = search needs
+
+shared-slice-read-t35 : tie.Need-shared-slice-read-t35
+shared-slice-read-t35 c = search needs
+
+shared-slice-read-t37 : tie.Need-shared-slice-read-t37
+shared-slice-read-t37 c = search needs
+
+shared-slice-read-set-elements-3 : tie.Need-shared-slice-read-set-elements-3
+shared-slice-read-set-elements-3 c = search needs
 
 sub-set-elements : tie.Need-sub-set-elements
 sub-set-elements c = search needs
@@ -76,7 +109,9 @@ part-set-elements-start-6 : tie.Need-part-set-elements-start-6
 part-set-elements-start-6 c = search needs
 
 part-set-elements-end-6 : tie.Need-part-set-elements-end-6
-part-set-elements-end-6 c = search needs
+part-set-elements-end-6 c = rubies
+    (c .before .before .before .before .before .before .before .before .before .before .before .before .before .before .before .before .before .before .before .before .before .before
+    .before .before .before .before) .0
 
 sub-set-elements-7 : tie.Need-sub-set-elements-7
 sub-set-elements-7 c = search needs
@@ -85,7 +120,9 @@ part-set-elements-start-7 : tie.Need-part-set-elements-start-7
 part-set-elements-start-7 c = search needs
 
 part-set-elements-end-7 : tie.Need-part-set-elements-end-7
-part-set-elements-end-7 c = search needs
+part-set-elements-end-7 c = rubies
+    (c .before .before .before .before .before .before .before .before .before .before .before .before .before .before .before .before .before .before .before .before .before .before
+    .before .before .before .before .before) .1
 
 set-elements-requires : tie.Need-set-elements-requires
 set-elements-requires c κs = search needs
@@ -102,8 +139,11 @@ same-length-3 c = search needs
 same-length-4 : tie.Need-same-length-4
 same-length-4 c = search needs
 
+same-length-5 : tie.Need-same-length-5
+same-length-5 c = search needs
+
 returns : tie.Need-returns
-returns c = c .before .before .before .before .before .before .before .before .set-elements .ensures
+returns c = c .before .before .before .before .before .before .before .before .before .before .set-elements .ensures
 
 pub set-tables-spec : {M : Type 1} → statement M
 set-tables-spec =
@@ -116,6 +156,13 @@ set-tables-spec =
     add-r1
     shared-slice-read-set-elements
     shared-slice-read-set-elements-2
+    shared-slice-read-t26
+    shared-slice-read-t28
+    shared-slice-read-t30
+    shared-slice-read-t33
+    shared-slice-read-t35
+    shared-slice-read-t37
+    shared-slice-read-set-elements-3
     sub-set-elements
     part-set-elements-start
     part-set-elements-end
@@ -142,4 +189,5 @@ set-tables-spec =
     same-length-2
     same-length-3
     same-length-4
+    same-length-5
     returns)

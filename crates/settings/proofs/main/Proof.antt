@@ -6,12 +6,12 @@ use Rattle.settings.proofs.main.Statement.{statement}
 use Rattle.settings.proofs.main.Tie as tie
 
 abbrev Inv-loop : tie.InvT-loop
-Inv-loop text₀ set₀ base₀ ruby₀ elem₀ runs₀ bases₀ rubies₀ lines₀ out₀ left₀ text set base ruby elem runs bases rubies lines out left =
-    left ≤ 1000000
+Inv-loop text₀ set₀ base₀ ruby₀ left₀ elem₀ runs₀ lruns₀ bases₀ rubies₀ lefts₀ lines₀ out₀ rest₀ text set base ruby left elem runs lruns bases rubies lefts lines out rest =
+    rest ≤ 1000000
 
 abbrev μ-loop : tie.MeasureT-loop
-μ-loop text₀ set₀ base₀ ruby₀ elem₀ runs₀ bases₀ rubies₀ lines₀ out₀ left₀ text set base ruby elem runs bases rubies lines out left =
-    left
+μ-loop text₀ set₀ base₀ ruby₀ left₀ elem₀ runs₀ lruns₀ bases₀ rubies₀ lefts₀ lines₀ out₀ rest₀ text set base ruby left elem runs lruns bases rubies lefts lines out rest =
+    rest
 
 loop-holds : tie.Need-loop-holds Inv-loop μ-loop
 loop-holds c = search needs
@@ -19,8 +19,8 @@ loop-holds c = search needs
 answer-one-requires : tie.Need-answer-one-requires Inv-loop μ-loop
 answer-one-requires c κs = search needs
 
-sub-left : tie.Need-sub-left Inv-loop μ-loop
-sub-left c = search needs
+sub-rest : tie.Need-sub-rest Inv-loop μ-loop
+sub-rest c = search needs
 
 loop-less : tie.Need-loop-less Inv-loop μ-loop
 loop-less c = search needs
@@ -45,7 +45,7 @@ main-spec =
     μ-loop
     loop-holds
     answer-one-requires
-    sub-left
+    sub-rest
     loop-less
     loop-again
     loop-less-2

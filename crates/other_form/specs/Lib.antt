@@ -1,0 +1,13 @@
+pub mod Other
+pub mod Bytes
+pub mod Lines
+pub mod Text
+pub mod Steps
+pub mod Known
+pub mod Parts
+pub mod Ready
+pub mod Joined
+pub mod Fault
+pub mod First
+pub mod Back
+pub mod Short
