@@ -1,4 +1,5 @@
 pub mod Answer
+pub mod Seen
 pub mod Tell
 pub mod Needs
 pub mod Whole

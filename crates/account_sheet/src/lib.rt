@@ -3,10 +3,14 @@
 // what a declined line needs, and on `account_text` for the text.
 ghost use Prim.Native.Nat.{_≤_};
 ghost use lib.ListN.{length};
+ghost use Rattle.basics.specs.Seen.{was};
+ghost use Rattle.sheet.specs.Seen.{tablesNow, tablesWas};
+ghost use Rattle.setter.specs.Seen.{elementsWas};
+ghost use Rattle.account_sheet.specs.Seen.{listsNow, listsWas};
+ghost use Rattle.door.specs.Seen.{jobNow, jobWas};
 ghost use Rattle.text.specs.Print.{Wrote};
-ghost use Rattle.door.specs.Job.{jobOf};
 ghost use Rattle.sheet.specs.Sheet.{tables};
-ghost use Rattle.setter.specs.Answer.{ElementsLong, TablesLong, elementsJob, tablesJob, Fits};
+ghost use Rattle.setter.specs.Answer.{ElementsLong, TablesLong, tablesJob, Fits};
 ghost use Rattle.account_text.specs.Short.{longest};
 ghost use Rattle.account_sheet.specs.Answer.{declinedText, Declined, lists, Told, Answered};
 
@@ -36,8 +40,8 @@ fn write_declined(
     lruns: &[u32],
     out: &mut [u8],
 ) -> usize
-    requires { let job = jobOf em measure ratios profile (now class) (now width) (now before) (now after) (now flag) (now rclass) (now rwidth) (now lclass) (now lwidth) (now kind) (now ebase) (now eruby) (now lkind) (now eleft) (now runs) (now lruns) in ⌜ Declined job why (now out) ⌝ }
-    ensures { λ r. let job = jobOf em measure ratios profile (now (class .entry)) (now (width .entry)) (now (before .entry)) (now (after .entry)) (now (flag .entry)) (now (rclass .entry)) (now (rwidth .entry)) (now (lclass .entry)) (now (lwidth .entry)) (now (kind .entry)) (now (ebase .entry)) (now (eruby .entry)) (now (lkind .entry)) (now (eleft .entry)) (now (runs .entry)) (now (lruns .entry)) in ⌜ Wrote (now (out .entry)) 0 (declinedText job why) r (now (out .exit)) ⌝ }
+    requires { let job = jobNow em measure ratios profile class width before after flag rclass rwidth lclass lwidth kind ebase eruby lkind eleft runs lruns in ⌜ Declined job why (now out) ⌝ }
+    ensures { λ r. let job = jobWas em measure ratios profile class width before after flag rclass rwidth lclass lwidth kind ebase eruby lkind eleft runs lruns in ⌜ Wrote (was out) 0 (declinedText job why) r (now (out .exit)) ⌝ }
 {
     let at = result::write_refusal(why, out);
     if refusal::number(why) != 11 {
@@ -102,7 +106,7 @@ fn tell_lists(
     out: &mut [u8],
 ) -> usize
     requires { ⌜ longest ≤ length (now out) ⌝ }
-    ensures { λ r. let job = jobOf em measure ratios profile (now (class .entry)) (now (width .entry)) (now (before .entry)) (now (after .entry)) (now (flag .entry)) (now (rclass .entry)) (now (rwidth .entry)) (now (lclass .entry)) (now (lwidth .entry)) (now (kind .entry)) (now (ebase .entry)) (now (eruby .entry)) (now (lkind .entry)) (now (eleft .entry)) (now (runs .entry)) (now (lruns .entry)) in ⌜ Told job (lists (now (rows .entry)) (now (told .entry)) (now (extents .entry))) (now (out .entry)) r (lists (now (rows .exit)) (now (told .exit)) (now (extents .exit))) (now (out .exit)) ⌝ }
+    ensures { λ r. let job = jobWas em measure ratios profile class width before after flag rclass rwidth lclass lwidth kind ebase eruby lkind eleft runs lruns in ⌜ Told job (listsWas rows told extents) (was out) r (listsNow (rows .exit) (told .exit) (extents .exit)) (now (out .exit)) ⌝ }
 {
     match job_account::account_job(
         em,
@@ -186,7 +190,7 @@ fn tell_elements(
 ) -> usize
     requires { ⌜ ElementsLong n (now left) (now elem) (now runs) (now lruns) ⌝ }
     requires { ⌜ longest ≤ length (now out) ⌝ }
-    ensures { λ r. let job = elementsJob em measure ratios profile (now (class .entry)) (now (width .entry)) (now (before .entry)) (now (after .entry)) (now (flag .entry)) (now (rclass .entry)) (now (rwidth .entry)) n (now (left .entry)) (now (elem .entry)) (now (runs .entry)) (now (lruns .entry)) in ⌜ Told job (lists (now (rows .entry)) (now (told .entry)) (now (extents .entry))) (now (out .entry)) r (lists (now (rows .exit)) (now (told .exit)) (now (extents .exit))) (now (out .exit)) ⌝ }
+    ensures { λ r. let job = elementsWas em measure ratios profile class width before after flag rclass rwidth n left elem runs lruns in ⌜ Told job (listsWas rows told extents) (was out) r (listsNow (rows .exit) (told .exit) (extents .exit)) (now (out .exit)) ⌝ }
 {
     let l = n.lefts;
     let l1 = 2048 + l;
@@ -240,9 +244,9 @@ fn tell_tables(
     extents: &mut [u32],
     out: &mut [u8],
 ) -> usize
-    requires { ⌜ TablesLong n (tables (now set) (now base) (now ruby) (now left) (now elem) (now runs) (now lruns)) ⌝ }
+    requires { ⌜ TablesLong n (tablesNow set base ruby left elem runs lruns) ⌝ }
     requires { ⌜ longest ≤ length (now out) ⌝ }
-    ensures { λ r. let job = tablesJob n (tables (now (set .entry)) (now (base .entry)) (now (ruby .entry)) (now (left .entry)) (now (elem .entry)) (now (runs .entry)) (now (lruns .entry))) in ⌜ Told job (lists (now (rows .entry)) (now (told .entry)) (now (extents .entry))) (now (out .entry)) r (lists (now (rows .exit)) (now (told .exit)) (now (extents .exit))) (now (out .exit)) ⌝ }
+    ensures { λ r. let job = tablesJob n (tablesWas set base ruby left elem runs lruns) in ⌜ Told job (listsWas rows told extents) (was out) r (listsNow (rows .exit) (told .exit) (extents .exit)) (now (out .exit)) ⌝ }
 {
     let b = n.bases;
     let b1 = 1024 + b;
@@ -290,7 +294,7 @@ pub fn account_sheet(
     extents: &mut [u32; 1024],
     out: &mut [u8; 131072],
 ) -> usize
-    ensures { λ r. ⌜ Answered (now (s .entry)) (tables (now (set .entry)) (now (base .entry)) (now (ruby .entry)) (now (left .entry)) (now (elem .entry)) (now (runs .entry)) (now (lruns .entry))) (lists (now (rows .entry)) (now (told .entry)) (now (extents .entry))) (now (out .entry)) r (tables (now (set .exit)) (now (base .exit)) (now (ruby .exit)) (now (left .exit)) (now (elem .exit)) (now (runs .exit)) (now (lruns .exit))) (lists (now (rows .exit)) (now (told .exit)) (now (extents .exit))) (now (out .exit)) ⌝ }
+    ensures { λ r. ⌜ Answered (was s) (tablesWas set base ruby left elem runs lruns) (listsWas rows told extents) (was out) r (tablesNow (set .exit) (base .exit) (ruby .exit) (left .exit) (elem .exit) (runs .exit) (lruns .exit)) (listsNow (rows .exit) (told .exit) (extents .exit)) (now (out .exit)) ⌝ }
     ensures { λ r. ⌜ Fits r (now (out .exit)) ⌝ }
 {
     match sheet::read_sheet(s, set, base, ruby, left, elem, runs, lruns) {

@@ -3,6 +3,8 @@
 // `setter` for the job's own refusal, and on `result` for the text of a refusal.
 ghost use Prim.Native.Nat.{_≤_};
 ghost use lib.ListN.{length};
+ghost use Rattle.basics.specs.Seen.{was};
+ghost use Rattle.sheet.specs.Seen.{tablesNow, tablesWas};
 ghost use Rattle.text.specs.Print.{Wrote};
 ghost use Rattle.sheet.specs.Sheet.{tables};
 ghost use Rattle.result.specs.Short.{longest};
@@ -21,9 +23,9 @@ fn judge(
     lruns: &[u32],
     told: &mut [u8],
 ) -> usize
-    requires { ⌜ TablesLong n (tables (now set) (now base) (now ruby) (now left) (now elem) (now runs) (now lruns)) ⌝ }
+    requires { ⌜ TablesLong n (tablesNow set base ruby left elem runs lruns) ⌝ }
     requires { ⌜ longest ≤ length (now told) ⌝ }
-    ensures { λ r. let job = tablesJob n (tables (now (set .entry)) (now (base .entry)) (now (ruby .entry)) (now (left .entry)) (now (elem .entry)) (now (runs .entry)) (now (lruns .entry))) in ⌜ Judged job (now (told .entry)) r (now (told .exit)) ⌝ }
+    ensures { λ r. let job = tablesJob n (tablesWas set base ruby left elem runs lruns) in ⌜ Judged job (was told) r (now (told .exit)) ⌝ }
 {
     let mut bases = [0; 1024];
     let mut rubies = [0; 2048];
@@ -59,8 +61,8 @@ fn write_judged(
     lruns: &[u32],
     out: &mut [u8],
 ) -> usize
-    requires { ⌜ HoldsReady (now s) n (tables (now set) (now base) (now ruby) (now left) (now elem) (now runs) (now lruns)) (now out) ⌝ }
-    ensures { λ r. ⌜ Wrote (now (out .entry)) 0 (convertText (now (s .entry))) r (now (out .exit)) ⌝ }
+    requires { ⌜ HoldsReady (now s) n (tablesNow set base ruby left elem runs lruns) (now out) ⌝ }
+    ensures { λ r. ⌜ Wrote (was out) 0 (convertText (was s)) r (now (out .exit)) ⌝ }
 {
     let mut told = [0; 131072];
     let r = judge(n, set, base, ruby, left, elem, runs, lruns, &mut told);
@@ -83,8 +85,8 @@ fn convert_tables(
     lruns: &[u32],
     out: &mut [u8],
 ) -> usize
-    requires { ⌜ TablesHold (now s) n (tables (now set) (now base) (now ruby) (now left) (now elem) (now runs) (now lruns)) (now out) ⌝ }
-    ensures { λ r. ⌜ Wrote (now (out .entry)) 0 (convertText (now (s .entry))) r (now (out .exit)) ⌝ }
+    requires { ⌜ TablesHold (now s) n (tablesNow set base ruby left elem runs lruns) (now out) ⌝ }
+    ensures { λ r. ⌜ Wrote (was out) 0 (convertText (was s)) r (now (out .exit)) ⌝ }
 {
     let line = other_form::fault_line(n, set, elem);
     if line != 0 {
@@ -105,7 +107,7 @@ pub fn convert(
     lruns: &mut [u32; 32768],
     out: &mut [u8; 65535],
 ) -> usize
-    ensures { λ r. ⌜ Converted (now (s .entry)) (tables (now (set .entry)) (now (base .entry)) (now (ruby .entry)) (now (left .entry)) (now (elem .entry)) (now (runs .entry)) (now (lruns .entry))) (now (out .entry)) r (tables (now (set .exit)) (now (base .exit)) (now (ruby .exit)) (now (left .exit)) (now (elem .exit)) (now (runs .exit)) (now (lruns .exit))) (now (out .exit)) ⌝ }
+    ensures { λ r. ⌜ Converted (was s) (tablesWas set base ruby left elem runs lruns) (was out) r (tablesNow (set .exit) (base .exit) (ruby .exit) (left .exit) (elem .exit) (runs .exit) (lruns .exit)) (now (out .exit)) ⌝ }
     ensures { λ r. ⌜ Fits r (now (out .exit)) ⌝ }
 {
     match sheet::read_sheet(s, set, base, ruby, left, elem, runs, lruns) {

@@ -8,6 +8,7 @@ ghost use mathlib.Core.List.{[]};
 ghost use Prim.Native.Nat.{_+_, _%_, _^_, _≤_, _<_, min};
 ghost use lib.Dec.{ltb, eqb};
 ghost use lib.ListN.{length, getD};
+ghost use Rattle.basics.specs.Seen.{was};
 ghost use Rattle.basics.specs.Lists.{each, count};
 ghost use Rattle.spread.specs.Ratio.{ratioOf, ratiosOf, Housed};
 ghost use Rattle.class.specs.Class.{accepted, blankBefore, blankAfter};
@@ -307,7 +308,7 @@ fn check_bases(
     flag: &[u32],
 ) -> Checked
     requires { ⌜ BaseHolds n (now class) (now width) (now before) (now after) (now flag) ⌝ }
-    ensures { λ r. ⌜ r ≡ verdict (each (baseFaults (basesOnly (now (class .entry)) (now (width .entry)) (now (before .entry)) (now (after .entry)) (now (flag .entry)))) (count 0 n)) ⌝ }
+    ensures { λ r. ⌜ r ≡ verdict (each (baseFaults (basesOnly (was class) (was width) (was before) (was after) (was flag))) (count 0 n)) ⌝ }
 {
     let mut i: usize = 0;
     while i < n {
@@ -333,7 +334,7 @@ fn check_reading(place: u32, class: u32, width: u32) -> Checked
 // The characters of one side's readings in turn; the first has the place `first`.
 fn check_readings(first: u32, n: usize, class: &[u32], width: &[u32]) -> Checked
     requires { ⌜ (first ≤ 3072) × ReadingHolds n (now class) (now width) ⌝ }
-    ensures { λ r. ⌜ r ≡ verdict (each (readingFaults first (now (class .entry)) (now (width .entry))) (count 0 n)) ⌝ }
+    ensures { λ r. ⌜ r ≡ verdict (each (readingFaults first (was class) (was width)) (count 0 n)) ⌝ }
 {
     let mut i: usize = 0;
     while i < n {
@@ -408,7 +409,7 @@ pub fn left_of(kind: u32) -> word::Left
 
 // "A J run past the end of its list reads as 0."
 fn run_at(i: usize, runs: &[u32]) -> u32
-    ensures { λ r. ⌜ r ≡ getD (now (runs .entry)) i 0 ⌝ }
+    ensures { λ r. ⌜ r ≡ getD (was runs) i 0 ⌝ }
 {
     if i < runs.len() { runs[i] } else { 0 }
 }
@@ -416,7 +417,7 @@ fn run_at(i: usize, runs: &[u32]) -> u32
 // The n runs of a J, or of a left reading, from the u-th on: each at least 1, at most 64 in all.
 fn runs_from(u: usize, n: usize, runs: &[u32]) -> Runs
     requires { ⌜ (u ≤ 1024) × (n ≤ 32) ⌝ }
-    ensures { λ r. ⌜ r ≡ runsFrom (now (runs .entry)) u n ⌝ }
+    ensures { λ r. ⌜ r ≡ runsFrom (was runs) u n ⌝ }
 {
     let mut taken: usize = 0;
     let mut j: usize = 0;
@@ -477,7 +478,7 @@ fn count_group(base: u32, ruby: u32, at: Taken) -> Counted
 
 fn count_jukugo(base: u32, at: Taken, runs: &[u32]) -> Counted
     requires { ⌜ at .run ≤ 1024 ⌝ }
-    ensures { λ c. ⌜ c ≡ rightAs form.J base 0 (now (runs .entry)) at ⌝ }
+    ensures { λ c. ⌜ c ≡ rightAs form.J base 0 (was runs) at ⌝ }
 {
     if is_outside(1, ELEMENT_BASES, base) {
         return Counted::Out;
@@ -491,7 +492,7 @@ fn count_jukugo(base: u32, at: Taken, runs: &[u32]) -> Counted
 // Number 5 but for a left reading: an element by its kind and counts, behind what those before it have taken. Counts that its kind does not show are not read.
 pub fn count_right(kind: u32, base: u32, ruby: u32, at: Taken, runs: &[u32]) -> Counted
     requires { ⌜ at .run ≤ 1024 ⌝ }
-    ensures { λ c. ⌜ c ≡ rightBy kind base ruby (now (runs .entry)) at ⌝ }
+    ensures { λ c. ⌜ c ≡ rightBy kind base ruby (was runs) at ⌝ }
 {
     if !is_known(kind) {
         return Counted::Out;
@@ -570,7 +571,7 @@ fn with_left(p: Piece, gloss: word::Left, lefts: usize) -> Piece
 // Number 5 of an element's left reading, by its kind and counts, "as for right ones".
 fn count_left(p: Piece, kind: u32, left: u32, runs: &[u32]) -> Counted
     requires { ⌜ (p .leftrun ≤ 1024) × (p .bases ≤ 32) ⌝ }
-    ensures { λ c. ⌜ c ≡ glossedBy p kind left (now (runs .entry)) ⌝ }
+    ensures { λ c. ⌜ c ≡ glossedBy p kind left (was runs) ⌝ }
 {
     if !is_known_left(kind) {
         return Counted::Out;
@@ -604,7 +605,7 @@ pub fn count_element(
     lruns: &[u32],
 ) -> Counted
     requires { ⌜ (at .run ≤ 1024) × (at .leftrun ≤ 1024) ⌝ }
-    ensures { λ c. ⌜ c ≡ countedBy kind base ruby lkind left (now (runs .entry)) (now (lruns .entry)) at ⌝ }
+    ensures { λ c. ⌜ c ≡ countedBy kind base ruby lkind left (was runs) (was lruns) at ⌝ }
 {
     let counted = count_right(kind, base, ruby, at, runs);
     if lkind == LEFT_NONE {
@@ -719,20 +720,20 @@ pub fn base_count(
     after: &[u32],
     flag: &[u32],
 ) -> usize
-    ensures { λ n. ⌜ n ≡ min (length (now (class .entry))) (min (length (now (width .entry))) (min (length (now (before .entry))) (min (length (now (after .entry))) (length (now (flag .entry)))))) ⌝ }
+    ensures { λ n. ⌜ n ≡ min (length (was class)) (min (length (was width)) (min (length (was before)) (min (length (was after)) (length (was flag))))) ⌝ }
 {
     let blanks = fewer(before.len(), fewer(after.len(), flag.len()));
     fewer(class.len(), fewer(width.len(), blanks))
 }
 
 pub fn ruby_count(rclass: &[u32], rwidth: &[u32]) -> usize
-    ensures { λ n. ⌜ n ≡ min (length (now (rclass .entry))) (length (now (rwidth .entry))) ⌝ }
+    ensures { λ n. ⌜ n ≡ min (length (was rclass)) (length (was rwidth)) ⌝ }
 {
     fewer(rclass.len(), rwidth.len())
 }
 
 pub fn left_count(lclass: &[u32], lwidth: &[u32]) -> usize
-    ensures { λ n. ⌜ n ≡ min (length (now (lclass .entry))) (length (now (lwidth .entry))) ⌝ }
+    ensures { λ n. ⌜ n ≡ min (length (was lclass)) (length (was lwidth)) ⌝ }
 {
     fewer(lclass.len(), lwidth.len())
 }
@@ -744,7 +745,7 @@ pub fn element_count(
     lkind: &[u32],
     eleft: &[u32],
 ) -> usize
-    ensures { λ n. ⌜ n ≡ min (length (now (kind .entry))) (min (length (now (ebase .entry))) (min (length (now (eruby .entry))) (min (length (now (lkind .entry))) (length (now (eleft .entry)))))) ⌝ }
+    ensures { λ n. ⌜ n ≡ min (length (was kind)) (min (length (was ebase)) (min (length (was eruby)) (min (length (was lkind)) (length (was eleft))))) ⌝ }
 {
     let counts = fewer(eruby.len(), fewer(lkind.len(), eleft.len()));
     fewer(kind.len(), fewer(ebase.len(), counts))
@@ -776,7 +777,7 @@ pub fn check_characters(
     left: usize,
     lines: usize,
 ) -> Checked
-    ensures { λ c. let job = jobOf em measure ratios profile (now (class .entry)) (now (width .entry)) (now (before .entry)) (now (after .entry)) (now (flag .entry)) (now (rclass .entry)) (now (rwidth .entry)) (now (lclass .entry)) (now (lwidth .entry)) (now (kind .entry)) (now (ebase .entry)) (now (eruby .entry)) (now (lkind .entry)) (now (eleft .entry)) [] [] in ⌜ c ≡ verdict (ahead job base ruby left lines) ⌝ }
+    ensures { λ c. let job = jobOf em measure ratios profile (was class) (was width) (was before) (was after) (was flag) (was rclass) (was rwidth) (was lclass) (was lwidth) (was kind) (was ebase) (was eruby) (was lkind) (was eleft) [] [] in ⌜ c ≡ verdict (ahead job base ruby left lines) ⌝ }
 {
     let house = check_house(em, measure, ratios, profile);
     let Checked::Passed = house else {

@@ -3,8 +3,11 @@
 // written, so that a refusal leaves every result list as it was. It relies on `door`, `layout`, `filling` and `positions`, and on `job` for what the answer means.
 ghost use mathlib.Core.Path.{_≡_};
 ghost use lib.ListN.{length};
-ghost use Rattle.door.specs.Job.{jobOf, leftCount};
-ghost use Rattle.job.specs.Outcome.{Outcome, outcome};
+ghost use Rattle.basics.specs.Seen.{was};
+ghost use Rattle.engine.specs.Seen.{leaves};
+ghost use Rattle.door.specs.Seen.{jobNow, jobWas};
+ghost use Rattle.door.specs.Job.{leftCount};
+ghost use Rattle.job.specs.Outcome.{outcome};
 ghost use Rattle.engine.specs.Filled.{Room, Fills, Keeps};
 
 // The job's table, and the ends and extents of its lines, at the front of lent lists; or the first refusal of all. `base`, `ruby`, `left` and `lines` are the lengths
@@ -38,8 +41,8 @@ pub fn fill_job(
     left: usize,
     lines: usize,
 ) -> filling::Lines
-    requires { let job = jobOf em measure ratios profile (now class) (now width) (now before) (now after) (now flag) (now rclass) (now rwidth) (now lclass) (now lwidth) (now kind) (now ebase) (now eruby) (now lkind) (now eleft) (now runs) (now lruns) in ⌜ Room job (now t) (now ends) (now extents) ⌝ }
-    ensures { λ a. let job = jobOf em measure ratios profile (now (class .entry)) (now (width .entry)) (now (before .entry)) (now (after .entry)) (now (flag .entry)) (now (rclass .entry)) (now (rwidth .entry)) (now (lclass .entry)) (now (lwidth .entry)) (now (kind .entry)) (now (ebase .entry)) (now (eruby .entry)) (now (lkind .entry)) (now (eleft .entry)) (now (runs .entry)) (now (lruns .entry)) in ⌜ Fills job base ruby left lines (now (extents .entry)) (now (t .exit)) (now (ends .exit)) (now (extents .exit)) a ⌝ }
+    requires { let job = jobNow em measure ratios profile class width before after flag rclass rwidth lclass lwidth kind ebase eruby lkind eleft runs lruns in ⌜ Room job (now t) (now ends) (now extents) ⌝ }
+    ensures { λ a. let job = jobWas em measure ratios profile class width before after flag rclass rwidth lclass lwidth kind ebase eruby lkind eleft runs lruns in ⌜ Fills job base ruby left lines (was extents) (now (t .exit)) (now (ends .exit)) (now (extents .exit)) a ⌝ }
 {
     match door::check_characters(
         em,
@@ -127,9 +130,9 @@ pub fn set_table(
     left: &mut [u32],
     lines: &mut [u32],
 ) -> job::Answer
-    requires { let job = jobOf em measure ratios profile (now class) (now width) (now before) (now after) (now flag) (now rclass) (now rwidth) (now lclass) (now lwidth) (now kind) (now ebase) (now eruby) (now lkind) (now eleft) (now runs) (now lruns) in ⌜ Room job (now t) (now ends) (now extents) ⌝ }
-    ensures { λ r. let job = jobOf em measure ratios profile (now (class .entry)) (now (width .entry)) (now (before .entry)) (now (after .entry)) (now (flag .entry)) (now (rclass .entry)) (now (rwidth .entry)) (now (lclass .entry)) (now (lwidth .entry)) (now (kind .entry)) (now (ebase .entry)) (now (eruby .entry)) (now (lkind .entry)) (now (eleft .entry)) (now (runs .entry)) (now (lruns .entry)) in ⌜ _≡_ {A = Outcome} (record { answer = r; base = now (base .exit); ruby = now (ruby .exit); left = now (left .exit); lines = now (lines .exit) }) (outcome job (now (base .entry)) (now (ruby .entry)) (now (left .entry)) (now (lines .entry))) ⌝ }
-    ensures { λ r. let job = jobOf em measure ratios profile (now (class .entry)) (now (width .entry)) (now (before .entry)) (now (after .entry)) (now (flag .entry)) (now (rclass .entry)) (now (rwidth .entry)) (now (lclass .entry)) (now (lwidth .entry)) (now (kind .entry)) (now (ebase .entry)) (now (eruby .entry)) (now (lkind .entry)) (now (eleft .entry)) (now (runs .entry)) (now (lruns .entry)) in ⌜ Keeps job (length (now (base .entry))) (length (now (ruby .entry))) (length (now (left .entry))) (length (now (lines .entry))) (now (extents .entry)) (now (t .exit)) (now (ends .exit)) (now (extents .exit)) r ⌝ }
+    requires { let job = jobNow em measure ratios profile class width before after flag rclass rwidth lclass lwidth kind ebase eruby lkind eleft runs lruns in ⌜ Room job (now t) (now ends) (now extents) ⌝ }
+    ensures { λ r. let job = jobWas em measure ratios profile class width before after flag rclass rwidth lclass lwidth kind ebase eruby lkind eleft runs lruns in ⌜ leaves r (base .exit) (ruby .exit) (left .exit) (lines .exit) ≡ outcome job (was base) (was ruby) (was left) (was lines) ⌝ }
+    ensures { λ r. let job = jobWas em measure ratios profile class width before after flag rclass rwidth lclass lwidth kind ebase eruby lkind eleft runs lruns in ⌜ Keeps job (length (was base)) (length (was ruby)) (length (was left)) (length (was lines)) (was extents) (now (t .exit)) (now (ends .exit)) (now (extents .exit)) r ⌝ }
 {
     match fill_job(
         t,
@@ -196,7 +199,7 @@ fn set_sides(
     left: &mut [u32],
     lines: &mut [u32],
 ) -> job::Answer
-    ensures { λ r. ⌜ _≡_ {A = Outcome} (record { answer = r; base = now (base .exit); ruby = now (ruby .exit); left = now (left .exit); lines = now (lines .exit) }) (outcome (jobOf em measure ratios profile (now (class .entry)) (now (width .entry)) (now (before .entry)) (now (after .entry)) (now (flag .entry)) (now (rclass .entry)) (now (rwidth .entry)) (now (lclass .entry)) (now (lwidth .entry)) (now (kind .entry)) (now (ebase .entry)) (now (eruby .entry)) (now (lkind .entry)) (now (eleft .entry)) (now (runs .entry)) (now (lruns .entry))) (now (base .entry)) (now (ruby .entry)) (now (left .entry)) (now (lines .entry))) ⌝ }
+    ensures { λ r. let job = jobWas em measure ratios profile class width before after flag rclass rwidth lclass lwidth kind ebase eruby lkind eleft runs lruns in ⌜ leaves r (base .exit) (ruby .exit) (left .exit) (lines .exit) ≡ outcome job (was base) (was ruby) (was left) (was lines) ⌝ }
 {
     if door::base_count(class, width, before, after, flag) <= 128 {
         let mut t = [0; 3463];
@@ -293,8 +296,8 @@ fn set_right(
     left: &mut [u32],
     lines: &mut [u32],
 ) -> job::Answer
-    requires { let job = jobOf em measure ratios profile (now class) (now width) (now before) (now after) (now flag) (now rclass) (now rwidth) (now lclass) (now lwidth) (now kind) (now ebase) (now eruby) (now lkind) (now eleft) (now runs) (now lruns) in ⌜ leftCount job ≡ 0 ⌝ }
-    ensures { λ r. ⌜ _≡_ {A = Outcome} (record { answer = r; base = now (base .exit); ruby = now (ruby .exit); left = now (left .exit); lines = now (lines .exit) }) (outcome (jobOf em measure ratios profile (now (class .entry)) (now (width .entry)) (now (before .entry)) (now (after .entry)) (now (flag .entry)) (now (rclass .entry)) (now (rwidth .entry)) (now (lclass .entry)) (now (lwidth .entry)) (now (kind .entry)) (now (ebase .entry)) (now (eruby .entry)) (now (lkind .entry)) (now (eleft .entry)) (now (runs .entry)) (now (lruns .entry))) (now (base .entry)) (now (ruby .entry)) (now (left .entry)) (now (lines .entry))) ⌝ }
+    requires { let job = jobNow em measure ratios profile class width before after flag rclass rwidth lclass lwidth kind ebase eruby lkind eleft runs lruns in ⌜ leftCount job ≡ 0 ⌝ }
+    ensures { λ r. let job = jobWas em measure ratios profile class width before after flag rclass rwidth lclass lwidth kind ebase eruby lkind eleft runs lruns in ⌜ leaves r (base .exit) (ruby .exit) (left .exit) (lines .exit) ≡ outcome job (was base) (was ruby) (was left) (was lines) ⌝ }
 {
     if door::base_count(class, width, before, after, flag) <= 128 {
         let mut t = [0; 2439];
@@ -395,7 +398,7 @@ pub fn set_job(
     left: &mut [u32],
     lines: &mut [u32],
 ) -> job::Answer
-    ensures { λ r. ⌜ _≡_ {A = Outcome} (record { answer = r; base = now (base .exit); ruby = now (ruby .exit); left = now (left .exit); lines = now (lines .exit) }) (outcome (jobOf em measure ratios profile (now (class .entry)) (now (width .entry)) (now (before .entry)) (now (after .entry)) (now (flag .entry)) (now (rclass .entry)) (now (rwidth .entry)) (now (lclass .entry)) (now (lwidth .entry)) (now (kind .entry)) (now (ebase .entry)) (now (eruby .entry)) (now (lkind .entry)) (now (eleft .entry)) (now (runs .entry)) (now (lruns .entry))) (now (base .entry)) (now (ruby .entry)) (now (left .entry)) (now (lines .entry))) ⌝ }
+    ensures { λ r. let job = jobWas em measure ratios profile class width before after flag rclass rwidth lclass lwidth kind ebase eruby lkind eleft runs lruns in ⌜ leaves r (base .exit) (ruby .exit) (left .exit) (lines .exit) ≡ outcome job (was base) (was ruby) (was left) (was lines) ⌝ }
 {
     if door::left_count(lclass, lwidth) == 0 {
         return set_right(

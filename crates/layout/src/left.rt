@@ -5,6 +5,7 @@ ghost use mathlib.Core.List.{[]};
 ghost use Prim.Native.Nat.{_+_, _-_, _*_, _≤_, _<_};
 ghost use lib.Dec.{ltb};
 ghost use lib.ListN.{length, getD};
+ghost use Rattle.basics.specs.Seen.{was};
 ghost use Rattle.spread.specs.Ratio.{ratiosOf, Housed};
 ghost use Rattle.word.specs.Both.{apart};
 ghost use Rattle.word.specs.Sides.{monosWord, Strings};
@@ -31,7 +32,7 @@ pub fn left_begins(bases: usize, lefts: usize) -> u32
 // The same left row for the base characters a up to e.
 fn put_same(t: &mut [u32], a: usize, e: usize, row: cells::LeftRow)
     requires { ⌜ (a ≤ e) × (e ≤ 1024) × LeftRoom e (now t) ⌝ }
-    ensures { λ _. ⌜ LeftFilled (λ i. row) a e (now (t .entry)) (now (t .exit)) ⌝ }
+    ensures { λ _. ⌜ LeftFilled (λ i. row) a e (was t) (now (t .exit)) ⌝ }
 {
     let mut i = a;
     while i < e {
@@ -58,7 +59,7 @@ fn left_row(v: word::Reading, first: u32, many: u32, own: u32, more: bool) -> ce
 // The left rows of base characters a up to e, which have no left reading, of a job with so many left characters: the next of these is `left`.
 pub fn put_bare(t: &mut [u32], a: usize, e: usize, left: usize, lefts: usize)
     requires { ⌜ BareReady left a e lefts (now t) ⌝ }
-    ensures { λ _. ⌜ Bared left a e (now (t .entry)) (now (t .exit)) ⌝ }
+    ensures { λ _. ⌜ Bared left a e (was t) (now (t .exit)) ⌝ }
 {
     if 0 < lefts {
         put_same(t, a, e, left_row(word::NONE, left as u32, 0, 0, false));
@@ -68,7 +69,7 @@ pub fn put_bare(t: &mut [u32], a: usize, e: usize, left: usize, lefts: usize)
 // A word that is not cut, in one piece.
 fn put_uncut(t: &mut [u32], p: door::Piece, w: word::Word, ends: bool)
     requires { ⌜ (size (p .base + p .bases) ≤ length (now t)) × (p .base + p .bases ≤ 1024) × (p .ruby + p .rubies ≤ 4096) × (p .left + p .lefts ≤ 4096) × LeftRoom (p .base + p .bases) (now t) ⌝ }
-    ensures { λ _. ⌜ Written (λ i. beside (wordRow p w ends 0 0 i) (leftRow p (w .left))) (p .base) (p .base + p .bases) (now (t .entry)) (now (t .exit)) ⌝ }
+    ensures { λ _. ⌜ Written (λ i. beside (wordRow p w ends 0 0 i) (leftRow p (w .left))) (p .base) (p .base + p .bases) (was t) (now (t .exit)) ⌝ }
 {
     super::put_word(t, p, w, ends);
     let v = w.left;
@@ -79,7 +80,7 @@ fn put_uncut(t: &mut [u32], p: door::Piece, w: word::Word, ends: bool)
 // The left rows of a J that is laid by runs; v is its left reading where it is no longer than one character.
 fn put_left_runs(t: &mut [u32], p: door::Piece, v: word::Reading, lwidth: &[u32], lruns: &[u32])
     requires { ⌜ Runs side.Left (leftsOnly (now lwidth) (now lruns)) p × LeftRoom (p .base + p .bases) (now t) ⌝ }
-    ensures { λ _. ⌜ LeftFilled (leftRunRow (leftsOnly (now (lwidth .entry)) (now (lruns .entry))) p v) (p .base) (p .base + p .bases) (now (t .entry)) (now (t .exit)) ⌝ }
+    ensures { λ _. ⌜ LeftFilled (leftRunRow (leftsOnly (was lwidth) (was lruns)) p v) (p .base) (p .base + p .bases) (was t) (now (t .exit)) ⌝ }
 {
     let n = p.base + p.bases;
     let mut l = p.left;
@@ -107,7 +108,7 @@ fn put_cut(
     lruns: &[u32],
 )
     requires { ⌜ (0 < p .bases) × HasRuns (runsOnly em (now rclass) (now rwidth) (now runs)) p (now t) × Runs side.Left (leftsOnly (now lwidth) (now lruns)) p × LeftRoom (p .base + p .bases) (now t) ⌝ }
-    ensures { λ _. ⌜ Written (λ i. beside (jukugoRow (runsOnly em (now (rclass .entry)) (now (rwidth .entry)) (now (runs .entry))) p w ends i) (leftRunRow (leftsOnly (now (lwidth .entry)) (now (lruns .entry))) p (ownWord p w .left) i)) (p .base) (p .base + p .bases) (now (t .entry)) (now (t .exit)) ⌝ }
+    ensures { λ _. ⌜ Written (λ i. beside (jukugoRow (runsOnly em (was rclass) (was rwidth) (was runs)) p w ends i) (leftRunRow (leftsOnly (was lwidth) (was lruns)) p (ownWord p w .left) i)) (p .base) (p .base + p .bases) (was t) (now (t .exit)) ⌝ }
 {
     super::put_runs(t, p, w, ends, em, rclass, rwidth, runs);
     let v = super::own_word(p, w).left;
@@ -189,7 +190,7 @@ fn put_characters(
     lruns: &[u32],
 )
     requires { let job = bothOnly (ratiosOf ratios) em [] (now width) [] [] [] [] (now rwidth) (now runs) [] (now lwidth) (now lruns) in ⌜ Characters job p (now t) ⌝ }
-    ensures { λ _. let job = bothOnly (ratiosOf ratios) em [] (now (width .entry)) [] [] [] [] (now (rwidth .entry)) (now (runs .entry)) [] (now (lwidth .entry)) (now (lruns .entry)) in ⌜ Written (characterBoth job p ends) (p .base) (p .base + p .bases) (now (t .entry)) (now (t .exit)) ⌝ }
+    ensures { λ _. let job = bothOnly (ratiosOf ratios) em [] (was width) [] [] [] [] (was rwidth) (was runs) [] (was lwidth) (was lruns) in ⌜ Written (characterBoth job p ends) (p .base) (p .base + p .bases) (was t) (now (t .exit)) ⌝ }
 {
     let n = p.base + p.bases;
     let mut r = p.ruby;
@@ -246,7 +247,7 @@ fn put_both(
     lruns: &[u32],
 )
     requires { let job = bothOnly (ratiosOf ratios) em [] (now width) [] [] (now flag) (now rclass) (now rwidth) (now runs) [] (now lwidth) (now lruns) in ⌜ BothPut job p w (now t) ⌝ }
-    ensures { λ _. let job = bothOnly (ratiosOf ratios) em [] (now (width .entry)) [] [] (now (flag .entry)) (now (rclass .entry)) (now (rwidth .entry)) (now (runs .entry)) [] (now (lwidth .entry)) (now (lruns .entry)) in ⌜ Written (laidRow job p w) (p .base) (p .base + p .bases) (now (t .entry)) (now (t .exit)) ⌝ }
+    ensures { λ _. let job = bothOnly (ratiosOf ratios) em [] (was width) [] [] (was flag) (was rclass) (was rwidth) (was runs) [] (was lwidth) (was lruns) in ⌜ Written (laidRow job p w) (p .base) (p .base + p .bases) (was t) (now (t .exit)) ⌝ }
 {
     let ends = super::ends_behind(p, flag);
     if is_apart(p) {
@@ -281,7 +282,7 @@ pub fn lay_left(
     lruns: &[u32],
 ) -> door::Step
     requires { let job = bothOnly (ratiosOf ratios) em (now class) (now width) (now before) (now after) (now flag) (now rclass) (now rwidth) (now runs) (now lclass) (now lwidth) (now lruns) in ⌜ BothReady job p (now t) ⌝ }
-    ensures { λ s. let job = bothOnly (ratiosOf ratios) em (now (class .entry)) (now (width .entry)) (now (before .entry)) (now (after .entry)) (now (flag .entry)) (now (rclass .entry)) (now (rwidth .entry)) (now (runs .entry)) (now (lclass .entry)) (now (lwidth .entry)) (now (lruns .entry)) in ⌜ Judged (answerBoth (p .form) place (given job p) (glossOf job p)) (λ w. Written (bothRow job p w) (p .base) (p .base + p .bases) (now (t .entry)) (now (t .exit))) p (now (t .entry)) (now (t .exit)) s ⌝ }
+    ensures { λ s. let job = bothOnly (ratiosOf ratios) em (was class) (was width) (was before) (was after) (was flag) (was rclass) (was rwidth) (was runs) (was lclass) (was lwidth) (was lruns) in ⌜ Judged (answerBoth (p .form) place (given job p) (glossOf job p)) (λ w. Written (bothRow job p w) (p .base) (p .base + p .bases) (was t) (now (t .exit))) p (was t) (now (t .exit)) s ⌝ }
 {
     let b = p.base;
     let e = b + p.bases;

@@ -6,6 +6,8 @@ ghost use mathlib.Core.Path.{_≡_};
 ghost use mathlib.Core.Bool.{_&&_};
 ghost use mathlib.Core.List.{[]};
 ghost use Prim.Native.Nat.{_+_, _-_, _*_, _≤_, _<_};
+ghost use Rattle.basics.specs.Seen.{was};
+ghost use Rattle.door.specs.Seen.{jobNow, jobWas};
 ghost use Rattle.basics.specs.Lists.{sum};
 ghost use lib.Dec.{ltb, eqb};
 ghost use lib.ListN.{length, getD};
@@ -14,7 +16,7 @@ ghost use Rattle.word.specs.declared.Form.the-variants as Form;
 ghost use Rattle.word.specs.declared.Answer.the-variants.{Refused};
 ghost use Rattle.word.specs.Answer.{answer};
 ghost use Rattle.refusal.specs.declared.Refusal as refusals;
-ghost use Rattle.door.specs.Job.{jobOf, baseCount, rubyCount, leftCount, entries, given};
+ghost use Rattle.door.specs.Job.{baseCount, rubyCount, leftCount, entries, given};
 ghost use Rattle.door.specs.Loop.{partFaults};
 ghost use Rattle.door.specs.Verdict.{verdict};
 ghost use Rattle.door.specs.declared.Checked.the-variants.{Passed};
@@ -42,7 +44,7 @@ const NONE: word::Word = word::Word {
 // The rows of an M or a G.
 fn put_word(t: &mut [u32], p: door::Piece, w: word::Word, ends: bool)
     requires { ⌜ (size (p .base + p .bases) ≤ length (now t)) × (p .base + p .bases ≤ 4096) × (p .ruby ≤ 4096) × (p .rubies ≤ 4096) ⌝ }
-    ensures { λ _. ⌜ Filled (wordRow p w ends 0 0) (p .base) (p .base + p .bases) (now (t .entry)) (now (t .exit)) ⌝ }
+    ensures { λ _. ⌜ Filled (wordRow p w ends 0 0) (p .base) (p .base + p .bases) (was t) (now (t .exit)) ⌝ }
 {
     let e = p.base + p.bases;
     let mut i = p.base;
@@ -83,7 +85,7 @@ pub struct Cursor {
 // The width of the run of ruby characters r up to e.
 fn run_width(r: usize, e: usize, rwidth: &[u32]) -> u32
     requires { ⌜ (r ≤ e) × (e ≤ 4096) × (e ≤ length (now rwidth)) × (sum (entries (now rwidth) r (e - r)) ≤ 262144) ⌝ }
-    ensures { λ w. ⌜ w ≡ sum (entries (now (rwidth .entry)) r (e - r)) ⌝ }
+    ensures { λ w. ⌜ w ≡ sum (entries (was rwidth) r (e - r)) ⌝ }
 {
     basics::sum_of(&rwidth[r..e])
 }
@@ -165,7 +167,7 @@ fn put_runs(
     runs: &[u32],
 )
     requires { ⌜ HasRuns (runsOnly em (now rclass) (now rwidth) (now runs)) p (now t) ⌝ }
-    ensures { λ _. ⌜ Filled (jukugoRow (runsOnly em (now (rclass .entry)) (now (rwidth .entry)) (now (runs .entry))) p w ends) (p .base) (p .base + p .bases) (now (t .entry)) (now (t .exit)) ⌝ }
+    ensures { λ _. ⌜ Filled (jukugoRow (runsOnly em (was rclass) (was rwidth) (was runs)) p w ends) (p .base) (p .base + p .bases) (was t) (now (t .exit)) ⌝ }
 {
     let n = p.base + p.bases;
     let mut at = Cursor {
@@ -197,7 +199,7 @@ fn put_single(
     runs: &[u32],
 )
     requires { ⌜ (p .bases ≡ 1) × HasRuns (runsOnly 0 (now rclass) (now rwidth) (now runs)) p (now t) ⌝ }
-    ensures { λ _. ⌜ Puts (now (t .entry)) (p .base) (singleRow p w ends (now (rclass .entry)) (now (rwidth .entry)) (now (runs .entry))) (now (t .exit)) ⌝ }
+    ensures { λ _. ⌜ Puts (was t) (p .base) (singleRow p w ends (was rclass) (was rwidth) (was runs)) (now (t .exit)) ⌝ }
 {
     let u = p.run;
     let run = runs[u];
@@ -240,7 +242,7 @@ fn put_jukugo(
     runs: &[u32],
 )
     requires { ⌜ (0 < p .bases) × HasRuns (runsOnly em (now rclass) (now rwidth) (now runs)) p (now t) ⌝ }
-    ensures { λ _. ⌜ Filled (jukugoRow (runsOnly em (now (rclass .entry)) (now (rwidth .entry)) (now (runs .entry))) p w ends) (p .base) (p .base + p .bases) (now (t .entry)) (now (t .exit)) ⌝ }
+    ensures { λ _. ⌜ Filled (jukugoRow (runsOnly em (was rclass) (was rwidth) (was runs)) p w ends) (p .base) (p .base + p .bases) (was t) (now (t .exit)) ⌝ }
 {
     if p.bases == 1 {
         put_single(t, p, w, ends, rclass, rwidth, runs);
@@ -263,7 +265,7 @@ fn put_plain(
     flag: &[u32],
 )
     requires { ⌜ PlainReady b r (now class) (now width) (now before) (now after) (now flag) (now t) ⌝ }
-    ensures { λ _. ⌜ Puts (now (t .entry)) b (plainRow profile b r em (now (class .entry)) (now (width .entry)) (now (before .entry)) (now (after .entry)) (now (flag .entry))) (now (t .exit)) ⌝ }
+    ensures { λ _. ⌜ Puts (was t) b (plainRow profile b r em (was class) (was width) (was before) (was after) (was flag)) (now (t .exit)) ⌝ }
 {
     let answer = word::plain_answer(width[b]);
     let word::Answer::Set(w) = answer else {
@@ -297,7 +299,7 @@ fn put_plain(
 // There is an element k of these, and it is a P without a left reading.
 fn is_plain(k: usize, elements: usize, kind: &[u32], lkind: &[u32]) -> bool
     requires { ⌜ (k ≤ 4096) × (elements ≤ length (now kind)) × (elements ≤ length (now lkind)) ⌝ }
-    ensures { λ t. ⌜ t ≡ (ltb k elements && (eqb (getD (now (kind .entry)) k 0) 80 && eqb (getD (now (lkind .entry)) k 0) 78)) ⌝ }
+    ensures { λ t. ⌜ t ≡ (ltb k elements && (eqb (getD (was kind) k 0) 80 && eqb (getD (was lkind) k 0) 78)) ⌝ }
 {
     if k < elements {
         if kind[k] == door::PLAIN {
@@ -320,7 +322,7 @@ fn refused(place: u32, answer: word::Answer) -> door::Step
 // Whether a line may end behind an element.
 fn ends_behind(p: door::Piece, flag: &[u32]) -> bool
     requires { ⌜ (0 < p .bases) × (p .base + p .bases ≤ 1024) × (p .base + p .bases ≤ length (now flag)) ⌝ }
-    ensures { λ t. ⌜ t ≡ eqb (getD (now (flag .entry)) (p .base + p .bases - 1) 0) 1 ⌝ }
+    ensures { λ t. ⌜ t ≡ eqb (getD (was flag) (p .base + p .bases - 1) 0) 1 ⌝ }
 {
     let e = p.base + p.bases - 1;
     flag[e] == 1
@@ -340,7 +342,7 @@ fn lay_mono(
     rwidth: &[u32],
 ) -> door::Step
     requires { let job = wordsOnly (ratiosOf ratios) em [] (now width) (now before) (now after) (now flag) [] (now rwidth) [] in ⌜ (p .bases ≡ 1) × WordReady job p (now t) ⌝ }
-    ensures { λ s. let job = wordsOnly (ratiosOf ratios) em [] (now (width .entry)) (now (before .entry)) (now (after .entry)) (now (flag .entry)) [] (now (rwidth .entry)) [] in ⌜ Judged (answer Form.M place (given job p)) (λ w. Filled (wordRow p w (flagged job p) 0 0) (p .base) (p .base + p .bases) (now (t .entry)) (now (t .exit))) p (now (t .entry)) (now (t .exit)) s ⌝ }
+    ensures { λ s. let job = wordsOnly (ratiosOf ratios) em [] (was width) (was before) (was after) (was flag) [] (was rwidth) [] in ⌜ Judged (answer Form.M place (given job p)) (λ w. Filled (wordRow p w (flagged job p) 0 0) (p .base) (p .base + p .bases) (was t) (now (t .exit))) p (was t) (now (t .exit)) s ⌝ }
 {
     let b = p.base;
     let e = b + 1;
@@ -379,7 +381,7 @@ fn lay_group(
     rwidth: &[u32],
 ) -> door::Step
     requires { let job = wordsOnly (ratiosOf ratios) em (now class) (now width) (now before) (now after) (now flag) (now rclass) (now rwidth) [] in ⌜ (p .base + p .bases ≤ length (now class)) × (p .ruby + p .rubies ≤ length (now rclass)) × WordReady job p (now t) ⌝ }
-    ensures { λ s. let job = wordsOnly (ratiosOf ratios) em (now (class .entry)) (now (width .entry)) (now (before .entry)) (now (after .entry)) (now (flag .entry)) (now (rclass .entry)) (now (rwidth .entry)) [] in ⌜ Judged (answer Form.G place (given job p)) (λ w. Filled (wordRow p w (flagged job p) 0 0) (p .base) (p .base + p .bases) (now (t .entry)) (now (t .exit))) p (now (t .entry)) (now (t .exit)) s ⌝ }
+    ensures { λ s. let job = wordsOnly (ratiosOf ratios) em (was class) (was width) (was before) (was after) (was flag) (was rclass) (was rwidth) [] in ⌜ Judged (answer Form.G place (given job p)) (λ w. Filled (wordRow p w (flagged job p) 0 0) (p .base) (p .base + p .bases) (was t) (now (t .exit))) p (was t) (now (t .exit)) s ⌝ }
 {
     let b = p.base;
     let e = b + p.bases;
@@ -421,7 +423,7 @@ fn lay_jukugo(
     runs: &[u32],
 ) -> door::Step
     requires { let job = wordsOnly (ratiosOf ratios) em (now class) (now width) (now before) (now after) (now flag) (now rclass) (now rwidth) (now runs) in ⌜ JukugoReady job p (now t) ⌝ }
-    ensures { λ s. let job = wordsOnly (ratiosOf ratios) em (now (class .entry)) (now (width .entry)) (now (before .entry)) (now (after .entry)) (now (flag .entry)) (now (rclass .entry)) (now (rwidth .entry)) (now (runs .entry)) in ⌜ Judged (answer Form.J place (given job p)) (λ w. Filled (jukugoRow (runsOnly em (now (rclass .entry)) (now (rwidth .entry)) (now (runs .entry))) p w (flagged job p)) (p .base) (p .base + p .bases) (now (t .entry)) (now (t .exit))) p (now (t .entry)) (now (t .exit)) s ⌝ }
+    ensures { λ s. let job = wordsOnly (ratiosOf ratios) em (was class) (was width) (was before) (was after) (was flag) (was rclass) (was rwidth) (was runs) in ⌜ Judged (answer Form.J place (given job p)) (λ w. Filled (jukugoRow (runsOnly em (was rclass) (was rwidth) (was runs)) p w (flagged job p)) (p .base) (p .base + p .bases) (was t) (now (t .exit))) p (was t) (now (t .exit)) s ⌝ }
 {
     let b = p.base;
     let e = b + p.bases;
@@ -466,7 +468,7 @@ fn lay_alone(
     runs: &[u32],
 ) -> door::Step
     requires { let job = wordsOnly (ratiosOf ratios) em (now class) (now width) (now before) (now after) (now flag) (now rclass) (now rwidth) (now runs) in ⌜ AloneReady job p (now t) ⌝ }
-    ensures { λ s. let job = wordsOnly (ratiosOf ratios) em (now (class .entry)) (now (width .entry)) (now (before .entry)) (now (after .entry)) (now (flag .entry)) (now (rclass .entry)) (now (rwidth .entry)) (now (runs .entry)) in ⌜ Judged (answer (p .form) place (given job p)) (λ w. Filled (aloneRow job p w (flagged job p)) (p .base) (p .base + p .bases) (now (t .entry)) (now (t .exit))) p (now (t .entry)) (now (t .exit)) s ⌝ }
+    ensures { λ s. let job = wordsOnly (ratiosOf ratios) em (was class) (was width) (was before) (was after) (was flag) (was rclass) (was rwidth) (was runs) in ⌜ Judged (answer (p .form) place (given job p)) (λ w. Filled (aloneRow job p w (flagged job p)) (p .base) (p .base + p .bases) (was t) (now (t .exit))) p (was t) (now (t .exit)) s ⌝ }
 {
     let form = p.form;
     match form {
@@ -533,8 +535,8 @@ fn lay_word(
     runs: &[u32],
     lruns: &[u32],
 ) -> door::Step
-    requires { let job = jobOf em 0 ratios profile (now class) (now width) (now before) (now after) (now flag) (now rclass) (now rwidth) (now lclass) (now lwidth) (now kind) (now ebase) (now eruby) (now lkind) (now eleft) (now runs) (now lruns) in ⌜ (bases ≡ baseCount job) × (rubies ≡ rubyCount job) × (lefts ≡ leftCount job) × Standing job k at (now t) × (getD (job .leftKind) k 0 ≡ 78) ⌝ }
-    ensures { λ s. let job = jobOf em 0 ratios profile (now (class .entry)) (now (width .entry)) (now (before .entry)) (now (after .entry)) (now (flag .entry)) (now (rclass .entry)) (now (rwidth .entry)) (now (lclass .entry)) (now (lwidth .entry)) (now (kind .entry)) (now (ebase .entry)) (now (eruby .entry)) (now (lkind .entry)) (now (eleft .entry)) (now (runs .entry)) (now (lruns .entry)) in ⌜ Stepped job k at (now (t .entry)) (now (t .exit)) s ⌝ }
+    requires { let job = jobNow em 0 ratios profile class width before after flag rclass rwidth lclass lwidth kind ebase eruby lkind eleft runs lruns in ⌜ (bases ≡ baseCount job) × (rubies ≡ rubyCount job) × (lefts ≡ leftCount job) × Standing job k at (now t) × (getD (job .leftKind) k 0 ≡ 78) ⌝ }
+    ensures { λ s. let job = jobWas em 0 ratios profile class width before after flag rclass rwidth lclass lwidth kind ebase eruby lkind eleft runs lruns in ⌜ Stepped job k at (was t) (now (t .exit)) s ⌝ }
 {
     let place = k as u32;
     let counted = door::count_right(kind[k], ebase[k], eruby[k], at, runs);
@@ -590,8 +592,8 @@ fn lay_both(
     runs: &[u32],
     lruns: &[u32],
 ) -> door::Step
-    requires { let job = jobOf em 0 ratios profile (now class) (now width) (now before) (now after) (now flag) (now rclass) (now rwidth) (now lclass) (now lwidth) (now kind) (now ebase) (now eruby) (now lkind) (now eleft) (now runs) (now lruns) in ⌜ (bases ≡ baseCount job) × (rubies ≡ rubyCount job) × (lefts ≡ leftCount job) × Standing job k at (now t) × (getD (job .leftKind) k 0 ≡ 78 → ⊥) ⌝ }
-    ensures { λ s. let job = jobOf em 0 ratios profile (now (class .entry)) (now (width .entry)) (now (before .entry)) (now (after .entry)) (now (flag .entry)) (now (rclass .entry)) (now (rwidth .entry)) (now (lclass .entry)) (now (lwidth .entry)) (now (kind .entry)) (now (ebase .entry)) (now (eruby .entry)) (now (lkind .entry)) (now (eleft .entry)) (now (runs .entry)) (now (lruns .entry)) in ⌜ Stepped job k at (now (t .entry)) (now (t .exit)) s ⌝ }
+    requires { let job = jobNow em 0 ratios profile class width before after flag rclass rwidth lclass lwidth kind ebase eruby lkind eleft runs lruns in ⌜ (bases ≡ baseCount job) × (rubies ≡ rubyCount job) × (lefts ≡ leftCount job) × Standing job k at (now t) × (getD (job .leftKind) k 0 ≡ 78 → ⊥) ⌝ }
+    ensures { λ s. let job = jobWas em 0 ratios profile class width before after flag rclass rwidth lclass lwidth kind ebase eruby lkind eleft runs lruns in ⌜ Stepped job k at (was t) (now (t .exit)) s ⌝ }
 {
     let place = k as u32;
     let counted = door::count_element(
@@ -656,8 +658,8 @@ pub fn layout(
     runs: &[u32],
     lruns: &[u32],
 ) -> door::Checked
-    requires { let job = jobOf em 0 ratios profile (now class) (now width) (now before) (now after) (now flag) (now rclass) (now rwidth) (now lclass) (now lwidth) (now kind) (now ebase) (now eruby) (now lkind) (now eleft) (now runs) (now lruns) in ⌜ Ready job (now t) ⌝ }
-    ensures { λ c. let job = jobOf em 0 ratios profile (now (class .entry)) (now (width .entry)) (now (before .entry)) (now (after .entry)) (now (flag .entry)) (now (rclass .entry)) (now (rwidth .entry)) (now (lclass .entry)) (now (lwidth .entry)) (now (kind .entry)) (now (ebase .entry)) (now (eruby .entry)) (now (lkind .entry)) (now (eleft .entry)) (now (runs .entry)) (now (lruns .entry)) in ⌜ (c ≡ verdict (partFaults job)) × (c ≡ Passed → Holds job (now (t .exit))) ⌝ }
+    requires { let job = jobNow em 0 ratios profile class width before after flag rclass rwidth lclass lwidth kind ebase eruby lkind eleft runs lruns in ⌜ Ready job (now t) ⌝ }
+    ensures { λ c. let job = jobWas em 0 ratios profile class width before after flag rclass rwidth lclass lwidth kind ebase eruby lkind eleft runs lruns in ⌜ (c ≡ verdict (partFaults job)) × (c ≡ Passed → Holds job (now (t .exit))) ⌝ }
 {
     let elements = door::element_count(kind, ebase, eruby, lkind, eleft);
     let bases = door::base_count(class, width, before, after, flag);

@@ -3,10 +3,13 @@
 // the job and on `result` for the text.
 ghost use Prim.Native.Nat.{_≤_};
 ghost use lib.ListN.{length};
-ghost use Rattle.door.specs.Job.{jobOf};
+ghost use Rattle.basics.specs.Seen.{was};
+ghost use Rattle.sheet.specs.Seen.{tablesNow, tablesWas};
+ghost use Rattle.setter.specs.Seen.{listsNow, listsWas, elementsWas};
+ghost use Rattle.door.specs.Seen.{jobWas};
 ghost use Rattle.sheet.specs.Sheet.{tables};
 ghost use Rattle.result.specs.Short.{longest};
-ghost use Rattle.setter.specs.Answer.{lists, Told, ElementsLong, TablesLong, elementsJob, tablesJob, Fits, Answered};
+ghost use Rattle.setter.specs.Answer.{lists, Told, ElementsLong, TablesLong, tablesJob, Fits, Answered};
 
 // Sets a job in lists and writes its text.
 fn set_lists(
@@ -37,7 +40,7 @@ fn set_lists(
     out: &mut [u8],
 ) -> usize
     requires { ⌜ longest ≤ length (now out) ⌝ }
-    ensures { λ r. let job = jobOf em measure ratios profile (now (class .entry)) (now (width .entry)) (now (before .entry)) (now (after .entry)) (now (flag .entry)) (now (rclass .entry)) (now (rwidth .entry)) (now (lclass .entry)) (now (lwidth .entry)) (now (kind .entry)) (now (ebase .entry)) (now (eruby .entry)) (now (lkind .entry)) (now (eleft .entry)) (now (runs .entry)) (now (lruns .entry)) in ⌜ Told job (lists (now (base .entry)) (now (ruby .entry)) (now (left .entry)) (now (lines .entry))) (now (out .entry)) r (lists (now (base .exit)) (now (ruby .exit)) (now (left .exit)) (now (lines .exit))) (now (out .exit)) ⌝ }
+    ensures { λ r. let job = jobWas em measure ratios profile class width before after flag rclass rwidth lclass lwidth kind ebase eruby lkind eleft runs lruns in ⌜ Told job (listsWas base ruby left lines) (was out) r (listsNow (base .exit) (ruby .exit) (left .exit) (lines .exit)) (now (out .exit)) ⌝ }
 {
     let mut t = [0; 27655];
     let mut ends = [0; 1024];
@@ -102,7 +105,7 @@ fn set_elements(
 ) -> usize
     requires { ⌜ ElementsLong n (now left) (now elem) (now runs) (now lruns) ⌝ }
     requires { ⌜ longest ≤ length (now out) ⌝ }
-    ensures { λ r. let job = elementsJob em measure ratios profile (now (class .entry)) (now (width .entry)) (now (before .entry)) (now (after .entry)) (now (flag .entry)) (now (rclass .entry)) (now (rwidth .entry)) n (now (left .entry)) (now (elem .entry)) (now (runs .entry)) (now (lruns .entry)) in ⌜ Told job (lists (now (bases .entry)) (now (rubies .entry)) (now (lefts .entry)) (now (lines .entry))) (now (out .entry)) r (lists (now (bases .exit)) (now (rubies .exit)) (now (lefts .exit)) (now (lines .exit))) (now (out .exit)) ⌝ }
+    ensures { λ r. let job = elementsWas em measure ratios profile class width before after flag rclass rwidth n left elem runs lruns in ⌜ Told job (listsWas bases rubies lefts lines) (was out) r (listsNow (bases .exit) (rubies .exit) (lefts .exit) (lines .exit)) (now (out .exit)) ⌝ }
 {
     let l = n.lefts;
     let l1 = 2048 + l;
@@ -158,9 +161,9 @@ pub fn set_tables(
     lines: &mut [u32],
     out: &mut [u8],
 ) -> usize
-    requires { ⌜ TablesLong n (tables (now set) (now base) (now ruby) (now left) (now elem) (now runs) (now lruns)) ⌝ }
+    requires { ⌜ TablesLong n (tablesNow set base ruby left elem runs lruns) ⌝ }
     requires { ⌜ longest ≤ length (now out) ⌝ }
-    ensures { λ r. let job = tablesJob n (tables (now (set .entry)) (now (base .entry)) (now (ruby .entry)) (now (left .entry)) (now (elem .entry)) (now (runs .entry)) (now (lruns .entry))) in ⌜ Told job (lists (now (bases .entry)) (now (rubies .entry)) (now (lefts .entry)) (now (lines .entry))) (now (out .entry)) r (lists (now (bases .exit)) (now (rubies .exit)) (now (lefts .exit)) (now (lines .exit))) (now (out .exit)) ⌝ }
+    ensures { λ r. let job = tablesJob n (tablesWas set base ruby left elem runs lruns) in ⌜ Told job (listsWas bases rubies lefts lines) (was out) r (listsNow (bases .exit) (rubies .exit) (lefts .exit) (lines .exit)) (now (out .exit)) ⌝ }
 {
     let b = n.bases;
     let b1 = 1024 + b;
@@ -210,7 +213,7 @@ pub fn set_sheet(
     lines: &mut [u32; 1024],
     out: &mut [u8; 131072],
 ) -> usize
-    ensures { λ r. ⌜ Answered (now (s .entry)) (tables (now (set .entry)) (now (base .entry)) (now (ruby .entry)) (now (left .entry)) (now (elem .entry)) (now (runs .entry)) (now (lruns .entry))) (lists (now (bases .entry)) (now (rubies .entry)) (now (lefts .entry)) (now (lines .entry))) (now (out .entry)) r (tables (now (set .exit)) (now (base .exit)) (now (ruby .exit)) (now (left .exit)) (now (elem .exit)) (now (runs .exit)) (now (lruns .exit))) (lists (now (bases .exit)) (now (rubies .exit)) (now (lefts .exit)) (now (lines .exit))) (now (out .exit)) ⌝ }
+    ensures { λ r. ⌜ Answered (was s) (tablesWas set base ruby left elem runs lruns) (listsWas bases rubies lefts lines) (was out) r (tablesNow (set .exit) (base .exit) (ruby .exit) (left .exit) (elem .exit) (runs .exit) (lruns .exit)) (listsNow (bases .exit) (rubies .exit) (lefts .exit) (lines .exit)) (now (out .exit)) ⌝ }
     ensures { λ r. ⌜ Fits r (now (out .exit)) ⌝ }
 {
     match sheet::read_sheet(s, set, base, ruby, left, elem, runs, lruns) {

@@ -2,6 +2,8 @@
 // reading ended. "The sheet is read top to bottom and the first fault met .. is given"; a table holds what was read before it. The tables are the same for both forms, so that those above need
 // not know the form. Nothing is asked of the caller. It relies on `rows` for the sections of numbers, on `elements` for the section `elem`, on `text` for words and on `refusal`.
 ghost use mathlib.Core.Path.{_≡_};
+ghost use Rattle.basics.specs.Seen.{was};
+ghost use Rattle.sheet.specs.Seen.{tablesNow, tablesWas};
 ghost use Rattle.rows.specs.Section.{countOf};
 ghost use Rattle.rows.specs.Table.{laid};
 ghost use Rattle.sheet.specs.Sheet.{opening, formBy, house, leftHead, LineFits, endOf, tables, Into};
@@ -24,7 +26,7 @@ pub enum Reading {
 
 // "Over-length comes before both"; then the fixed text `set 2`, or "Form two begins with `set 9`".
 fn opening_of(s: &[u8]) -> rows::Part
-    ensures { λ r. ⌜ r ≡ opening (now (s .entry)) ⌝ }
+    ensures { λ r. ⌜ r ≡ opening (was s) ⌝ }
 {
     if 65535 < s.len() {
         return rows::Part::Refused(refusal::Refusal::Form(0));
@@ -60,7 +62,7 @@ fn form_of(set: rows::Part) -> elements::SheetForm
 
 // What form one does not show behind em and measure: both ratios 1:2:1, and profile 0.
 fn put_house(set: rows::Part, numbers: &mut [u32; 9])
-    ensures { λ _. ⌜ now (numbers .exit) ≡ laid (now (numbers .entry)) 2 9 (house set) ⌝ }
+    ensures { λ _. ⌜ now (numbers .exit) ≡ laid (was numbers) 2 9 (house set) ⌝ }
 {
     if count_of(set) == 2 {
         numbers[2] = 1;
@@ -76,7 +78,7 @@ fn put_house(set: rows::Part, numbers: &mut [u32; 9])
 // The first line of the section `left`; form one has none, and no left characters.
 fn left_head(s: &[u8], form: elements::SheetForm, last: rows::Part) -> rows::Part
     requires { ⌜ LineFits last ⌝ }
-    ensures { λ r. ⌜ r ≡ leftHead form (now (s .entry)) last ⌝ }
+    ensures { λ r. ⌜ r ≡ leftHead form (was s) last ⌝ }
 {
     match form {
         elements::SheetForm::Two => rows::head_at(s, last, b"left ", 2048, 3),
@@ -95,7 +97,7 @@ fn ending(
     left: rows::Part,
     elem: elements::Elements,
 ) -> Reading
-    ensures { λ r. ⌜ r ≡ endOf (now (s .entry)) base ruby left elem ⌝ }
+    ensures { λ r. ⌜ r ≡ endOf (was s) base ruby left elem ⌝ }
 {
     match elem {
         elements::Elements::Refused(why) => Reading::Refused(why),
@@ -129,7 +131,7 @@ pub fn read_sheet(
     runs: &mut [u32; 32768],
     lruns: &mut [u32; 32768],
 ) -> Reading
-    ensures { λ r. ⌜ Into (now (s .entry)) (tables (now (set .entry)) (now (base .entry)) (now (ruby .entry)) (now (left .entry)) (now (elem .entry)) (now (runs .entry)) (now (lruns .entry))) r (tables (now (set .exit)) (now (base .exit)) (now (ruby .exit)) (now (left .exit)) (now (elem .exit)) (now (runs .exit)) (now (lruns .exit))) ⌝ }
+    ensures { λ r. ⌜ Into (was s) (tablesWas set base ruby left elem runs lruns) r (tablesNow (set .exit) (base .exit) (ruby .exit) (left .exit) (elem .exit) (runs .exit) (lruns .exit)) ⌝ }
 {
     let o = opening_of(s);
     let form = form_of(o);
