@@ -3,7 +3,7 @@ use mathlib.Core.Bool.{Bool, true, false, cond}
 use mathlib.Core.List.{List, [], _++_, append-nil}
 use mathlib.Core.Option.{Option, none, some}
 use mathlib.Core.Path.{_≡_, refl, sym, ap, subst, _∙_}
-use Prim.Native.Nat.{ℕ, _+_, _*_, _/_, _≤_, min}
+use Prim.Native.Nat.{ℕ, _+_, _*_, _≤_}
 use native.Mathlib.Omega.{arith}
 use borrow.Author.Tests.{eq-eqb, ne-eqb}
 use lib.Dec.{eqb}
@@ -33,7 +33,7 @@ use Rattle.result.specs.Text.{refusalText}
 use Rattle.result.specs.Short.{refusal-short}
 use Rattle.shortest.specs.Needed.{needed}
 use Rattle.job_account.specs.Lines.{accounts, counts, extents}
-use Rattle.job_account.specs.Outcome.{Telling, room, tellingBy, telling}
+use Rattle.job_account.specs.Outcome.{Telling, room, room-long, tellingBy, telling}
 use Rattle.account_text.specs.Text.{readingsOf, accountText, listsText, needsText}
 use Rattle.account_text.specs.Lists.{ListsReady}
 use Rattle.account_text.specs.Job.{text-is, lists-ready}
@@ -126,10 +126,7 @@ module _ (job : Job) (rows told wide : List ℕ) where
     fill = declined.filled job door (no-faults .1)
 
     long : (6 * baseCount job ≤ length rows) × (baseCount job ≤ length told) × (baseCount job ≤ length wide)
-    long = many (length rows) (length told) (length wide) (fault.long job 1024 2048 2048 m (no-faults .0) .1)
-      where
-        many : (a b c : ℕ) → baseCount job ≤ min (a / 6) (min b c) → (6 * baseCount job ≤ a) × (baseCount job ≤ b) × (baseCount job ≤ c)
-        many a b c h = (omega arith, omega arith, omega arith)
+    long = room-long rows told wide (baseCount job) (fault.long job 1024 2048 2048 m (no-faults .0) .1)
 
     kept : (telling job rows told wide .rows ≡ sets rows 0 (accounts job)) × (telling job rows told wide .told ≡ sets told 0 (counts job)) × (telling job rows told wide .extents ≡ sets wide 0 (extents job))
     unfolding telling tellingBy

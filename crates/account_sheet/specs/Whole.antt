@@ -13,8 +13,8 @@ use Rattle.sheet.specs.declared.Reading.the-variants.{Sound, Refused}
 use Rattle.sheet.specs.Sheet.{reading, Tables, Into}
 use Rattle.result.specs.Text.{refusalText}
 use Rattle.result.specs.Short.{refusal-short}
-use Rattle.setter.specs.Answer.{sheetJob, tablesJob, Fits}
-use Rattle.setter.specs.Whole.{as-read, Lent, same-job}
+use Rattle.setter.specs.Answer.{sheetJob, tablesJob, Fits, Lent}
+use Rattle.setter.specs.Whole.{as-read, same-job}
 use Rattle.account_sheet.specs.Answer.{jobAccount, accountBy, accountOfSheet, Lists, listsBy, Told, Answered}
 
 -- the bytes of an account stand within their list

@@ -6,13 +6,13 @@ ghost use lib.ListN.{length};
 ghost use Rattle.basics.specs.Seen.{was};
 ghost use Rattle.sheet.specs.Seen.{tablesNow, tablesWas};
 ghost use Rattle.setter.specs.Seen.{elementsWas};
-ghost use Rattle.account_sheet.specs.Seen.{listsNow, listsWas};
+ghost use Rattle.account_sheet.specs.Seen.{listsNow, listsWas, Answers};
 ghost use Rattle.door.specs.Seen.{jobNow, jobWas};
 ghost use Rattle.text.specs.Print.{Wrote};
 ghost use Rattle.sheet.specs.Sheet.{tables};
 ghost use Rattle.setter.specs.Answer.{ElementsLong, TablesLong, tablesJob, Fits};
 ghost use Rattle.account_text.specs.Short.{longest};
-ghost use Rattle.account_sheet.specs.Answer.{declinedText, Declined, lists, Told, Answered};
+ghost use Rattle.account_sheet.specs.Answer.{declinedText, Declined, Told};
 
 // A refusal by its number and place; of a line that is too long also the extent that it needs, and the measure. It is found in a table of this function's own, for
 // 1,024 base characters.
@@ -47,7 +47,7 @@ fn write_declined(
     if refusal::number(why) != 11 {
         return at;
     }
-    let mut t = [0; 27655];
+    let mut t = [0; engine::TABLE];
     match layout::layout(
         &mut t,
         em,
@@ -193,12 +193,12 @@ fn tell_elements(
     ensures { λ r. let job = elementsWas em measure ratios profile class width before after flag rclass rwidth n left elem runs lruns in ⌜ Told job (listsWas rows told extents) (was out) r (listsNow (rows .exit) (told .exit) (extents .exit)) (now (out .exit)) ⌝ }
 {
     let l = n.lefts;
-    let l1 = 2048 + l;
+    let l1 = limits::LEFT_WIDTH + l;
     let e = n.elements;
-    let e1 = 1024 + e;
-    let e2 = 2048 + e;
-    let e3 = 3072 + e;
-    let e4 = 4096 + e;
+    let e1 = limits::ELEMENT_BASE + e;
+    let e2 = limits::ELEMENT_RUBY + e;
+    let e3 = limits::ELEMENT_LEFT_KIND + e;
+    let e4 = limits::ELEMENT_LEFT + e;
     let u = n.runs;
     let v = n.lruns;
     tell_lists(
@@ -214,12 +214,12 @@ fn tell_elements(
         rclass,
         rwidth,
         &left[0..l],
-        &left[2048..l1],
+        &left[limits::LEFT_WIDTH..l1],
         &elem[0..e],
-        &elem[1024..e1],
-        &elem[2048..e2],
-        &elem[3072..e3],
-        &elem[4096..e4],
+        &elem[limits::ELEMENT_BASE..e1],
+        &elem[limits::ELEMENT_RUBY..e2],
+        &elem[limits::ELEMENT_LEFT_KIND..e3],
+        &elem[limits::ELEMENT_LEFT..e4],
         &runs[0..u],
         &lruns[0..v],
         rows,
@@ -249,24 +249,24 @@ fn tell_tables(
     ensures { λ r. let job = tablesJob n (tablesWas set base ruby left elem runs lruns) in ⌜ Told job (listsWas rows told extents) (was out) r (listsNow (rows .exit) (told .exit) (extents .exit)) (now (out .exit)) ⌝ }
 {
     let b = n.bases;
-    let b1 = 1024 + b;
-    let b2 = 2048 + b;
-    let b3 = 3072 + b;
-    let b4 = 4096 + b;
+    let b1 = limits::BASE_WIDTH + b;
+    let b2 = limits::BASE_BEFORE + b;
+    let b3 = limits::BASE_AFTER + b;
+    let b4 = limits::BASE_FLAG + b;
     let r = n.rubies;
-    let r1 = 2048 + r;
+    let r1 = limits::RUBY_WIDTH + r;
     tell_elements(
         set[0],
         set[1],
         [[set[2], set[3], set[4]], [set[5], set[6], set[7]]],
         set[8],
         &base[0..b],
-        &base[1024..b1],
-        &base[2048..b2],
-        &base[3072..b3],
-        &base[4096..b4],
+        &base[limits::BASE_WIDTH..b1],
+        &base[limits::BASE_BEFORE..b2],
+        &base[limits::BASE_AFTER..b3],
+        &base[limits::BASE_FLAG..b4],
         &ruby[0..r],
-        &ruby[2048..r1],
+        &ruby[limits::RUBY_WIDTH..r1],
         n,
         left,
         elem,
@@ -282,19 +282,19 @@ fn tell_tables(
 // The account of a sheet. The answer is how many bytes of `out` its text has.
 pub fn account_sheet(
     s: &[u8],
-    set: &mut [u32; 9],
-    base: &mut [u32; 5120],
-    ruby: &mut [u32; 4096],
-    left: &mut [u32; 4096],
-    elem: &mut [u32; 5120],
-    runs: &mut [u32; 32768],
-    lruns: &mut [u32; 32768],
-    rows: &mut [u32; 6144],
-    told: &mut [u32; 1024],
-    extents: &mut [u32; 1024],
-    out: &mut [u8; 131072],
+    set: &mut [u32; limits::SET],
+    base: &mut [u32; limits::BASE_TABLE],
+    ruby: &mut [u32; limits::RUBY_TABLE],
+    left: &mut [u32; limits::LEFT_TABLE],
+    elem: &mut [u32; limits::ELEMENT_TABLE],
+    runs: &mut [u32; limits::RUNS],
+    lruns: &mut [u32; limits::RUNS],
+    rows: &mut [u32; limits::ACCOUNT],
+    told: &mut [u32; limits::MOST_BASES],
+    extents: &mut [u32; limits::MOST_BASES],
+    out: &mut [u8; limits::ANSWER],
 ) -> usize
-    ensures { λ r. ⌜ Answered (was s) (tablesWas set base ruby left elem runs lruns) (listsWas rows told extents) (was out) r (tablesNow (set .exit) (base .exit) (ruby .exit) (left .exit) (elem .exit) (runs .exit) (lruns .exit)) (listsNow (rows .exit) (told .exit) (extents .exit)) (now (out .exit)) ⌝ }
+    ensures { λ r. ⌜ Answers s (tablesWas set base ruby left elem runs lruns) (listsWas rows told extents) out r (tablesNow (set .exit) (base .exit) (ruby .exit) (left .exit) (elem .exit) (runs .exit) (lruns .exit)) (listsNow (rows .exit) (told .exit) (extents .exit)) ⌝ }
     ensures { λ r. ⌜ Fits r (now (out .exit)) ⌝ }
 {
     match sheet::read_sheet(s, set, base, ruby, left, elem, runs, lruns) {

@@ -19,8 +19,7 @@ use Rattle.door.specs.Job.{Job}
 use Rattle.job.specs.Refusals.{fault}
 use Rattle.result.specs.Text.{refusalText}
 use Rattle.result.specs.Short.{longest}
-use Rattle.setter.specs.Answer.{sheetJob, jobText}
-use Rattle.setter.specs.Whole.{Lent}
+use Rattle.setter.specs.Answer.{sheetJob, jobText, Lent}
 use Rattle.other_form.specs.Other.{otherText, faultLine}
 
 -- the refusal of a sheet's job, if it has one; the result lists have the maximum lengths

@@ -67,7 +67,7 @@ module _ {s : List ℕ} {n : Counts} {t : Tables} {out : List ℕ} (q : TablesHo
   nine = sym (set-long (q .into)) ∙ q .lent .nine
 
   wide : length (q .was .elem) ≡ 5120
-  wide = sym (elem-long (q .into)) ∙ q .lent .longElem
+  wide = sym (elem-long (q .into)) ∙ q .lent .rest .longElem
 
   pub line-ready : FaultReady n (t .set) (t .elem)
   line-ready = fault-ready (q .into) nine wide

@@ -27,10 +27,10 @@ fn judge(
     requires { ⌜ longest ≤ length (now told) ⌝ }
     ensures { λ r. let job = tablesJob n (tablesWas set base ruby left elem runs lruns) in ⌜ Judged job (was told) r (now (told .exit)) ⌝ }
 {
-    let mut bases = [0; 1024];
-    let mut rubies = [0; 2048];
-    let mut lefts = [0; 2048];
-    let mut lines = [0; 1024];
+    let mut bases = [0; limits::MOST_BASES];
+    let mut rubies = [0; limits::MOST_RUBIES];
+    let mut lefts = [0; limits::MOST_LEFTS];
+    let mut lines = [0; limits::MOST_BASES];
     setter::set_tables(
         n,
         set,
@@ -64,7 +64,7 @@ fn write_judged(
     requires { ⌜ HoldsReady (now s) n (tablesNow set base ruby left elem runs lruns) (now out) ⌝ }
     ensures { λ r. ⌜ Wrote (was out) 0 (convertText (was s)) r (now (out .exit)) ⌝ }
 {
-    let mut told = [0; 131072];
+    let mut told = [0; limits::ANSWER];
     let r = judge(n, set, base, ruby, left, elem, runs, lruns, &mut told);
     if told[0] == 114 {
         return text::print::put_word(out, 0, &told[0..r]);
@@ -98,14 +98,14 @@ fn convert_tables(
 // Converts a sheet. The answer is how many bytes of `out` are written: the other sheet, or `refused N P`.
 pub fn convert(
     s: &[u8],
-    set: &mut [u32; 9],
-    base: &mut [u32; 5120],
-    ruby: &mut [u32; 4096],
-    left: &mut [u32; 4096],
-    elem: &mut [u32; 5120],
-    runs: &mut [u32; 32768],
-    lruns: &mut [u32; 32768],
-    out: &mut [u8; 65535],
+    set: &mut [u32; limits::SET],
+    base: &mut [u32; limits::BASE_TABLE],
+    ruby: &mut [u32; limits::RUBY_TABLE],
+    left: &mut [u32; limits::LEFT_TABLE],
+    elem: &mut [u32; limits::ELEMENT_TABLE],
+    runs: &mut [u32; limits::RUNS],
+    lruns: &mut [u32; limits::RUNS],
+    out: &mut [u8; limits::SHEET],
 ) -> usize
     ensures { λ r. ⌜ Converted (was s) (tablesWas set base ruby left elem runs lruns) (was out) r (tablesNow (set .exit) (base .exit) (ruby .exit) (left .exit) (elem .exit) (runs .exit) (lruns .exit)) (now (out .exit)) ⌝ }
     ensures { λ r. ⌜ Fits r (now (out .exit)) ⌝ }

@@ -24,46 +24,6 @@ ghost use Rattle.door.specs.Elements.{alone, withLeft, rightAs, rightBy,
 ghost use Rattle.door.specs.Whole.{ahead};
 use refusal::Refusal;
 
-// The kinds of element, as their letters on the sheet; a left reading has the letter of its kind, or that of none.
-pub const PLAIN: u32 = 80;
-
-pub const MONO: u32 = 77;
-
-pub const GROUP: u32 = 71;
-
-pub const JUKUGO: u32 = 74;
-
-pub const LEFT_NONE: u32 = 78;
-
-// The most that a job may have (numbers 1, 15, 20 and 2), that a character may be wide (3) and that an element may take (5).
-pub const MOST_EM: u32 = 4096;
-
-pub const MOST_MEASURE: u32 = 4000000;
-
-pub const MOST_RATIO: u32 = 7;
-
-pub const MOST_PROFILE: u32 = 1;
-
-pub const MOST_BASES: usize = 1024;
-
-pub const MOST_RUBIES: usize = 2048;
-
-pub const MOST_ELEMENTS: usize = 1024;
-
-// "as for right ones"
-pub const MOST_LEFTS: usize = 2048;
-
-pub const MOST_WIDTH: u32 = 4096;
-
-pub const ELEMENT_BASES: u32 = 32;
-
-pub const ELEMENT_RUBIES: u32 = 64;
-
-// "ruby ones 1,024 + index", left ones "3,072 + index": the place of the first character of either side in a refusal.
-pub const FIRST_RUBY: u32 = 1024;
-
-pub const FIRST_LEFT: u32 = 3072;
-
 // What the elements before one have taken: base characters, ruby characters and runs, left characters and their runs.
 pub struct Taken {
     pub base: usize,
@@ -136,7 +96,7 @@ fn em_wrong(em: u32) -> bool
     if em % 2 == 1 {
         return true;
     }
-    is_outside(2, MOST_EM, em)
+    is_outside(2, limits::MOST_EM, em)
 }
 
 // Number 12: some result list is below its count.
@@ -167,13 +127,13 @@ fn too_short(
 fn ratio_wrong(r: [u32; 3]) -> bool
     ensures { λ t. ⌜ t ≡ ratioWrong (ratioOf r) ⌝ }
 {
-    if MOST_RATIO < r[0] {
+    if limits::MOST_RATIO < r[0] {
         return true;
     }
-    if MOST_RATIO < r[1] {
+    if limits::MOST_RATIO < r[1] {
         return true;
     }
-    if MOST_RATIO < r[2] {
+    if limits::MOST_RATIO < r[2] {
         return true;
     }
     if r[0] == 0 {
@@ -191,7 +151,7 @@ fn check_house(em: u32, measure: u32, ratios: [[u32; 3]; 2], profile: u32) -> Ch
     if em_wrong(em) {
         return Checked::Refused(Refusal::Range(0));
     }
-    if is_outside(1, MOST_MEASURE, measure) {
+    if is_outside(1, limits::MOST_MEASURE, measure) {
         return Checked::Refused(Refusal::Range(1));
     }
     if ratio_wrong(ratios[0]) {
@@ -200,7 +160,7 @@ fn check_house(em: u32, measure: u32, ratios: [[u32; 3]; 2], profile: u32) -> Ch
     if ratio_wrong(ratios[1]) {
         return Checked::Refused(Refusal::Ratio(1));
     }
-    if MOST_PROFILE < profile {
+    if limits::MOST_PROFILE < profile {
         return Checked::Refused(Refusal::Profile);
     }
     Checked::Passed
@@ -219,16 +179,16 @@ fn check_sizes(
 ) -> Checked
     ensures { λ r. ⌜ r ≡ verdict (sizeRows bases rubies elements lefts base ruby left lines) ⌝ }
 {
-    if MOST_BASES < bases {
+    if limits::MOST_BASES < bases {
         return Checked::Refused(Refusal::Count(0));
     }
-    if MOST_RUBIES < rubies {
+    if limits::MOST_RUBIES < rubies {
         return Checked::Refused(Refusal::Count(1));
     }
-    if MOST_ELEMENTS < elements {
+    if limits::MOST_ELEMENTS < elements {
         return Checked::Refused(Refusal::Count(2));
     }
-    if MOST_LEFTS < lefts {
+    if limits::MOST_LEFTS < lefts {
         return Checked::Refused(Refusal::Count(3));
     }
     if too_short(base, ruby, left, lines, bases, rubies, lefts) {
@@ -242,7 +202,7 @@ fn character_wrong(class: u32, width: u32, flag: u32) -> bool
     ensures { λ r. ⌜ r ≡ characterWrong class width flag ⌝ }
 {
     if class::is_accepted(class) {
-        if is_outside(1, MOST_WIDTH, width) {
+        if is_outside(1, limits::MOST_WIDTH, width) {
             return true;
         }
         return 1 < flag;
@@ -350,43 +310,43 @@ fn check_readings(first: u32, n: usize, class: &[u32], width: &[u32]) -> Checked
 fn is_known(kind: u32) -> bool
     ensures { λ r. ⌜ r ≡ known kind ⌝ }
 {
-    if kind == PLAIN {
+    if kind == limits::PLAIN {
         return true;
     }
-    if kind == MONO {
+    if kind == limits::MONO {
         return true;
     }
-    if kind == GROUP {
+    if kind == limits::GROUP {
         return true;
     }
-    kind == JUKUGO
+    kind == limits::JUKUGO
 }
 
 fn is_known_left(kind: u32) -> bool
     ensures { λ r. ⌜ r ≡ knownLeft kind ⌝ }
 {
-    if kind == LEFT_NONE {
+    if kind == limits::LEFT_NONE {
         return true;
     }
-    if kind == MONO {
+    if kind == limits::MONO {
         return true;
     }
-    if kind == GROUP {
+    if kind == limits::GROUP {
         return true;
     }
-    kind == JUKUGO
+    kind == limits::JUKUGO
 }
 
 pub fn form_of(kind: u32) -> word::Form
     ensures { λ r. ⌜ r ≡ formOf kind ⌝ }
 {
-    if kind == MONO {
+    if kind == limits::MONO {
         return word::Form::M;
     }
-    if kind == GROUP {
+    if kind == limits::GROUP {
         return word::Form::G;
     }
-    if kind == JUKUGO {
+    if kind == limits::JUKUGO {
         return word::Form::J;
     }
     word::Form::P
@@ -395,13 +355,13 @@ pub fn form_of(kind: u32) -> word::Form
 pub fn left_of(kind: u32) -> word::Left
     ensures { λ r. ⌜ r ≡ leftOf kind ⌝ }
 {
-    if kind == MONO {
+    if kind == limits::MONO {
         return word::Left::M;
     }
-    if kind == GROUP {
+    if kind == limits::GROUP {
         return word::Left::G;
     }
-    if kind == JUKUGO {
+    if kind == limits::JUKUGO {
         return word::Left::J;
     }
     word::Left::N
@@ -429,7 +389,7 @@ fn runs_from(u: usize, n: usize, runs: &[u32]) -> Runs
         taken += run as usize;
         j += 1;
     }
-    if (ELEMENT_RUBIES as usize) < taken {
+    if (limits::ELEMENT_RUBIES as usize) < taken {
         return Runs::Wrong;
     }
     Runs::Sum(taken)
@@ -458,7 +418,7 @@ fn piece_of(form: word::Form, bases: usize, rubies: usize, at: Taken) -> Piece
 fn count_mono(ruby: u32, at: Taken) -> Counted
     ensures { λ c. ⌜ c ≡ rightAs form.M 1 ruby [] at ⌝ }
 {
-    if is_outside(1, ELEMENT_RUBIES, ruby) {
+    if is_outside(1, limits::ELEMENT_RUBIES, ruby) {
         return Counted::Out;
     }
     Counted::Is(piece_of(word::Form::M, 1, ruby as usize, at))
@@ -467,10 +427,10 @@ fn count_mono(ruby: u32, at: Taken) -> Counted
 fn count_group(base: u32, ruby: u32, at: Taken) -> Counted
     ensures { λ c. ⌜ c ≡ rightAs form.G base ruby [] at ⌝ }
 {
-    if is_outside(1, ELEMENT_BASES, base) {
+    if is_outside(1, limits::ELEMENT_BASES, base) {
         return Counted::Out;
     }
-    if is_outside(1, ELEMENT_RUBIES, ruby) {
+    if is_outside(1, limits::ELEMENT_RUBIES, ruby) {
         return Counted::Out;
     }
     Counted::Is(piece_of(word::Form::G, base as usize, ruby as usize, at))
@@ -480,7 +440,7 @@ fn count_jukugo(base: u32, at: Taken, runs: &[u32]) -> Counted
     requires { ⌜ at .run ≤ 1024 ⌝ }
     ensures { λ c. ⌜ c ≡ rightAs form.J base 0 (was runs) at ⌝ }
 {
-    if is_outside(1, ELEMENT_BASES, base) {
+    if is_outside(1, limits::ELEMENT_BASES, base) {
         return Counted::Out;
     }
     match runs_from(at.run, base as usize, runs) {
@@ -585,7 +545,7 @@ fn count_left(p: Piece, kind: u32, left: u32, runs: &[u32]) -> Counted
         return Counted::Is(with_left(p, gloss, taken));
     }
     if left_by_count(form, gloss) {
-        if is_outside(1, ELEMENT_RUBIES, left) {
+        if is_outside(1, limits::ELEMENT_RUBIES, left) {
             return Counted::Out;
         }
         return Counted::Is(with_left(p, gloss, left as usize));
@@ -608,7 +568,7 @@ pub fn count_element(
     ensures { λ c. ⌜ c ≡ countedBy kind base ruby lkind left (was runs) (was lruns) at ⌝ }
 {
     let counted = count_right(kind, base, ruby, at, runs);
-    if lkind == LEFT_NONE {
+    if lkind == limits::LEFT_NONE {
         return counted;
     }
     let Counted::Is(p) = counted else {
@@ -795,9 +755,9 @@ pub fn check_characters(
     let Checked::Passed = characters else {
         return characters;
     };
-    let rights = check_readings(FIRST_RUBY, rubies, rclass, rwidth);
+    let rights = check_readings(limits::FIRST_RUBY, rubies, rclass, rwidth);
     let Checked::Passed = rights else {
         return rights;
     };
-    check_readings(FIRST_LEFT, lefts, lclass, lwidth)
+    check_readings(limits::FIRST_LEFT, lefts, lclass, lwidth)
 }

@@ -48,11 +48,11 @@ fn plain_at(s: &[u8], at: usize) -> Line
     };
     Line::Holds(
         Element {
-            kind: 80,
+            kind: limits::PLAIN,
             base: 0,
             ruby: 0,
             runs: 0,
-            left: 78,
+            left: limits::LEFT_NONE,
             count: 0,
             lruns: 0,
         },
@@ -72,11 +72,11 @@ fn mono_at(s: &[u8], at: usize, stop: u8) -> Line
     };
     Line::Holds(
         Element {
-            kind: 77,
+            kind: limits::MONO,
             base: 0,
             ruby: r,
             runs: 0,
-            left: 78,
+            left: limits::LEFT_NONE,
             count: 0,
             lruns: 0,
         },
@@ -91,7 +91,7 @@ fn group_at(s: &[u8], at: usize, stop: u8) -> Line
     let text::Place::At(p) = text::read_word(s, at, b"G ") else {
         return Line::Broken;
     };
-    let text::Number::Is(b, q) = text::read_number(s, p, 32) else {
+    let text::Number::Is(b, q) = text::read_number(s, p, b' ') else {
         return Line::Broken;
     };
     let text::Number::Is(r, next) = text::read_number(s, q, stop) else {
@@ -99,11 +99,11 @@ fn group_at(s: &[u8], at: usize, stop: u8) -> Line
     };
     Line::Holds(
         Element {
-            kind: 71,
+            kind: limits::GROUP,
             base: b,
             ruby: r,
             runs: 0,
-            left: 78,
+            left: limits::LEFT_NONE,
             count: 0,
             lruns: 0,
         },
@@ -119,13 +119,13 @@ fn jukugo_at(s: &[u8], at: usize, stop: u8, runs: &mut [u32], used: usize) -> Li
     let text::Place::At(p) = text::read_word(s, at, b"J ") else {
         return Line::Broken;
     };
-    let text::Number::Is(b, q) = text::read_number(s, p, 32) else {
+    let text::Number::Is(b, q) = text::read_number(s, p, b' ') else {
         return Line::Broken;
     };
     if b < 1 {
         return Line::Broken;
     }
-    if 32 < b {
+    if limits::ELEMENT_BASES < b {
         return Line::Broken;
     }
     let n = b as usize;
@@ -134,11 +134,11 @@ fn jukugo_at(s: &[u8], at: usize, stop: u8, runs: &mut [u32], used: usize) -> Li
     };
     Line::Holds(
         Element {
-            kind: 74,
+            kind: limits::JUKUGO,
             base: b,
             ruby: 0,
             runs: n,
-            left: 78,
+            left: limits::LEFT_NONE,
             count: 0,
             lruns: 0,
         },
@@ -168,7 +168,7 @@ fn right_at(s: &[u8], at: usize, stop: u8, runs: &mut [u32], used: usize) -> Lin
 }
 
 // The byte at a place, 0 past the end.
-fn byte_at(s: &[u8], at: usize) -> u8
+pub fn byte_at(s: &[u8], at: usize) -> u8
     ensures { λ r. ⌜ r ≡ byteAt (was s) at ⌝ }
 {
     if s.len() <= at { 0 } else { s[at] }
@@ -178,40 +178,48 @@ fn byte_at(s: &[u8], at: usize) -> u8
 fn is_counted(kind: u32, letter: u8) -> bool
     ensures { λ r. ⌜ r ≡ isCounted kind letter ⌝ }
 {
-    if letter == 71 {
+    if letter == b'G' {
         return true;
     }
-    if letter == 77 { kind == 77 } else { false }
+    if letter == b'M' {
+        kind == limits::MONO
+    } else {
+        false
+    }
 }
 
 // Whether its counts are left runs: those of M and J elsewhere; N has none.
 fn is_listed(letter: u8) -> bool
     ensures { λ r. ⌜ r ≡ isListed letter ⌝ }
 {
-    if letter == 78 {
+    if letter == b'N' {
         return true;
     }
-    if letter == 77 { true } else { letter == 74 }
+    if letter == b'M' { true } else { letter == b'J' }
 }
 
 // How many counts follow the letter then: none after N, else one for each base character of the element.
 fn counts_of(kind: u32, base: u32, letter: u8) -> usize
     ensures { λ r. ⌜ r ≡ countsOf kind base letter ⌝ }
 {
-    if letter == 78 {
+    if letter == b'N' {
         return 0;
     }
-    if kind == 77 { 1 } else { base as usize }
+    if kind == limits::MONO {
+        1
+    } else {
+        base as usize
+    }
 }
 
 // The left kind and its one count, the element's left count.
 fn counted_at(s: &[u8], e: Element, at: usize, letter: u8) -> Line
     ensures { λ r. ⌜ r ≡ countedAt letter e (was s) at ⌝ }
 {
-    let text::Place::At(p) = text::read_word(s, at, &[letter, 32]) else {
+    let text::Place::At(p) = text::read_word(s, at, &[letter, b' ']) else {
         return Line::Broken;
     };
-    let text::Number::Is(n, next) = text::read_number(s, p, 10) else {
+    let text::Number::Is(n, next) = text::read_number(s, p, b'\n') else {
         return Line::Broken;
     };
     Line::Holds(
@@ -234,10 +242,10 @@ fn listed_at(s: &[u8], e: Element, at: usize, letter: u8, lruns: &mut [u32], use
     ensures { λ r. ⌜ (r ≡ listedAt letter e (was s) at .line) × (now (lruns .exit) ≡ sets (was lruns) used (listedAt letter e (was s) at .runs)) ⌝ }
 {
     let n = counts_of(e.kind, e.base, letter);
-    let text::Place::At(p) = text::read_word(s, at, &[letter, rows::stop_of(10, n)]) else {
+    let text::Place::At(p) = text::read_word(s, at, &[letter, rows::stop_of(b'\n', n)]) else {
         return Line::Broken;
     };
-    let text::Place::At(next) = rows::fields_at(s, p, 10, n, lruns, used, 1) else {
+    let text::Place::At(next) = rows::fields_at(s, p, b'\n', n, lruns, used, 1) else {
         return Line::Broken;
     };
     Line::Holds(
@@ -274,8 +282,8 @@ fn stop_by(form: SheetForm) -> u8
     ensures { λ r. ⌜ r ≡ stopBy form ⌝ }
 {
     match form {
-        SheetForm::One => 10,
-        SheetForm::Two => 32,
+        SheetForm::One => b'\n',
+        SheetForm::Two => b' ',
     }
 }
 
@@ -325,10 +333,10 @@ fn put_element(e: Element, i: usize, table: &mut [u32])
     requires { ⌜ PutReady i (now table) ⌝ }
     ensures { λ _. ⌜ now (table .exit) ≡ strided (was table) i 1024 (rowOf e) ⌝ }
 {
-    let base = i + 1024;
-    let ruby = base + 1024;
-    let left = ruby + 1024;
-    let count = left + 1024;
+    let base = i + limits::MOST_ELEMENTS;
+    let ruby = base + limits::MOST_ELEMENTS;
+    let left = ruby + limits::MOST_ELEMENTS;
+    let count = left + limits::MOST_ELEMENTS;
     table[i] = e.kind;
     table[base] = e.base;
     table[ruby] = e.ruby;

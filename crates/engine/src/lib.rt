@@ -4,11 +4,22 @@
 ghost use mathlib.Core.Path.{_≡_};
 ghost use lib.ListN.{length};
 ghost use Rattle.basics.specs.Seen.{was};
-ghost use Rattle.engine.specs.Seen.{leaves};
+ghost use Rattle.engine.specs.Seen.{leaves, Kept};
 ghost use Rattle.door.specs.Seen.{jobNow, jobWas};
 ghost use Rattle.door.specs.Job.{leftCount};
 ghost use Rattle.job.specs.Outcome.{outcome};
-ghost use Rattle.engine.specs.Filled.{Room, Fills, Keeps};
+ghost use Rattle.engine.specs.Filled.{Room, Fills};
+
+// How many base characters a job has at most that is set by the small tables, and the sizes of these and of the large ones, in a job without left characters and in one with some.
+const FEW: usize = 128;
+
+const SMALL: usize = cells::HEAD + cells::ROW * FEW;
+
+const SMALL_LEFT: usize = SMALL + cells::LEFT * FEW;
+
+const LARGE: usize = cells::HEAD + cells::ROW * limits::MOST_BASES;
+
+pub const TABLE: usize = LARGE + cells::LEFT * limits::MOST_BASES;
 
 // The job's table, and the ends and extents of its lines, at the front of lent lists; or the first refusal of all. `base`, `ruby`, `left` and `lines` are the lengths
 // of the result lists.
@@ -42,7 +53,7 @@ pub fn fill_job(
     lines: usize,
 ) -> filling::Lines
     requires { let job = jobNow em measure ratios profile class width before after flag rclass rwidth lclass lwidth kind ebase eruby lkind eleft runs lruns in ⌜ Room job (now t) (now ends) (now extents) ⌝ }
-    ensures { λ a. let job = jobWas em measure ratios profile class width before after flag rclass rwidth lclass lwidth kind ebase eruby lkind eleft runs lruns in ⌜ Fills job base ruby left lines (was extents) (now (t .exit)) (now (ends .exit)) (now (extents .exit)) a ⌝ }
+    ensures { λ a. let job = jobWas em measure ratios profile class width before after flag rclass rwidth lclass lwidth kind ebase eruby lkind eleft runs lruns in ⌜ Fills job base ruby left lines (was ends) (was extents) (now (t .exit)) (now (ends .exit)) (now (extents .exit)) a ⌝ }
 {
     match door::check_characters(
         em,
@@ -132,7 +143,7 @@ pub fn set_table(
 ) -> job::Answer
     requires { let job = jobNow em measure ratios profile class width before after flag rclass rwidth lclass lwidth kind ebase eruby lkind eleft runs lruns in ⌜ Room job (now t) (now ends) (now extents) ⌝ }
     ensures { λ r. let job = jobWas em measure ratios profile class width before after flag rclass rwidth lclass lwidth kind ebase eruby lkind eleft runs lruns in ⌜ leaves r (base .exit) (ruby .exit) (left .exit) (lines .exit) ≡ outcome job (was base) (was ruby) (was left) (was lines) ⌝ }
-    ensures { λ r. let job = jobWas em measure ratios profile class width before after flag rclass rwidth lclass lwidth kind ebase eruby lkind eleft runs lruns in ⌜ Keeps job (length (was base)) (length (was ruby)) (length (was left)) (length (was lines)) (was extents) (now (t .exit)) (now (ends .exit)) (now (extents .exit)) r ⌝ }
+    ensures { λ r. let job = jobWas em measure ratios profile class width before after flag rclass rwidth lclass lwidth kind ebase eruby lkind eleft runs lruns in ⌜ Kept job (was base) (was ruby) (was left) (was lines) (was ends) (was extents) (t .exit) (ends .exit) (extents .exit) r ⌝ }
 {
     match fill_job(
         t,
@@ -201,10 +212,10 @@ fn set_sides(
 ) -> job::Answer
     ensures { λ r. let job = jobWas em measure ratios profile class width before after flag rclass rwidth lclass lwidth kind ebase eruby lkind eleft runs lruns in ⌜ leaves r (base .exit) (ruby .exit) (left .exit) (lines .exit) ≡ outcome job (was base) (was ruby) (was left) (was lines) ⌝ }
 {
-    if door::base_count(class, width, before, after, flag) <= 128 {
-        let mut t = [0; 3463];
-        let mut ends = [0; 128];
-        let mut extents = [0; 128];
+    if door::base_count(class, width, before, after, flag) <= FEW {
+        let mut t = [0; SMALL_LEFT];
+        let mut ends = [0; FEW];
+        let mut extents = [0; FEW];
         return set_table(
             &mut t,
             &mut ends,
@@ -235,9 +246,9 @@ fn set_sides(
             lines,
         );
     }
-    let mut t = [0; 27655];
-    let mut ends = [0; 1024];
-    let mut extents = [0; 1024];
+    let mut t = [0; TABLE];
+    let mut ends = [0; limits::MOST_BASES];
+    let mut extents = [0; limits::MOST_BASES];
     set_table(
         &mut t,
         &mut ends,
@@ -299,10 +310,10 @@ fn set_right(
     requires { let job = jobNow em measure ratios profile class width before after flag rclass rwidth lclass lwidth kind ebase eruby lkind eleft runs lruns in ⌜ leftCount job ≡ 0 ⌝ }
     ensures { λ r. let job = jobWas em measure ratios profile class width before after flag rclass rwidth lclass lwidth kind ebase eruby lkind eleft runs lruns in ⌜ leaves r (base .exit) (ruby .exit) (left .exit) (lines .exit) ≡ outcome job (was base) (was ruby) (was left) (was lines) ⌝ }
 {
-    if door::base_count(class, width, before, after, flag) <= 128 {
-        let mut t = [0; 2439];
-        let mut ends = [0; 128];
-        let mut extents = [0; 128];
+    if door::base_count(class, width, before, after, flag) <= FEW {
+        let mut t = [0; SMALL];
+        let mut ends = [0; FEW];
+        let mut extents = [0; FEW];
         return set_table(
             &mut t,
             &mut ends,
@@ -333,9 +344,9 @@ fn set_right(
             lines,
         );
     }
-    let mut t = [0; 19463];
-    let mut ends = [0; 1024];
-    let mut extents = [0; 1024];
+    let mut t = [0; LARGE];
+    let mut ends = [0; limits::MOST_BASES];
+    let mut extents = [0; limits::MOST_BASES];
     set_table(
         &mut t,
         &mut ends,

@@ -1,11 +1,11 @@
 -- The account of a job in lists: the answer, and the lists after it. The checks and the refusals are those of the setting.
-use mathlib.Core.Path.{_≡_, refl, sym, ap, _∙_}
-use mathlib.Core.List.{List, [], _∷_, _++_}
+use mathlib.Core.Path.{_≡_, sym, ap, _∙_}
+use mathlib.Core.List.{List, [], _∷_}
 use mathlib.Core.Option.{Option, none, some}
 use Prim.Native.Nat.{ℕ, _*_, _/_, _≤_, min}
 use native.Mathlib.Omega.{arith}
 use lib.ListN.{length, take, drop, length-take, length-append}
-use lib.Seq.{sets}
+use lib.Seq.{sets, take-append-seam}
 use Rattle.refusal.specs.declared.Refusal.{Refusal}
 use Rattle.door.specs.Job.{Job, baseCount}
 use Rattle.job.specs.declared.Answer.{Answer}
@@ -18,7 +18,7 @@ use Rattle.job.specs.Declined.{filled}
 use Rattle.filling.specs.Lines.{extentsOf, length-extents}
 use Rattle.join.specs.Join.{sound}
 use Rattle.engine.specs.Fault as fault
-use Rattle.engine.specs.Filled.{Full}
+use Rattle.engine.specs.Filled.{Full, Stopped, front-is}
 use Rattle.job_account.specs.First.{first-none}
 use Rattle.job_account.specs.Table.{first, rowsBy, countsBy}
 use Rattle.job_account.specs.Lines.{accounts, counts, extents, LinesTold}
@@ -34,6 +34,12 @@ pub record Telling : Type 0 where
 -- for how many base characters the lists have room: a piece takes six numbers, a line one and one, and each has a base character of its own
 abbrev pub room : List ℕ → List ℕ → List ℕ → ℕ
 room rows told wide = min (length rows / 6) (min (length told) (length wide))
+
+pub room-long : (rows told wide : List ℕ) (n : ℕ) → n ≤ room rows told wide → (6 * n ≤ length rows) × (n ≤ length told) × (n ≤ length wide)
+room-long rows told wide n h = many (length rows) (length told) (length wide) h
+  where
+    many : (a b c : ℕ) → n ≤ min (a / 6) (min b c) → (6 * n ≤ a) × (n ≤ b) × (n ≤ c)
+    many a b c h = (omega arith, omega arith, omega arith)
 
 -- "None of them is altered by a refusal"; on success entries past those used stay as they were
 unfoldable pub tellingBy : Job → List ℕ → List ℕ → List ℕ → Option Refusal → Telling
@@ -52,18 +58,15 @@ chained : (job : Job) (s : ℕ) (es : List ℕ) (d : ℕ) → Chain job s es d �
 chained job s [] d c = tt
 chained job s (e ∷ es) d c = let a = c .0 .at in (a .ahead, a .within, chained job e es d (c .1))
 
-take-front : (xs ys : List ℕ) → take (length xs) (xs ++ ys) ≡ xs
-take-front [] ys = refl
-take-front (x ∷ xs) ys = ap (λ (l : List ℕ). x ∷ l) (take-front xs ys)
-
 module _ (job : Job) (rows told wide : List ℕ) (m : ℕ) (is : m ≡ room rows told wide) where
   -- the first refusal of all
-  pub refused : {q : Refusal} → fault job 1024 2048 2048 m ≡ some q → _≡_ {A = Telling} (record { answer = Refused q; rows = rows; told = told; extents = wide }) (telling job rows told wide)
+  pub refused : {was wasFar t found far : List ℕ} {q : Refusal} → Stopped job 1024 2048 2048 m was wasFar t found far q →
+      _≡_ {A = Telling} (record { answer = Refused q; rows = rows; told = told; extents = wide }) (telling job rows told wide)
   unfolding telling tellingBy
-  refused e = rw (← is, e)
+  refused s = rw (← is, s .first)
 
   -- a table that holds the job, and its n lines
-  module _ (wasFar t found far : List ℕ) (n : ℕ) (full : Full job 1024 2048 2048 m wasFar t found far n) where
+  module _ (was wasFar t found far : List ℕ) (n : ℕ) (full : Full job 1024 2048 2048 m was wasFar t found far n) where
     all : Filled job (ends job)
     all = filled job (full .passed) (full .none)
 
@@ -72,21 +75,16 @@ module _ (job : Job) (rows told wide : List ℕ) (m : ℕ) (is : m ≡ room rows
 
     -- the lists have room
     long : (6 * baseCount job ≤ length rows) × (baseCount job ≤ length told) × (baseCount job ≤ length wide)
-    long =
-        let k = fault.long job 1024 2048 2048 m (full .own) .1 in
-        many (length rows) (length told) (length wide) (omega (arith, is, k))
-      where
-        many : (a b c : ℕ) → baseCount job ≤ min (a / 6) (min b c) → (6 * baseCount job ≤ a) × (baseCount job ≤ b) × (baseCount job ≤ c)
-        many a b c h = (omega arith, omega arith, omega arith)
+    long = room-long rows told wide (baseCount job) (omega (arith, is, fault.long job 1024 2048 2048 m (full .own) .1))
 
     pub ready : LinesReady (job .em) t n found rows told
     ready =
         record {
           m = baseCount job;
           sound = sound job (full .passed) t (full .holds);
-          held = omega (arith, full .many, ap length (full .is), length-take n found);
+          held = omega (arith, full .many, ap length (front-is full), length-take n found);
           few = omega (arith, few, full .passed .fewBase);
-          lines = rw (full .is) (chained job 0 (ends job) (baseCount job) all);
+          lines = rw (front-is full) (chained job 0 (ends job) (baseCount job) all);
           room = long .0;
           roomTold = omega (arith, few, long .1);
         }
@@ -106,7 +104,7 @@ module _ (job : Job) (rows told wide : List ℕ) (m : ℕ) (is : m ≡ room rows
     )
 
     front : take n far ≡ extentsOf (job .em) t 0 (ends job)
-    front = rw (many-lengths, full .told) (take-front lengths (drop (length lengths) wasFar))
+    front = rw (many-lengths, full .told) (take-append-seam lengths (drop (length lengths) wasFar))
 
     -- all is told as the job's meaning has it
     module _ (rows2 told2 wide2 : List ℕ)
@@ -118,9 +116,9 @@ module _ (job : Job) (rows told wide : List ℕ) (m : ℕ) (is : m ≡ room rows
           record {
             rows =
                 lines .0
-                ∙ ap (sets rows 0) (ap (rowsBy (job .em) t first 0) (full .is)
+                ∙ ap (sets rows 0) (ap (rowsBy (job .em) t first 0) (front-is full)
                 ∙ join.rows-join job (full .passed) t (full .holds) first 0 (ends job) (baseCount job) (first-none job (full .passed)) all);
-            counts = lines .1 ∙ ap (sets told 0) (ap (countsBy t first 0) (full .is) ∙ join.counts-join job (full .passed) t (full .holds) first 0 (ends job) (baseCount job) all);
+            counts = lines .1 ∙ ap (sets told 0) (ap (countsBy t first 0) (front-is full) ∙ join.counts-join job (full .passed) t (full .holds) first 0 (ends job) (baseCount job) all);
             extents = extent ∙ ap (sets wide 0) (front ∙ join.extents-join job (full .passed) t (full .holds) 0 (ends job) (baseCount job) all);
           }
 

@@ -210,9 +210,9 @@ pub fn account_job(
     ensures { λ r. let job = jobWas em measure ratios profile class width before after flag rclass rwidth lclass lwidth kind ebase eruby lkind eleft runs lruns in ⌜ leaves r (rows .exit) (told .exit) (extents .exit) ≡ telling job (was rows) (was told) (was extents) ⌝ }
 {
     let room = room_of(rows.len(), told.len(), extents.len());
-    let mut t = [0; 27655];
-    let mut ends = [0; 1024];
-    let mut found = [0; 1024];
+    let mut t = [0; engine::TABLE];
+    let mut ends = [0; limits::MOST_BASES];
+    let mut found = [0; limits::MOST_BASES];
     match engine::fill_job(
         &mut t,
         &mut ends,
@@ -237,9 +237,9 @@ pub fn account_job(
         eleft,
         runs,
         lruns,
-        1024,
-        2048,
-        2048,
+        limits::MOST_BASES,
+        limits::MOST_RUBIES,
+        limits::MOST_LEFTS,
         room,
     ) {
         filling::Lines::Refused(why) => job::Answer::Refused(why),

@@ -35,9 +35,6 @@ pub enum Why {
     Long,
 }
 
-// How many elements a line of a job has at most.
-const MOST_ELEMENTS: usize = 1024;
-
 fn fewer(a: usize, b: usize) -> usize
     ensures { λ r. ⌜ r ≡ min a b ⌝ }
 {
@@ -127,7 +124,7 @@ fn all_within(
     ensures { λ r. ⌜ Tells r (AllWithin
         (lists (was front) (was len) (was right) (was rfrom) (was rupto) (was left) (was lfrom) (was lupto) (was before) (was after))) ⌝ }
 {
-    if MOST_ELEMENTS < count {
+    if limits::MOST_ELEMENTS < count {
         return false;
     }
     let mut i: usize = 0;

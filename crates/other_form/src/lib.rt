@@ -5,7 +5,7 @@ ghost use mathlib.Core.Path.{_≡_};
 ghost use mathlib.Core.Bool.{cond};
 ghost use Prim.Native.Nat.{_+_, _-_, _≤_, _<_};
 ghost use lib.Dec.{eqb};
-ghost use lib.ListN.{length, getD, drop};
+ghost use lib.ListN.{length, drop};
 ghost use Rattle.basics.specs.Seen.{was};
 ghost use Rattle.text.specs.Print.{Wrote};
 ghost use Rattle.elements.specs.declared.SheetForm.the-variants.{One, Two};
@@ -21,7 +21,7 @@ fn fewer(k: usize, b: u8) -> usize
     requires { ⌜ 0 < k ⌝ }
     ensures { λ r. ⌜ r ≡ cond (eqb b 10) (k - 1) k ⌝ }
 {
-    if b == 10 { k - 1 } else { k }
+    if b == b'\n' { k - 1 } else { k }
 }
 
 // The place past n lines from a place on.
@@ -46,11 +46,11 @@ fn put_on(out: &mut [u8], at: usize, last: u8, b: u8) -> usize
     requires { ⌜ at + length (onBy last b) ≤ length (now out) ⌝ }
     ensures { λ r. ⌜ Wrote (was out) at (onBy last b) r (now (out .exit)) ⌝ }
 {
-    if b != 10 {
+    if b != b'\n' {
         return text::print::put_byte(out, at, b);
     }
-    if last == 80 {
-        return text::print::put_byte(out, at, 10);
+    if last == b'P' {
+        return text::print::put_byte(out, at, b'\n');
     }
     text::print::put_word(out, at, b" N\n")
 }
@@ -62,7 +62,7 @@ fn letters_on(s: &[u8], from: usize, out: &mut [u8], to: usize) -> usize
 {
     let mut at = from;
     let mut p = to;
-    let mut last: u8 = 10;
+    let mut last: u8 = b'\n';
     while at < s.len() {
         let b = s[at];
         p = put_on(out, p, last, b);
@@ -72,28 +72,21 @@ fn letters_on(s: &[u8], from: usize, out: &mut [u8], to: usize) -> usize
     p
 }
 
-// The byte at a place, 0 past the end.
-fn byte_at(s: &[u8], at: usize) -> u8
-    ensures { λ r. ⌜ r ≡ getD (was s) at 0 ⌝ }
-{
-    if s.len() <= at { 0 } else { s[at] }
-}
-
 // A byte of a line of `elem` before the byte `next`, in form one: N goes, and the space before it.
 fn put_off(out: &mut [u8], at: usize, b: u8, next: u8) -> usize
     requires { ⌜ at + length (offBy b next) ≤ length (now out) ⌝ }
     ensures { λ r. ⌜ Wrote (was out) at (offBy b next) r (now (out .exit)) ⌝ }
 {
-    if b == 78 {
+    if b == b'N' {
         return at;
     }
-    if b != 32 {
+    if b != b' ' {
         return text::print::put_byte(out, at, b);
     }
-    if next == 78 {
+    if next == b'N' {
         return at;
     }
-    text::print::put_byte(out, at, 32)
+    text::print::put_byte(out, at, b' ')
 }
 
 // The lines from a place on without the letter N.
@@ -105,7 +98,7 @@ fn letters_off(s: &[u8], from: usize, out: &mut [u8], to: usize) -> usize
     let mut p = to;
     while at < s.len() {
         let next = at + 1;
-        p = put_off(out, p, s[at], byte_at(s, next));
+        p = put_off(out, p, s[at], elements::byte_at(s, next));
         at = next;
     }
     p
@@ -187,7 +180,7 @@ pub fn write_other(s: &[u8], n: sheet::Counts, out: &mut [u8]) -> usize
     requires { ⌜ OtherReady (now s) n (now out) ⌝ }
     ensures { λ r. ⌜ Wrote (was out) 0 (otherText (was s)) r (now (out .exit)) ⌝ }
 {
-    if byte_at(s, 4) == 57 {
+    if elements::byte_at(s, 4) == b'9' {
         to_one(s, n, out)
     } else {
         to_two(s, n, out)
@@ -236,8 +229,8 @@ pub fn fault_line(n: sheet::Counts, set: &[u32], elem: &[u32]) -> u32
     if 0 < n.lefts {
         return left_line(n);
     }
-    let e = 3072 + n.elements;
-    if basics::any_but(78, &elem[3072..e]) {
+    let e = limits::ELEMENT_LEFT_KIND + n.elements;
+    if basics::any_but(limits::LEFT_NONE, &elem[limits::ELEMENT_LEFT_KIND..e]) {
         return left_line(n);
     }
     0

@@ -11,7 +11,7 @@ ghost use Rattle.spread.specs.Gap.{starts};
 ghost use Rattle.word.specs.Word.{baseStarts};
 ghost use Rattle.line.specs.declared.Side.the-variants.{Right, Left};
 ghost use Rattle.cells.specs.Cells.{size};
-ghost use Rattle.positions.specs.Positions.{sheet, lent, over, first, readingEnd, runsPut, readingBy, baseOf, rubyOf, leftOf, byLine};
+ghost use Rattle.positions.specs.Positions.{sheet, lent, over, first, readingEnd, runsPut, readingBy, baseOf, rubyOf, leftOf, linesOver};
 ghost use Rattle.positions.specs.Ready.{StringReady, LineReady, LinesReady};
 ghost use Rattle.positions.specs.Runs.{RunsReady};
 ghost use Rattle.positions.specs.Piece.{ReadingReady};
@@ -157,7 +157,7 @@ pub fn put_lines(
     left: &mut [u32],
 )
     requires { ⌜ LinesReady (sheet em (now t) (now width) (now rwidth) (now lwidth)) n (now ends) (now base) (now ruby) (now left) ⌝ }
-    ensures { λ _. let g = sheet em (was t) (was width) (was rwidth) (was lwidth) in let es = take n (was ends) in ⌜ (now (base .exit) ≡ over (byLine (baseOf g) 0 es) (was base)) × (now (ruby .exit) ≡ over (byLine (rubyOf g) 0 es) (was ruby)) × (now (left .exit) ≡ over (byLine (leftOf g) 0 es) (was left)) ⌝ }
+    ensures { λ _. let g = sheet em (was t) (was width) (was rwidth) (was lwidth) in let es = take n (was ends) in ⌜ (now (base .exit) ≡ linesOver (baseOf g) es (was base)) × (now (ruby .exit) ≡ linesOver (rubyOf g) es (was ruby)) × (now (left .exit) ≡ linesOver (leftOf g) es (was left)) ⌝ }
 {
     let mut s: usize = 0;
     let mut l: usize = 0;

@@ -19,7 +19,7 @@ pub enum Part {
 pub fn stop_of(last: u8, left: usize) -> u8
     ensures { λ r. ⌜ r ≡ stopOf last left ⌝ }
 {
-    if left == 0 { last } else { 32 }
+    if left == 0 { last } else { b' ' }
 }
 
 // k numbers, the last ended by the byte `last`; the i-th goes to `to + i * step`.
@@ -62,7 +62,7 @@ pub fn rows_at(s: &[u8], head: Part, k: usize, most: usize, out: &mut [u32]) -> 
     let mut line = first;
     let mut i: usize = 0;
     while i < n {
-        let text::Place::At(next) = fields_at(s, at, 10, k, out, i, most) else {
+        let text::Place::At(next) = fields_at(s, at, b'\n', k, out, i, most) else {
             return Part::Refused(refusal::Refusal::Form(line));
         };
         at = next;
@@ -83,7 +83,7 @@ pub fn head_at(s: &[u8], last: Part, w: &[u8], most: u32, which: u32) -> Part
     let text::Place::At(p) = text::read_word(s, at, w) else {
         return Part::Refused(refusal::Refusal::Form(line));
     };
-    let text::Number::Is(n, next) = text::read_number(s, p, 10) else {
+    let text::Number::Is(n, next) = text::read_number(s, p, b'\n') else {
         return Part::Refused(refusal::Refusal::Form(line));
     };
     if most < n {

@@ -137,24 +137,36 @@ tablesJob n t =
     (t .runs)
     (t .lruns)
 
--- the tables are as long as that asks for
-pub record ElementsLong (n : Counts) (left elem runs lruns : List ℕ) : Type 0 where
+-- the tables of left characters, elements and runs, and all of them, as long as they are lent
+pub record ElementsLent (left elem runs lruns : List ℕ) : Type 0 where
   pub longLeft : length left ≡ 4096
   pub longElem : length elem ≡ 5120
   pub longRuns : length runs ≡ 32768
   pub longLruns : length lruns ≡ 32768
+
+pub record Lent (t : Tables) : Type 0 where
+  pub nine : length (t .set) ≡ 9
+  pub longBase : length (t .base) ≡ 5120
+  pub longRuby : length (t .ruby) ≡ 4096
+  pub rest : ElementsLent (t .left) (t .elem) (t .runs) (t .lruns)
+
+-- the counts of these within their maxima
+pub record ElementsFew (n : Counts) : Type 0 where
   pub lefts : n .lefts ≤ 2048
   pub elements : n .elements ≤ 1024
   pub fewRuns : n .runs ≤ 32768
   pub fewLruns : n .lruns ≤ 32768
 
+-- the tables are as long as that asks for
+pub record ElementsLong (n : Counts) (left elem runs lruns : List ℕ) : Type 0 where
+  pub lent : ElementsLent left elem runs lruns
+  pub few : ElementsFew n
+
 pub record TablesLong (n : Counts) (t : Tables) : Type 0 where
-  pub nine : length (t .set) ≡ 9
-  pub longBase : length (t .base) ≡ 5120
-  pub longRuby : length (t .ruby) ≡ 4096
+  pub lent : Lent t
   pub bases : n .bases ≤ 1024
   pub rubies : n .rubies ≤ 2048
-  pub rest : ElementsLong n (t .left) (t .elem) (t .runs) (t .lruns)
+  pub few : ElementsFew n
 
 -- n bytes at the front of a list, for those who write them out
 abbrev pub Fits : ℕ → List ℕ → Type 0

@@ -12,7 +12,7 @@ use Rattle.job.specs.Line.{ends, baseIn, readingIn, byLine}
 use Rattle.job.specs.Outcome.{Outcome, outcome}
 use Rattle.job.specs.Demands.{base-told, reading-told}
 use Rattle.filling.specs.Lines.{extentsOf, length-extents}
-use Rattle.engine.specs.Filled.{Full, Keeps}
+use Rattle.engine.specs.Filled.{Full, Keeps, front-is}
 use Rattle.result.specs.Text.{resultText}
 use Rattle.result.specs.ByRows.{rowsText}
 use Rattle.result.specs.Lines.{TextReady}
@@ -20,10 +20,10 @@ use Rattle.result.specs.Short.{longest}
 use Rattle.result.specs.Set.{accepted}
 use Rattle.result.specs.Accepted.{rows-text, text-ready}
 
-module _ (job : Job) (base ruby left lines wasFar t found far : List ℕ) (o : Outcome) (e : o ≡ outcome job base ruby left lines)
-    (kept : Keeps job (length base) (length ruby) (length left) (length lines) wasFar t found far (o .answer)) {n : ℕ} (set : o .answer ≡ Set n) where
-  full : Full job (length base) (length ruby) (length left) (length lines) wasFar t found far n
-  full = subst (Keeps job (length base) (length ruby) (length left) (length lines) wasFar t found far) set kept
+module _ (job : Job) (base ruby left lines was wasFar t found far : List ℕ) (o : Outcome) (e : o ≡ outcome job base ruby left lines)
+    (kept : Keeps job (length base) (length ruby) (length left) (length lines) was wasFar t found far (o .answer)) {n : ℕ} (set : o .answer ≡ Set n) where
+  full : Full job (length base) (length ruby) (length left) (length lines) was wasFar t found far n
+  full = subst (Keeps job (length base) (length ruby) (length left) (length lines) was wasFar t found far) set kept
 
   far-long : n ≤ length far
   far-long =
@@ -48,9 +48,9 @@ module _ (job : Job) (base ruby left lines wasFar t found far : List ℕ) (o : O
   pub ready : {out : List ℕ} → longest ≤ length out → TextReady t n found far (o .base) (o .ruby) (o .left) out
   ready {out} h =
       let f = full in
-      text-ready job (f .passed) t (f .holds) (o .base) (o .ruby) (o .left) n found far wasFar (f .is) (f .many) (f .none) (f .told) out far-long (long .0) (long .1) (long .2) h
+      text-ready job (f .passed) t (f .holds) (o .base) (o .ruby) (o .left) n found far wasFar (front-is f) (f .many) (f .none) (f .told) out far-long (long .0) (long .1) (long .2) h
 
   pub printed : {out now : List ℕ} {r : ℕ} → Wrote out 0 (rowsText t n found far (o .base) (o .ruby) (o .left)) r now → Wrote out 0 (resultText job (o .base) (o .ruby) (o .left)) r now
   printed {out} {now} {r} w =
       let f = full in
-      subst (λ xs. Wrote out 0 xs r now) (rows-text job (f .passed) t (f .holds) (o .base) (o .ruby) (o .left) n found far wasFar (f .is) (f .many) (f .none) (f .told)) w
+      subst (λ xs. Wrote out 0 xs r now) (rows-text job (f .passed) t (f .holds) (o .base) (o .ruby) (o .left) n found far wasFar (front-is f) (f .many) (f .none) (f .told)) w

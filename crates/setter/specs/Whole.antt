@@ -15,7 +15,7 @@ use Rattle.sheet.specs.Sheet.{reading, Tables, Into}
 use Rattle.sheet.specs.Lent.{set-long, base-long, ruby-long, left-long, elem-long, runs-long, lruns-long, sound, base-part, ruby-part, left-part, elem-part, runs-part, lruns-part, set-at}
 use Rattle.result.specs.Text.{refusalText}
 use Rattle.result.specs.Short.{refusal-short}
-use Rattle.setter.specs.Answer.{sheetJob, answerBy, answerText, Lists, listsBy, Told, part, tablesJob, Fits, TablesLong, Answered}
+use Rattle.setter.specs.Answer.{sheetJob, answerBy, answerText, Lists, listsBy, Told, part, tablesJob, Fits, Lent, TablesLong, Answered}
 
 -- the reading as it is told, by its own answer
 pub as-read : {s : List ℕ} {was t : Tables} {a : Reading} → Into s was a t → Into s was (reading s .end) t
@@ -40,16 +40,6 @@ answered-refused {s} into {before} {out} {out'} {r} {why} e wrote =
       read = as-read into;
     }
 
--- the tables, as long as they are lent
-pub record Lent (t : Tables) : Type 0 where
-  pub nine : length (t .set) ≡ 9
-  pub longBase : length (t .base) ≡ 5120
-  pub longRuby : length (t .ruby) ≡ 4096
-  pub longLeft : length (t .left) ≡ 4096
-  pub longElem : length (t .elem) ≡ 5120
-  pub longRuns : length (t .runs) ≡ 32768
-  pub longLruns : length (t .lruns) ≡ 32768
-
 -- a sheet that keeps its form
 module _ {s : List ℕ} {was t : Tables} {a : Reading} {n : Counts} (into : Into s was a t) (e : a ≡ Sound n) (now : Lent t) where
   is : reading s .end ≡ Sound n
@@ -62,32 +52,23 @@ module _ {s : List ℕ} {was t : Tables} {a : Reading} {n : Counts} (into : Into
         nine = sym (set-long into) ∙ now .nine;
         longBase = sym (base-long into) ∙ now .longBase;
         longRuby = sym (ruby-long into) ∙ now .longRuby;
-        longLeft = sym (left-long into) ∙ now .longLeft;
-        longElem = sym (elem-long into) ∙ now .longElem;
-        longRuns = sym (runs-long into) ∙ now .longRuns;
-        longLruns = sym (lruns-long into) ∙ now .longLruns;
+        rest =
+            record {
+              longLeft = sym (left-long into) ∙ now .rest .longLeft;
+              longElem = sym (elem-long into) ∙ now .rest .longElem;
+              longRuns = sym (runs-long into) ∙ now .rest .longRuns;
+              longLruns = sym (lruns-long into) ∙ now .rest .longLruns;
+            };
       }
 
   pub tables-long : TablesLong n t
   tables-long =
       let w = sound into e in
       record {
-        nine = now .nine;
-        longBase = now .longBase;
-        longRuby = now .longRuby;
+        lent = now;
         bases = w .base .few;
         rubies = w .ruby .few;
-        rest =
-            record {
-              longLeft = now .longLeft;
-              longElem = now .longElem;
-              longRuns = now .longRuns;
-              longLruns = now .longLruns;
-              lefts = w .left .few;
-              elements = w .elem .few;
-              fewRuns = w .fewRuns;
-              fewLruns = w .fewLruns;
-            };
+        few = record { lefts = w .left .few; elements = w .elem .few; fewRuns = w .fewRuns; fewLruns = w .fewLruns };
       }
 
   base-column : (j a m : ℕ) → j < 5 → a ≡ j * 1024 → m ≡ a + n .bases → part a m (t .base) ≡ column j (reading s .base)
@@ -97,16 +78,16 @@ module _ {s : List ℕ} {was t : Tables} {a : Reading} {n : Counts} (into : Into
   ruby-column j a m h f g = ruby-part into e (l .longRuby) j a (m - a) h f (omega arith)
 
   left-column : (j a m : ℕ) → j < 2 → a ≡ j * 2048 → m ≡ a + n .lefts → part a m (t .left) ≡ column j (reading s .left)
-  left-column j a m h f g = left-part into e (l .longLeft) j a (m - a) h f (omega arith)
+  left-column j a m h f g = left-part into e (l .rest .longLeft) j a (m - a) h f (omega arith)
 
   elem-column : (j a m : ℕ) → j < 5 → a ≡ j * 1024 → m ≡ a + n .elements → part a m (t .elem) ≡ column j (reading s .elem)
-  elem-column j a m h f g = elem-part into e (l .longElem) j a (m - a) h f (omega arith)
+  elem-column j a m h f g = elem-part into e (l .rest .longElem) j a (m - a) h f (omega arith)
 
   all-runs : part 0 (n .runs) (t .runs) ≡ reading s .runs
-  all-runs = runs-part into e (l .longRuns) (n .runs - 0) (omega arith)
+  all-runs = runs-part into e (l .rest .longRuns) (n .runs - 0) (omega arith)
 
   all-lruns : part 0 (n .lruns) (t .lruns) ≡ reading s .lruns
-  all-lruns = lruns-part into e (l .longLruns) (n .lruns - 0) (omega arith)
+  all-lruns = lruns-part into e (l .rest .longLruns) (n .lruns - 0) (omega arith)
 
   pub same-job : tablesJob n t ≡ sheetJob (reading s)
   unfolding sheetJob

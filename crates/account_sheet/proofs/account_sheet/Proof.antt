@@ -3,7 +3,8 @@ use borrow.Author.Needs.{needs}
 use native.Mathlib.Omega.{arith}
 use Rattle.sheet.specs.Sheet.{tables}
 use Rattle.result.specs.Short.{refusal-short}
-use Rattle.setter.specs.Whole.{Lent, tables-long}
+use Rattle.setter.specs.Answer.{Lent}
+use Rattle.setter.specs.Whole.{tables-long}
 use Rattle.account_sheet.specs.Whole.{fits, answered-refused, answered-sound}
 use Rattle.account_sheet.proofs.account_sheet.Statement.{statement}
 use Rattle.account_sheet.proofs.account_sheet.Tie as tie
@@ -22,10 +23,13 @@ lent d =
       nine = d .before .before .before .before .before .before .before .before .before .before .before .before .before .before .before .before .tell-tables-arg2 .given .0;
       longBase = d .before .before .before .before .before .before .before .before .before .before .before .before .before .before .tell-tables-arg4 .given .0;
       longRuby = d .before .before .before .before .before .before .before .before .before .before .before .before .tell-tables-arg6 .given .0;
-      longLeft = d .before .before .before .before .before .before .before .before .before .before .tell-tables-arg8 .given .0;
-      longElem = d .before .before .before .before .before .before .before .before .tell-tables-arg10 .given .0;
-      longRuns = d .before .before .before .before .before .before .tell-tables-arg12 .given .0;
-      longLruns = d .before .before .before .before .tell-tables-arg14 .given .0;
+      rest =
+          record {
+            longLeft = d .before .before .before .before .before .before .before .before .before .before .tell-tables-arg8 .given .0;
+            longElem = d .before .before .before .before .before .before .before .before .tell-tables-arg10 .given .0;
+            longRuns = d .before .before .before .before .before .before .tell-tables-arg12 .given .0;
+            longLruns = d .before .before .before .before .tell-tables-arg14 .given .0;
+          };
     }
 
 read-sheet-requires : tie.Need-read-sheet-requires

@@ -106,7 +106,7 @@ part-tell-lists-start-9 c = search needs
 
 part-tell-lists-end-9 : tie.Need-part-tell-lists-end-9
 part-tell-lists-end-9 c = let a = c .before .before .before .before .before .before .before .before .before .before .before .before .before .before .before .before .before .before .before
-    .before .before .before .before in within (a .args .lruns .now) (a .pre .0 .longLruns) (a .pre .0 .fewLruns)
+    .before .before .before .before in within (a .args .lruns .now) (a .pre .0 .lent .longLruns) (a .pre .0 .few .fewLruns)
 
 tell-lists-requires : tie.Need-tell-lists-requires
 tell-lists-requires c κs = search needs

@@ -106,7 +106,7 @@ part-set-lists-start-9 c = search needs
 
 part-set-lists-end-9 : tie.Need-part-set-lists-end-9
 part-set-lists-end-9 c = let a = c .before .before .before .before .before .before .before .before .before .before .before .before .before .before .before .before .before .before .before
-    .before .before .before .before .before in within (a .args .lruns .now) (a .pre .0 .longLruns) (a .pre .0 .fewLruns)
+    .before .before .before .before .before in within (a .args .lruns .now) (a .pre .0 .lent .longLruns) (a .pre .0 .few .fewLruns)
 
 set-lists-requires : tie.Need-set-lists-requires
 set-lists-requires c κs = search needs

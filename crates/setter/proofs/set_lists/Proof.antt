@@ -63,7 +63,7 @@ write-result-requires c κs =
     let w = c .before .before .before .before .before .before .before .before in
     let f = kept w in
     let x = start f .args in
-    ready (job (start f)) (x .base .now) (x .ruby .now) (x .left .now) (x .lines .now) _ (f .set-table .last .0) (f .set-table .last .1 .0) (f .set-table .last .1 .1 .0) _
+    ready (job (start f)) (x .base .now) (x .ruby .now) (x .left .now) (x .lines .now) _ _ (f .set-table .last .0) (f .set-table .last .1 .0) (f .set-table .last .1 .1 .0) _
     (f .set-table .ensures .0) (f .set-table .ensures .1) (w .n .given .1) (start f .pre)
 
 same-length : tie.Need-same-length
@@ -107,7 +107,7 @@ returns-2 c =
     let f = kept w in
     let x = start f .args in
     told-set (f .set-table .ensures .0) (w .n .given .1)
-    (printed (job (start f)) (x .base .now) (x .ruby .now) (x .left .now) (x .lines .now) _ (f .set-table .last .0) (f .set-table .last .1 .0) (f .set-table .last .1 .1 .0) _
+    (printed (job (start f)) (x .base .now) (x .ruby .now) (x .left .now) (x .lines .now) _ _ (f .set-table .last .0) (f .set-table .last .1 .0) (f .set-table .last .1 .1 .0) _
     (f .set-table .ensures .0) (f .set-table .ensures .1) (w .n .given .1) (c .before .before .write-result .ensures))
 
 pub set-lists-spec : {M : Type 1} → statement M

@@ -3,7 +3,8 @@ use borrow.Author.Needs.{needs}
 use native.Mathlib.Omega.{arith}
 use Rattle.sheet.specs.Sheet.{tables}
 use Rattle.result.specs.Short.{refusal-short}
-use Rattle.setter.specs.Whole.{Lent, fits, answered-refused, tables-long, answered-sound}
+use Rattle.setter.specs.Answer.{Lent}
+use Rattle.setter.specs.Whole.{fits, answered-refused, tables-long, answered-sound}
 use Rattle.setter.proofs.set_sheet.Statement.{statement}
 use Rattle.setter.proofs.set_sheet.Tie as tie
 
@@ -21,10 +22,13 @@ lent d =
       nine = d .before .before .before .before .before .before .before .before .before .before .before .before .before .before .before .before .before .set-tables-arg2 .given .0;
       longBase = d .before .before .before .before .before .before .before .before .before .before .before .before .before .before .before .set-tables-arg4 .given .0;
       longRuby = d .before .before .before .before .before .before .before .before .before .before .before .before .before .set-tables-arg6 .given .0;
-      longLeft = d .before .before .before .before .before .before .before .before .before .before .before .set-tables-arg8 .given .0;
-      longElem = d .before .before .before .before .before .before .before .before .before .set-tables-arg10 .given .0;
-      longRuns = d .before .before .before .before .before .before .before .set-tables-arg12 .given .0;
-      longLruns = d .before .before .before .before .before .set-tables-arg14 .given .0;
+      rest =
+          record {
+            longLeft = d .before .before .before .before .before .before .before .before .before .before .before .set-tables-arg8 .given .0;
+            longElem = d .before .before .before .before .before .before .before .before .before .set-tables-arg10 .given .0;
+            longRuns = d .before .before .before .before .before .before .before .set-tables-arg12 .given .0;
+            longLruns = d .before .before .before .before .before .set-tables-arg14 .given .0;
+          };
     }
 
 read-sheet-requires : tie.Need-read-sheet-requires

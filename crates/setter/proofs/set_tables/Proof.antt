@@ -13,7 +13,7 @@ within : (t : List ℕ) (n : ℕ) → length t ≡ 4096 → n ≤ 2048 → (n �
 within t n f h = (omega arith, omega arith)
 
 rubies : (a : tie.Start) → (a .args .n .rubies ≤ length (a .args .ruby .now)) × (2048 + a .args .n .rubies ≤ length (a .args .ruby .now))
-rubies a = within (a .args .ruby .now) (a .args .n .rubies) (a .pre .0 .longRuby) (a .pre .0 .rubies)
+rubies a = within (a .args .ruby .now) (a .args .n .rubies) (a .pre .0 .lent .longRuby) (a .pre .0 .rubies)
 
 add-b1 : tie.Need-add-b1
 add-b1 c = search needs
@@ -125,7 +125,10 @@ part-set-elements-end-7 c = rubies
     .before .before .before .before .before) .1
 
 set-elements-requires : tie.Need-set-elements-requires
-set-elements-requires c κs = search needs
+set-elements-requires c κs =
+    let a = c .before .before .before .before .before .before .before .before .before .before .before .before .before .before .before .before .before .before
+    .before .before .before .before .before .before .before .before .before .before .before .before .before .before .before in
+    (record { lent = a .pre .0 .lent .rest; few = a .pre .0 .few }, a .pre .1)
 
 same-length : tie.Need-same-length
 same-length c = search needs
