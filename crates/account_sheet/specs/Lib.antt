@@ -1,7 +1,7 @@
 pub mod Answer
 pub mod Seen
-pub mod Tell
 pub mod Needs
+pub mod Tell
 pub mod Whole
 pub mod Determined
 pub mod Form

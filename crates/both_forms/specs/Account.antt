@@ -9,7 +9,7 @@ use Rattle.sheet.specs.declared.Reading.the-variants.{Sound}
 use Rattle.sheet.specs.Sheet.{reading}
 use Rattle.sheet.specs.Form.{Written, sheetOf, writtenOf}
 use Rattle.other_form.specs.Other.{Holds}
-use Rattle.setter.specs.Answer.{sheetJob}
+use Rattle.sheet_job.specs.Tables.{sheetJob}
 use Rattle.converter.specs.Convert.{given, convertText}
 use Rattle.converter.specs.Exact.{same-numbers}
 use Rattle.account_sheet.specs.Answer.{accountBy, accountOfSheet}

@@ -19,7 +19,7 @@ use Rattle.door.specs.Verdict.{append-none}
 use Rattle.door.specs.Passed.{Passed, passed}
 use Rattle.job.specs.Laws.{head-none}
 use Rattle.job.specs.Refusals.{linesFaults, faults, fault}
-use Rattle.setter.specs.Answer.{sheetJob}
+use Rattle.sheet_job.specs.Tables.{sheetJob}
 use Rattle.other_form.specs.Other.{otherText, Holds}
 use Rattle.other_form.specs.Known.{known}
 use Rattle.other_form.specs.Joined.{other-one}

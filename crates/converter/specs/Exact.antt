@@ -21,7 +21,8 @@ use Rattle.sheet.specs.Exact.{SoundAs}
 use Rattle.door.specs.Job.{Job}
 use Rattle.job.specs.Refusals.{fault}
 use Rattle.result.specs.Text.{refusalText}
-use Rattle.setter.specs.Answer.{sheetJob, answerBy, answerText}
+use Rattle.sheet_job.specs.Tables.{sheetJob}
+use Rattle.setter.specs.Answer.{answerBy, answerText}
 use Rattle.other_form.specs.Other.{other, otherText, Holds, faultLine}
 use Rattle.other_form.specs.Fault.{house-seven}
 use Rattle.other_form.specs.Known.{known}

@@ -19,8 +19,9 @@ use Rattle.sheet.specs.Sheet.{reading, Tables, Into}
 use Rattle.sheet.specs.Form.{Written, writtenOf}
 use Rattle.result.specs.Text.{refusalText}
 use Rattle.result.specs.Short.{refusal-short}
-use Rattle.setter.specs.Answer.{Fits, Lent}
-use Rattle.setter.specs.Whole.{as-read}
+use Rattle.sheet_job.specs.Tables.{Lent}
+use Rattle.setter.specs.Answer.{Fits}
+use Rattle.sheet_job.specs.Read.{as-read}
 use Rattle.other_form.specs.Other.{Holds, faultLine}
 use Rattle.other_form.specs.Fault.{house-seven}
 use Rattle.other_form.specs.Known.{known}

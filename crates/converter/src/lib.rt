@@ -1,52 +1,12 @@
 // The converter of R-6: a sheet of one form in, the same sheet of the other form out, or `refused N P`; bytes to bytes, and nothing is asked of the caller. The tables are lent, so that a program says
 // once how large they are; what each holds afterwards is part of the contract. It relies on `sheet` for the reading, on `other_form` for the other sheet and the line that form one can't hold, on
-// `setter` for the job's own refusal, and on `result` for the text of a refusal.
-ghost use Prim.Native.Nat.{_≤_};
-ghost use lib.ListN.{length};
+// `sheet_job` for the job's own refusal, and on `result` for the text of a refusal.
 ghost use Rattle.basics.specs.Seen.{was};
 ghost use Rattle.sheet.specs.Seen.{tablesNow, tablesWas};
 ghost use Rattle.text.specs.Print.{Wrote};
 ghost use Rattle.sheet.specs.Sheet.{tables};
-ghost use Rattle.result.specs.Short.{longest};
-ghost use Rattle.setter.specs.Answer.{TablesLong, tablesJob, Fits};
-ghost use Rattle.converter.specs.Convert.{Judged, HoldsReady, TablesHold, convertText, Converted};
-
-// The text of the job that the tables hold: `refused N P`, or its result.
-fn judge(
-    n: sheet::Counts,
-    set: &[u32],
-    base: &[u32],
-    ruby: &[u32],
-    left: &[u32],
-    elem: &[u32],
-    runs: &[u32],
-    lruns: &[u32],
-    told: &mut [u8],
-) -> usize
-    requires { ⌜ TablesLong n (tablesNow set base ruby left elem runs lruns) ⌝ }
-    requires { ⌜ longest ≤ length (now told) ⌝ }
-    ensures { λ r. let job = tablesJob n (tablesWas set base ruby left elem runs lruns) in ⌜ Judged job (was told) r (now (told .exit)) ⌝ }
-{
-    let mut bases = [0; limits::MOST_BASES];
-    let mut rubies = [0; limits::MOST_RUBIES];
-    let mut lefts = [0; limits::MOST_LEFTS];
-    let mut lines = [0; limits::MOST_BASES];
-    setter::set_tables(
-        n,
-        set,
-        base,
-        ruby,
-        left,
-        elem,
-        runs,
-        lruns,
-        &mut bases,
-        &mut rubies,
-        &mut lefts,
-        &mut lines,
-        told,
-    )
-}
+ghost use Rattle.setter.specs.Answer.{Fits};
+ghost use Rattle.converter.specs.Convert.{HoldsReady, TablesHold, convertText, Converted};
 
 // A sound sheet that form one can hold: the other sheet, where its job is accepted.
 fn write_judged(
@@ -64,12 +24,25 @@ fn write_judged(
     requires { ⌜ HoldsReady (now s) n (tablesNow set base ruby left elem runs lruns) (now out) ⌝ }
     ensures { λ r. ⌜ Wrote (was out) 0 (convertText (was s)) r (now (out .exit)) ⌝ }
 {
-    let mut told = [0; limits::ANSWER];
-    let r = judge(n, set, base, ruby, left, elem, runs, lruns, &mut told);
-    if told[0] == 114 {
-        return text::print::put_word(out, 0, &told[0..r]);
+    let mut t = [0; engine::TABLE];
+    let mut ends = [0; limits::MOST_BASES];
+    let mut extents = [0; limits::MOST_BASES];
+    match sheet_job::fill_tables(
+        &mut t,
+        &mut ends,
+        &mut extents,
+        n,
+        set,
+        base,
+        ruby,
+        left,
+        elem,
+        runs,
+        lruns,
+    ) {
+        filling::Lines::Refused(why) => result::write_refusal(why, out),
+        filling::Lines::Filled(_) => other_form::write_other(s, n, out),
     }
-    other_form::write_other(s, n, out)
 }
 
 // A sound sheet: "17 .. after 13", and then its job.

@@ -17,8 +17,6 @@ use Rattle.door.specs.Refusals.{jobFaults, charFaults, elementsFaults, leftFaul
 use Rattle.door.specs.Verdict.{verdict, passed-none, append-none, front-refused, front-passed}
 use Rattle.door.specs.Passed.{Passed, limits, base-good, ruby-good, left-good}
 use Rattle.door.specs.Whole.{ahead}
-use Rattle.job.specs.declared.Answer.{Answer}
-use Rattle.job.specs.declared.Answer.the-variants as answer
 use Rattle.job.specs.Line.{ends}
 use Rattle.job.specs.Refusals.{linesFaults, fault}
 use Rattle.join.specs.Rows.{Holds}
@@ -46,11 +44,12 @@ unless (q ∷ qs) es = []
 abbrev pub foundOf : Job → ℕ → ℕ → ℕ → ℕ → List ℕ
 foundOf job base ruby left lines = unless (ownFaults job base ruby left lines) (ends job)
 
--- the job has the refusal q, and the lists have the lines that were found before it; all other entries are as they were
+-- the job has the refusal q, and the lists have the lines that were found before it; all other entries are as they were. Where neither characters nor elements are refused the table is laid.
 pub record Stopped (job : Job) (base ruby left lines : ℕ) (was wasFar t found far : List ℕ) (q : Refusal) : Type 0 where
   pub first : fault job base ruby left lines ≡ some q
   pub is : found ≡ over (foundOf job base ruby left lines) was
   pub told : far ≡ over (extentsOf (job .em) t 0 (foundOf job base ruby left lines)) wasFar
+  pub holds : ownFaults job base ruby left lines ≡ [] → Holds job t
 
 -- the job has no fault, its table is laid, and the lists have its k lines with their extents; all other entries are as they were
 pub record Full (job : Job) (base ruby left lines : ℕ) (was wasFar t found far : List ℕ) (k : ℕ) : Type 0 where
@@ -66,14 +65,13 @@ abbrev pub Fills : Job → ℕ → ℕ → ℕ → ℕ → List ℕ → List ℕ
 Fills job base ruby left lines was wasFar t found far (filling.Refused q) = Stopped job base ruby left lines was wasFar t found far q
 Fills job base ruby left lines was wasFar t found far (filling.Filled k) = Full job base ruby left lines was wasFar t found far k
 
--- the same of a job that is set, or refused
-abbrev pub Keeps : Job → ℕ → ℕ → ℕ → ℕ → List ℕ → List ℕ → List ℕ → List ℕ → List ℕ → Answer → Type 0
-Keeps job base ruby left lines was wasFar t found far (answer.Refused q) = Stopped job base ruby left lines was wasFar t found far q
-Keeps job base ruby left lines was wasFar t found far (answer.Set n) = Full job base ruby left lines was wasFar t found far n
-
 -- the first k entries are the job's lines
 pub front-is : {job : Job} {base ruby left lines : ℕ} {was wasFar t found far : List ℕ} {k : ℕ} → Full job base ruby left lines was wasFar t found far k → take k found ≡ ends job
 front-is {job} {was = was} f = rw (f .many, f .is) (take-append-seam (ends job) (drop (length (ends job)) was))
+
+some-refused : (qs : List Refusal) {q : Refusal} → verdict qs ≡ checked.Refused q → qs ≡ [] → ⊥
+some-refused [] e none = let z : _≡_ {A = ℕ} 0 1 = cc in omega arith
+some-refused (x ∷ qs) e none = let z : _≡_ {A = ℕ} 0 1 = cc in omega arith
 
 none-refused : (qs : List Refusal) (es : List ℕ) {q : Refusal} → verdict qs ≡ checked.Refused q → unless qs es ≡ []
 none-refused [] es e = absurd (let z : _≡_ {A = ℕ} 0 1 = cc in omega arith)
@@ -121,7 +119,12 @@ module _ (job : Job) (base ruby left lines : ℕ) where
   by-door : (was wasFar t : List ℕ) {q : Refusal} → verdict (ownFaults job base ruby left lines) ≡ checked.Refused q → Stopped job base ruby left lines was wasFar t was wasFar q
   by-door was wasFar t e =
       let none = none-refused (ownFaults job base ruby left lines) (ends job) e in
-      record { first = fault.by-door job base ruby left lines e; is = ap (λ es. over es was) (sym none); told = ap (λ es. over (extentsOf (job .em) t 0 es) wasFar) (sym none) }
+      record {
+        first = fault.by-door job base ruby left lines e;
+        is = ap (λ es. over es was) (sym none);
+        told = ap (λ es. over (extentsOf (job .em) t 0 es) wasFar) (sym none);
+        holds = λ own. absurd (some-refused (ownFaults job base ruby left lines) e own);
+      }
 
   -- the characters are refused
   pub by-characters : (was wasFar t : List ℕ) {q : Refusal} → verdict (ahead job base ruby left lines) ≡ checked.Refused q → Stopped job base ruby left lines was wasFar t was wasFar q
@@ -194,6 +197,7 @@ module _ (job : Job) (base ruby left lines : ℕ) where
                   first = fault.by-line job base ruby left lines own-passes (faults-join job passed t table ∙ rw (b .1, b .0));
                   is = f ∙ rw own;
                   told = g ∙ rw own;
+                  holds = λ _. table;
                 }
             go (filling.Filled k) e f g =
                 let b = is-filled (eqb (lastOr 0 (ends job)) (baseCount job)) (length (ends job)) (lastOr 0 (ends job)) k e in

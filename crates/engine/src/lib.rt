@@ -4,7 +4,7 @@
 ghost use mathlib.Core.Path.{_≡_};
 ghost use lib.ListN.{length};
 ghost use Rattle.basics.specs.Seen.{was};
-ghost use Rattle.engine.specs.Seen.{leaves, Kept};
+ghost use Rattle.engine.specs.Seen.{leaves};
 ghost use Rattle.door.specs.Seen.{jobNow, jobWas};
 ghost use Rattle.door.specs.Job.{leftCount};
 ghost use Rattle.job.specs.Outcome.{outcome};
@@ -111,8 +111,8 @@ pub fn fill_job(
     filling::fill_lines(t, n, ends, extents, em, 2 * measure)
 }
 
-// The job set by a table and lists of this size, which keep its rows, and the ends and extents of its lines.
-pub fn set_table(
+// The job set by a table and lists of this size, for its rows and the ends and extents of its lines.
+fn set_table(
     t: &mut [u32],
     ends: &mut [u32],
     extents: &mut [u32],
@@ -143,7 +143,6 @@ pub fn set_table(
 ) -> job::Answer
     requires { let job = jobNow em measure ratios profile class width before after flag rclass rwidth lclass lwidth kind ebase eruby lkind eleft runs lruns in ⌜ Room job (now t) (now ends) (now extents) ⌝ }
     ensures { λ r. let job = jobWas em measure ratios profile class width before after flag rclass rwidth lclass lwidth kind ebase eruby lkind eleft runs lruns in ⌜ leaves r (base .exit) (ruby .exit) (left .exit) (lines .exit) ≡ outcome job (was base) (was ruby) (was left) (was lines) ⌝ }
-    ensures { λ r. let job = jobWas em measure ratios profile class width before after flag rclass rwidth lclass lwidth kind ebase eruby lkind eleft runs lruns in ⌜ Kept job (was base) (was ruby) (was left) (was lines) (was ends) (was extents) (t .exit) (ends .exit) (extents .exit) r ⌝ }
 {
     match fill_job(
         t,

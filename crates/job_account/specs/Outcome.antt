@@ -1,6 +1,6 @@
 -- The account of a job in lists: the answer, and the lists after it. The checks and the refusals are those of the setting.
-use mathlib.Core.Path.{_≡_, sym, ap, _∙_}
-use mathlib.Core.List.{List, [], _∷_}
+use mathlib.Core.Path.{_≡_, refl, sym, ap, _∙_}
+use mathlib.Core.List.{List, [], _∷_, _++_}
 use mathlib.Core.Option.{Option, none, some}
 use Prim.Native.Nat.{ℕ, _*_, _/_, _≤_, min}
 use native.Mathlib.Omega.{arith}
@@ -8,10 +8,14 @@ use lib.ListN.{length, take, drop, length-take, length-append}
 use lib.Seq.{sets, take-append-seam}
 use Rattle.refusal.specs.declared.Refusal.{Refusal}
 use Rattle.door.specs.Job.{Job, baseCount}
+use Rattle.door.specs.Refusals.{ownFaults}
+use Rattle.door.specs.Verdict.{append-none}
+use Rattle.door.specs.Passed.{passed}
 use Rattle.job.specs.declared.Answer.{Answer}
 use Rattle.job.specs.declared.Answer.the-variants.{Set, Refused}
 use Rattle.job.specs.Line.{ends}
-use Rattle.job.specs.Refusals.{faults, fault}
+use Rattle.job.specs.Refusals.{linesFaults, faults, fault}
+use Rattle.job.specs.Laws.{head-none}
 use Rattle.job.specs.Promise.{Chain, Filled}
 use Rattle.job.specs.Filled.{chain-few}
 use Rattle.job.specs.Declined.{filled}
@@ -129,3 +133,28 @@ module _ (job : Job) (rows told wide : List ℕ) (m : ℕ) (is : m ≡ room rows
       pub tells : _≡_ {A = Telling} (record { answer = Set n; rows = rows2; told = told2; extents = wide2 }) (telling job rows told wide)
       unfolding telling tellingBy
       tells = rw (← is, no-fault, full .many, lines-told .rows, lines-told .counts, lines-told .extents)
+
+-- a job that is accepted has no more lines than base characters
+module _ (job : Job) (rows told wide : List ℕ) {k : ℕ} (set : telling job rows told wide .answer ≡ Set k) where
+  abbrev given : Option Refusal
+  given = fault job 1024 2048 2048 (room rows told wide)
+
+  abbrev own : List Refusal
+  own = ownFaults job 1024 2048 2048 (room rows told wide)
+
+  clear : (given ≡ none) × (k ≡ length (ends job))
+  unfolding telling tellingBy
+  clear = go given set
+    where
+      go : (f : Option Refusal) → tellingBy job rows told wide f .answer ≡ Set k → (f ≡ none) × (k ≡ length (ends job))
+      go none e = let h : length (ends job) ≡ k = cc in (refl, sym h)
+      go (some q) e = absurd (let z : _≡_ {A = ℕ} 0 1 = cc in omega arith)
+
+  no-faults : (own ≡ []) × (linesFaults job ≡ [])
+  unfolding fault faults
+  no-faults = append-none own (linesFaults job) (head-none (own ++ linesFaults job) (clear .0))
+
+  pub few-lines : k ≤ 1024
+  few-lines =
+      let door = passed job 1024 2048 2048 (room rows told wide) (no-faults .0) in
+      omega (arith, clear .1, chain-few job 0 (baseCount job) (ends job) (filled job door (no-faults .1)), door .fewBase)

@@ -161,7 +161,7 @@ pub fn tell_lines(t: &[u32], n: usize, ends: &[u32], em: u32, rows: &mut [u32], 
 }
 
 // The extents of n lines, from the front of `found`.
-fn put_extents(n: usize, found: &[u32], extents: &mut [u32])
+pub fn put_extents(n: usize, found: &[u32], extents: &mut [u32])
     requires { ⌜ (n ≤ 1024) × (n ≤ length (now found)) × (n ≤ length (now extents)) ⌝ }
     ensures { λ _. ⌜ now (extents .exit) ≡ sets (was extents) 0 (take n (was found)) ⌝ }
 {

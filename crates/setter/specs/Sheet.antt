@@ -26,7 +26,8 @@ use Rattle.job.specs.Table.{Row}
 use Rattle.job.specs.Outcome.{Outcome, outcome}
 use Rattle.job.specs.Demands.{refused-exactly}
 use Rattle.result.specs.Text.{resultText, refusalText}
-use Rattle.setter.specs.Answer.{jobText, sheetJob, answerBy, answerText}
+use Rattle.sheet_job.specs.Tables.{sheetJob}
+use Rattle.setter.specs.Answer.{jobText, answerBy, answerText}
 use Rattle.setter.specs.Tell.{refused-text, set-text}
 
 -- what is written of the sheet of some numbers is the text of their job

@@ -3,7 +3,7 @@ use borrow.Author.Needs.{needs}
 use native.Mathlib.Omega.{arith}
 use Rattle.sheet.specs.Sheet.{tables}
 use Rattle.result.specs.Short.{refusal-short}
-use Rattle.setter.specs.Answer.{Lent}
+use Rattle.sheet_job.specs.Tables.{Lent}
 use Rattle.converter.specs.Whole.{converted-fits, converted-refused, tables-hold, converted-written}
 use Rattle.converter.proofs.convert.Statement.{statement}
 use Rattle.converter.proofs.convert.Tie as tie
