@@ -17,10 +17,9 @@ use Rattle.sheet.specs.Sheet.{Tables}
 use Rattle.door.specs.Job.{Job, baseCount, elementCount}
 use Rattle.job.specs.Line.{ends}
 use Rattle.job.specs.Promise.{Filled}
-use Rattle.job.specs.Refusals.{faults, fault}
 use Rattle.job.specs.Declined.{filled}
 use Rattle.engine.specs.Fault as fault
-use Rattle.engine.specs.Filled.{Stopped, Full}
+use Rattle.engine.specs.Filled.{Stopped, Full, no-fault}
 use Rattle.result.specs.Text.{refusalText}
 use Rattle.result.specs.Short.{refusal-short}
 use Rattle.sheet_job.specs.Tables.{part, tablesJob, TablesLong}
@@ -132,8 +131,8 @@ module _ (job : Job) (rows told wide : List ℕ) (is : 1024 ≡ room rows told w
     long = room-long rows told wide (baseCount job) (omega (arith, is, fault.long job 1024 2048 2048 1024 (full .own) .1))
 
     set-is : jobAccount job 1024 ≡ accountText job
-    unfolding jobAccount tellingText fault faults
-    set-is = rw (full .own, full .none)
+    unfolding jobAccount tellingText
+    set-is = rw (no-fault full)
 
     set-short : length (accountText job) ≤ longest
     set-short = account-short job (full .passed) fill

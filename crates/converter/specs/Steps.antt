@@ -15,8 +15,8 @@ use Rattle.sheet.specs.declared.Counts.{Counts}
 use Rattle.sheet.specs.declared.Reading.the-variants.{Sound}
 use Rattle.sheet.specs.Sheet.{reading, Tables}
 use Rattle.sheet.specs.Form.{writtenOf}
-use Rattle.job.specs.Refusals.{faults, fault}
-use Rattle.engine.specs.Filled.{Full, Stopped}
+use Rattle.job.specs.Refusals.{fault}
+use Rattle.engine.specs.Filled.{Full, Stopped, no-fault}
 use Rattle.result.specs.Text.{refusalText}
 use Rattle.sheet_job.specs.Tables.{tablesJob, TablesLong}
 use Rattle.sheet_job.specs.Read.{tables-long, same-job}
@@ -81,12 +81,8 @@ module _ {s : List ℕ} {n : Counts} {t : Tables} {out : List ℕ} (q : HoldsRea
     wrote-refused x {k} {out'} w = subst (λ xs. Wrote out 0 xs k out') (sym (by-job ∙ ap (judged s) (given-is (x .first)))) w
 
     module _ {m : ℕ} (full : Full (tablesJob n t) 1024 2048 2048 1024 was wasFar u found far m) where
-      no-fault : fault (tablesJob n t) 1024 2048 2048 1024 ≡ none
-      unfolding fault faults
-      no-fault = rw (full .own, full .none)
-
       accepted : given (reading s) ≡ none
-      accepted = given-is no-fault
+      accepted = given-is (no-fault full)
 
       pub other-ready : OtherReady s n out
       other-ready =

@@ -2,7 +2,7 @@
 use mathlib.Core.Path.{_≡_, refl, sym, ap, _∙_, subst}
 use mathlib.Core.Bool.{Bool, true, false, cond}
 use mathlib.Core.List.{List, [], _∷_, _++_, append-assoc}
-use mathlib.Core.Option.{some}
+use mathlib.Core.Option.{some, none}
 use Prim.Native.Nat.{ℕ, _+_, _*_, _≤_, _<_}
 use native.Mathlib.Omega.{arith}
 use lib.Dec.{eqb}
@@ -18,7 +18,7 @@ use Rattle.door.specs.Verdict.{verdict, passed-none, append-none, front-refused
 use Rattle.door.specs.Passed.{Passed, limits, base-good, ruby-good, left-good}
 use Rattle.door.specs.Whole.{ahead}
 use Rattle.job.specs.Line.{ends}
-use Rattle.job.specs.Refusals.{linesFaults, fault}
+use Rattle.job.specs.Refusals.{linesFaults, faults, fault}
 use Rattle.join.specs.Rows.{Holds}
 use Rattle.join.specs.Join.{sound, lines-join, faults-join}
 use Rattle.layout.specs.Walk.{Ready}
@@ -65,13 +65,18 @@ abbrev pub Fills : Job → ℕ → ℕ → ℕ → ℕ → List ℕ → List ℕ
 Fills job base ruby left lines was wasFar t found far (filling.Refused q) = Stopped job base ruby left lines was wasFar t found far q
 Fills job base ruby left lines was wasFar t found far (filling.Filled k) = Full job base ruby left lines was wasFar t found far k
 
+-- a job that is filled has no fault
+pub no-fault : {job : Job} {base ruby left lines : ℕ} {was wasFar t found far : List ℕ} {k : ℕ} → Full job base ruby left lines was wasFar t found far k → fault job base ruby left lines ≡ none
+unfolding fault faults
+no-fault f = rw (f .own, f .none)
+
 -- the first k entries are the job's lines
 pub front-is : {job : Job} {base ruby left lines : ℕ} {was wasFar t found far : List ℕ} {k : ℕ} → Full job base ruby left lines was wasFar t found far k → take k found ≡ ends job
 front-is {job} {was = was} f = rw (f .many, f .is) (take-append-seam (ends job) (drop (length (ends job)) was))
 
 some-refused : (qs : List Refusal) {q : Refusal} → verdict qs ≡ checked.Refused q → qs ≡ [] → ⊥
-some-refused [] e none = let z : _≡_ {A = ℕ} 0 1 = cc in omega arith
-some-refused (x ∷ qs) e none = let z : _≡_ {A = ℕ} 0 1 = cc in omega arith
+some-refused [] e empty = let z : _≡_ {A = ℕ} 0 1 = cc in omega arith
+some-refused (x ∷ qs) e empty = let z : _≡_ {A = ℕ} 0 1 = cc in omega arith
 
 none-refused : (qs : List Refusal) (es : List ℕ) {q : Refusal} → verdict qs ≡ checked.Refused q → unless qs es ≡ []
 none-refused [] es e = absurd (let z : _≡_ {A = ℕ} 0 1 = cc in omega arith)
@@ -118,11 +123,11 @@ module _ (job : Job) (base ruby left lines : ℕ) where
   -- a refusal before any line is looked for
   by-door : (was wasFar t : List ℕ) {q : Refusal} → verdict (ownFaults job base ruby left lines) ≡ checked.Refused q → Stopped job base ruby left lines was wasFar t was wasFar q
   by-door was wasFar t e =
-      let none = none-refused (ownFaults job base ruby left lines) (ends job) e in
+      let empty = none-refused (ownFaults job base ruby left lines) (ends job) e in
       record {
         first = fault.by-door job base ruby left lines e;
-        is = ap (λ es. over es was) (sym none);
-        told = ap (λ es. over (extentsOf (job .em) t 0 es) wasFar) (sym none);
+        is = ap (λ es. over es was) (sym empty);
+        told = ap (λ es. over (extentsOf (job .em) t 0 es) wasFar) (sym empty);
         holds = λ own. absurd (some-refused (ownFaults job base ruby left lines) e own);
       }
 

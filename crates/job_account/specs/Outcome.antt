@@ -22,7 +22,7 @@ use Rattle.job.specs.Declined.{filled}
 use Rattle.filling.specs.Lines.{extentsOf, length-extents}
 use Rattle.join.specs.Join.{sound}
 use Rattle.engine.specs.Fault as fault
-use Rattle.engine.specs.Filled.{Full, Stopped, front-is}
+use Rattle.engine.specs.Filled.{Full, Stopped, no-fault, front-is}
 use Rattle.job_account.specs.First.{first-none}
 use Rattle.job_account.specs.Table.{first, rowsBy, countsBy}
 use Rattle.job_account.specs.Lines.{accounts, counts, extents, LinesTold}
@@ -126,13 +126,9 @@ module _ (job : Job) (rows told wide : List ℕ) (m : ℕ) (is : m ≡ room rows
             extents = extent ∙ ap (sets wide 0) (front ∙ join.extents-join job (full .passed) t (full .holds) 0 (ends job) (baseCount job) all);
           }
 
-      no-fault : fault job 1024 2048 2048 m ≡ none
-      unfolding fault faults
-      no-fault = rw (full .own, full .none)
-
       pub tells : _≡_ {A = Telling} (record { answer = Set n; rows = rows2; told = told2; extents = wide2 }) (telling job rows told wide)
       unfolding telling tellingBy
-      tells = rw (← is, no-fault, full .many, lines-told .rows, lines-told .counts, lines-told .extents)
+      tells = rw (← is, no-fault full, full .many, lines-told .rows, lines-told .counts, lines-told .extents)
 
 -- a job that is accepted has no more lines than base characters
 module _ (job : Job) (rows told wide : List ℕ) {k : ℕ} (set : telling job rows told wide .answer ≡ Set k) where

@@ -8,6 +8,7 @@ use native.Mathlib.Omega.{arith}
 use lib.Dec.{eqb}
 use lib.ListN.{length, getD}
 use Rattle.refusal.specs.declared.Refusal.{Refusal}
+use Rattle.refusal.specs.declared.Refusal.the-variants.{Element}
 use Rattle.spread.specs.Ratio.{Housed}
 use Rattle.word.specs.declared.Word.{Word}
 use Rattle.word.specs.declared.Answer.{Answer}
@@ -50,6 +51,11 @@ word-row job x w ends before after i c = rw (c, add-zero (x .ruby))
 
 pub jukugo-row : (job : Job) (x : Piece) (w : Word) (ends : Bool) (i : ℕ) → cuts job x ≡ true → jukugoRow job x w ends i ≡ rowBy job x w ends 0 0 i
 jukugo-row job x w ends i c = rw c
+
+-- "hands its refusal up unchanged"; a word is no refusal, and if one were handed in, its element would be told as number 5
+abbrev pub stopBy : ℕ → Answer → Step
+stopBy place (answered.Refused why) = Stop why
+stopBy place (answered.Set w) = Stop (Element place)
 
 -- the flag of its last base character is 1
 abbrev pub flagged : Job → Piece → Bool

@@ -7,14 +7,11 @@ ghost use Rattle.basics.specs.Seen.{was};
 ghost use Rattle.basics.specs.Lists.{sum};
 ghost use lib.Dec.{eqb};
 ghost use lib.ListN.{length, getD};
-ghost use Rattle.word.specs.declared.Answer.the-variants.{Refused};
-ghost use Rattle.refusal.specs.declared.Refusal as refusals;
 ghost use Rattle.door.specs.Job.{entries};
-ghost use Rattle.door.specs.declared.Step.the-variants.{Stop};
 ghost use Rattle.cells.specs.Cells.{size};
 ghost use Rattle.word_rows.specs.Table.{Filled};
 ghost use Rattle.word_rows.specs.Runs.{HasRuns, ownWord, jukugoRow, runRow, pastRun};
-ghost use Rattle.word_rows.specs.Word.{wordRow};
+ghost use Rattle.word_rows.specs.Word.{wordRow, stopBy};
 ghost use Rattle.word_rows.specs.Seen.{runsNow, runsWas};
 use refusal::Refusal;
 
@@ -175,7 +172,7 @@ pub fn put_runs(
 
 // Level one's refusal, handed up as it is.
 pub fn refused(place: u32, answer: word::Answer) -> door::Step
-    ensures { λ s. ⌜ ((why : refusals.Refusal) → answer ≡ Refused why → s ≡ Stop why) ⌝ }
+    ensures { λ s. ⌜ s ≡ stopBy place answer ⌝ }
 {
     let word::Answer::Refused(told) = answer else {
         return door::Step::Stop(Refusal::Element(place)); // unreachable: a word is no refusal

@@ -16,7 +16,7 @@ use Rattle.word.specs.Answer.{answer}
 use Rattle.door.specs.Job.{Job, given}
 use Rattle.word_rows.specs.Table.{Filled}
 use Rattle.word_rows.specs.Runs.{wordsOnly}
-use Rattle.word_rows.specs.Word.{wordRow, judged-stops, judged-goes}
+use Rattle.word_rows.specs.Word.{wordRow, judged-stops, judged-goes, stopBy}
 use Rattle.one_reading.specs.Lay.{group-lent, word-small}
 use Rattle.one_reading.proofs.lay_group.Statement.{statement}
 use Rattle.one_reading.proofs.lay_group.Tie as tie
@@ -136,7 +136,7 @@ refused-requires c κs = search needs
 returns : tie.Need-returns
 returns c =
     let e = c .before .enum-told .given .1 in
-    judged-stops (sym (told (c .before .before .before)) ∙ e) (c .refused .ensures _ e)
+    judged-stops (sym (told (c .before .before .before)) ∙ e) (c .refused .ensures ∙ ap (stopBy _) e)
 
 ends-behind-requires : tie.Need-ends-behind-requires
 ends-behind-requires c κs = let a = entry (c .before .before .before) in let w = a .pre .2 in (w .some, w .few, w .flag)

@@ -15,7 +15,7 @@ use Rattle.door.specs.Job.{Job, takesRuns, takesLeftRuns, given, glossOf}
 use Rattle.door.specs.Loop.{runs-few, left-runs-few}
 use Rattle.job.specs.Line.{cuts}
 use Rattle.word_rows.specs.Runs.{bothOnly}
-use Rattle.word_rows.specs.Word.{judged-stops, judged-goes}
+use Rattle.word_rows.specs.Word.{judged-stops, judged-goes, stopBy}
 use Rattle.two_readings.specs.Written.{Written, written-as}
 use Rattle.two_readings.specs.Left.{lent, lentLeft, left-lent, lent-ready, laidRow, bothRow, laid-both, cuts-by-word}
 use Rattle.two_readings.proofs.lay_left.Statement.{statement}
@@ -263,7 +263,7 @@ refused-requires c κs = search needs
 returns : tie.Need-returns
 returns c =
     let e = c .before .enum-told .given .1 in
-    judged-stops (sym (told (c .before .before .before)) ∙ e) (c .refused .ensures _ e)
+    judged-stops (sym (told (c .before .before .before)) ∙ e) (c .refused .ensures ∙ ap (stopBy _) e)
 
 put-both-requires : tie.Need-put-both-requires
 unfolding cuts
