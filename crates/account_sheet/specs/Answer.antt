@@ -3,30 +3,31 @@ use mathlib.Core.Bool.{cond}
 use mathlib.Core.List.{List, [], _++_}
 use mathlib.Core.Option.{Option, none, some}
 use mathlib.Core.Path.{_≡_}
-use Prim.Native.Nat.{ℕ, _≤_, _<_}
+use Prim.Native.Nat.{ℕ, _≤_}
 use lib.Dec.{eqb}
-use lib.ListN.{length}
 use Rattle.text.specs.Print.{Wrote}
 use Rattle.refusal.specs.declared.Refusal.{Refusal}
 use Rattle.refusal.specs.Refusal.{numberOf, placeOf}
 use Rattle.sheet.specs.declared.Reading.{Reading}
 use Rattle.sheet.specs.declared.Reading.the-variants.{Sound, Refused}
 use Rattle.sheet.specs.Sheet.{Sheet, reading, Tables, Into}
-use Rattle.door.specs.Job.{Job, baseCount, elements}
-use Rattle.door.specs.Refusals.{elementsFaults, leftFaults}
-use Rattle.door.specs.Passed.{Passed}
+use Rattle.door.specs.Job.{Job}
 use Rattle.job.specs.Refusals.{fault}
 use Rattle.result.specs.Text.{refusalText}
-use Rattle.setter.specs.Answer.{sheetJob}
+use Rattle.sheet_job.specs.Tables.{sheetJob}
 use Rattle.shortest.specs.Needed.{needed}
 use Rattle.job_account.specs.Outcome.{room, telling}
 use Rattle.account_text.specs.Text.{accountText, needsText}
 use Rattle.account_text.specs.Short.{longest}
 
--- a refusal; where a line is declined (11), also how far it falls short
+-- a refusal; where a line is declined (11), also the extent that it needs, and the measure
+abbrev pub refusedText : Refusal → ℕ → ℕ → List ℕ
+refusedText r needs measure = refusalText r ++ cond (eqb (numberOf r) 11) (needsText needs measure) []
+
+-- a refusal of a job: its own line, and how far that falls short
 unfoldable pub declinedText : Job → Refusal → List ℕ
 unfolding refusalText needsText needed
-declinedText job r = refusalText r ++ cond (eqb (numberOf r) 11) (needsText (needed job (placeOf r)) (job .measure)) []
+declinedText job r = refusedText r (needed job (placeOf r)) (job .measure)
 
 -- the account of a page that is clear, or its refusal
 unfoldable pub tellingText : Job → Option Refusal → List ℕ
@@ -68,17 +69,6 @@ unfoldable pub listsBy : Sheet → Reading → Lists → Lists
 unfolding sheetJob telling
 listsBy t (Refused r) was = was
 listsBy t (Sound n) was = leaves (sheetJob t) was
-
--- a line from s can be declined only where the job has no fault of its own
-pub record Lacks (job : Job) (s : ℕ) : Type 0 where
-  pub passed : Passed job
-  pub ahead : s < baseCount job
-  pub none : elementsFaults job 0 (elements job) ++ leftFaults job ≡ []
-
--- what is asked for to write a refusal
-pub record Declined (job : Job) (r : Refusal) (out : List ℕ) : Type 0 where
-  pub line : numberOf r ≡ 11 → Lacks job (placeOf r)
-  pub room : 66 ≤ length out
 
 -- A job is told: its lists are those of its account, and its text stands at the front of `out`.
 pub record Told (job : Job) (was : Lists) (out : List ℕ) (r : ℕ) (now : Lists) (newOut : List ℕ) : Type 0 where

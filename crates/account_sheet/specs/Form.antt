@@ -24,7 +24,7 @@ use Rattle.job.specs.Refusals.{fault}
 use Rattle.job.specs.Order.{given-first}
 use Rattle.result.specs.Text.{lineTwo, refusalText}
 use Rattle.result.specs.Refused.{refused-is, refused-begins}
-use Rattle.setter.specs.Answer.{sheetJob}
+use Rattle.sheet_job.specs.Tables.{sheetJob}
 use Rattle.setter.specs.Given.{Given, by-sheet, by-job, thirteen-by, two-by, twelve-by}
 use Rattle.shortest.specs.Needed.{needed}
 use Rattle.account_text.specs.Text.{said, verdictText, accountText, needsText}

@@ -1,6 +1,7 @@
 pub mod Answer
-pub mod Tell
+pub mod Seen
 pub mod Needs
+pub mod Tell
 pub mod Whole
 pub mod Determined
 pub mod Form

@@ -1,60 +1,71 @@
--- What a declined line needs, found in a table: its job has no fault of its own, so the layout passes, and the table holds the job.
-use mathlib.Core.Path.{_≡_, sym, ap, _∙_}
-use mathlib.Core.List.{List, _++_}
-use Prim.Native.Nat.{ℕ, _≤_, _<_}
+-- What a declined line needs, by the rows of its job's table: number 11 is given only where the job has no fault of its own, and then the table holds the job.
+use mathlib.Core.Bool.{Bool, true, false, cond}
+use mathlib.Core.List.{List, [], _++_, head?}
+use mathlib.Core.Option.{Option, some}
+use mathlib.Core.Path.{_≡_, refl, ap, _∙_}
+use Prim.Native.Nat.{ℕ, _≤_, _<_, _^_}
 use native.Mathlib.Omega.{arith}
+use borrow.Author.Tests.{eqb-true}
+use lib.Dec.{eqb}
 use lib.ListN.{length}
 use Rattle.refusal.specs.declared.Refusal.{Refusal}
-use Rattle.door.specs.declared.Checked.{Checked}
-use Rattle.door.specs.declared.Checked.the-variants.{Passed, Refused}
-use Rattle.door.specs.Job.{Job, baseCount, rubyCount, leftCount, elementCount, elements}
-use Rattle.door.specs.Refusals.{elementsFaults, leftFaults}
-use Rattle.door.specs.Verdict.{verdict}
+use Rattle.refusal.specs.declared.Refusal.the-variants.{NoBreak}
+use Rattle.refusal.specs.Refusal.{numberOf, placeOf, byPaper, of-number}
+use Rattle.door.specs.Job.{Job, baseCount}
+use Rattle.door.specs.Refusals.{ownFaults}
+use Rattle.door.specs.Passed.{Passed, passed}
+use Rattle.job.specs.Refusals.{linesFaults}
+use Rattle.job.specs.Declined as declined
+use Rattle.job.specs.Order.{lines-turn}
 use Rattle.cells.specs.Sound.{Sound}
 use Rattle.join.specs.Rows.{Holds}
 use Rattle.join.specs.Join.{sound}
-use Rattle.layout.specs.Walk.{Ready}
-use Rattle.layout.specs.Measure.{unmeasured, same-faults, measured}
+use Rattle.engine.specs.Filled.{Stopped}
+use Rattle.result.specs.Text.{refusalText}
 use Rattle.shortest.specs.Needed.{needed}
 use Rattle.shortest.specs.Shortest.{neededOf}
 use Rattle.shortest.specs.Join.{needed-join}
-use Rattle.account_sheet.specs.Answer.{Lacks}
+use Rattle.account_text.specs.Text.{needsText}
+use Rattle.account_sheet.specs.Answer.{refusedText, declinedText}
 
-module _ {job : Job} {s : ℕ} (q : Lacks job s) where
-  -- what the layout asks for
-  pub layout-ready : (t : List ℕ) → 27655 ≤ length t → Ready (unmeasured job) t
-  unfolding baseCount rubyCount leftCount elementCount
-  layout-ready t h =
-      let p = q .passed in
-      record {
-        house = p .house;
-        few = p .fewBase;
-        fewRuby = p .fewRuby;
-        fewLeft = p .fewLeft;
-        fewElements = p .fewElements;
-        some = λ i k. p .base i k .some;
-        narrow = λ i k. p .base i k .narrow;
-        narrowRuby = λ i k. p .ruby i k .narrow;
-        narrowLeft = λ i k. p .left i k .narrow;
-        room = omega (arith, p .fewBase);
-        roomLeft = λ _. omega (arith, p .fewBase);
-      }
+-- what is asked for to write a refusal: room, and of a line that is declined a table of n rows that tells what it needs
+pub record Declined (em : ℕ) (t : List ℕ) (n measure : ℕ) (r : Refusal) (out : List ℕ) : Type 0 where
+  pub line : numberOf r ≡ 11 → ((Sound em t n) × (placeOf r < n)) × (measure < 2 ^ 31)
+  pub room : 66 ≤ length out
 
-  -- it passes,
-  module _ (c : Checked) (t : List ℕ)
-      (laid : (c ≡ verdict (elementsFaults (unmeasured job) 0 (elements (unmeasured job)) ++ leftFaults (unmeasured job))) × (c ≡ Passed → Holds (unmeasured job) t)) where
-    passes : c ≡ Passed
-    passes = laid .0 ∙ ap verdict (same-faults job ∙ q .none)
+-- number 11 is the refusal of a line
+eleven : (r : Refusal) → numberOf r ≡ 11 → r ≡ NoBreak (placeOf r)
+unfolding byPaper
+eleven r e = of-number r 11 e
 
-    pub not-refused : {why : Refusal} → c ≡ Refused why → ⊥
-    not-refused {why} e = let z : Passed ≡ Refused why = sym passes ∙ e in let y : _≡_ {A = ℕ} 0 1 = cc in omega arith
+-- a job is refused
+module _ {job : Job} {was wasFar t found far : List ℕ} {q : Refusal} (stopped : Stopped job 1024 2048 2048 1024 was wasFar t found far q) where
+  -- a line of it is declined
+  module _ (h : numberOf q ≡ 11) where
+    turn : (ownFaults job 1024 2048 2048 1024 ≡ []) × (head? (linesFaults job) ≡ some (NoBreak (placeOf q)))
+    turn = lines-turn job 1024 2048 2048 1024 (NoBreak (placeOf q)) refl (stopped .first ∙ ap {B = Option Refusal} some (eleven q h))
+
+    door : Passed job
+    door = passed job 1024 2048 2048 1024 (turn .0)
+
+    ahead : placeOf q < baseCount job
+    ahead = declined.stuck job door (placeOf q) (turn .1) .more
 
     table : Holds job t
-    table = measured job t (laid .1 passes)
+    table = stopped .holds (turn .0)
 
-    -- and what a line needs is asked of the table, which tells it
-    pub asks : {n : ℕ} → n ≡ baseCount job → (Sound (job .em) t n) × (s < n)
-    asks e = rw e (sound job (q .passed) t table, q .ahead)
+  -- so what it needs is asked of the table's rows, and they tell it
+  module _ {n : ℕ} (many : n ≡ baseCount job) where
+    pub ready : {out : List ℕ} → 66 ≤ length out → Declined (job .em) t n (job .measure) q out
+    ready room = record { line = λ h. rw many ((sound job (door h) t (table h), ahead h), omega (arith, door h .measure)); room = room }
 
-    pub tells : {n r : ℕ} → n ≡ baseCount job → r ≡ neededOf (job .em) t n s → r ≡ needed job s
-    tells e is = is ∙ ap (λ n. neededOf (job .em) t n s) e ∙ needed-join job (q .passed) t table s (q .ahead)
+    pub same-text : refusedText q (neededOf (job .em) t n (placeOf q)) (job .measure) ≡ declinedText job q
+    unfolding declinedText
+    same-text = go (eqb (numberOf q) 11) refl
+      where
+        go : (b : Bool) → eqb (numberOf q) 11 ≡ b →
+            refusalText q ++ cond b (needsText (neededOf (job .em) t n (placeOf q)) (job .measure)) [] ≡ refusalText q ++ cond b (needsText (needed job (placeOf q)) (job .measure)) []
+        go true e =
+            let h = eqb-true (numberOf q) 11 e in
+            ap (λ d. refusalText q ++ needsText d (job .measure)) (ap (λ k. neededOf (job .em) t k (placeOf q)) many ∙ needed-join job (door h) t (table h) (placeOf q) (ahead h))
+        go false e = refl

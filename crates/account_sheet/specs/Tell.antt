@@ -1,194 +1,153 @@
 -- The text that was written is the job's: the refusal that it was given, with what a declined line needs, or its account.
 use mathlib.Core.Bool.{Bool, true, false, cond}
 use mathlib.Core.List.{List, [], _++_, append-nil}
-use mathlib.Core.Option.{Option, none, some}
-use mathlib.Core.Path.{_≡_, refl, sym, ap, subst, _∙_}
-use Prim.Native.Nat.{ℕ, _+_, _*_, _/_, _≤_, min}
+use mathlib.Core.Path.{_≡_, sym, ap, subst, _∙_}
+use Prim.Native.Nat.{ℕ, _+_, _-_, _*_, _≤_, min}
 use native.Mathlib.Omega.{arith}
 use borrow.Author.Tests.{eq-eqb, ne-eqb}
 use lib.Dec.{eqb}
-use lib.ListN.{length, length-append}
+use lib.ListN.{length, take, length-append, length-take, length-drop}
 use lib.Seq.{sets}
 use Rattle.text.specs.Print.{Wrote}
 use Rattle.text.specs.Written.{same-long}
 use Rattle.refusal.specs.declared.Refusal.{Refusal}
-use Rattle.refusal.specs.declared.Refusal.the-variants.{NoBreak}
-use Rattle.refusal.specs.Refusal.{numberOf, placeOf, byPaper, of-number}
-use Rattle.door.specs.Job.{Job, baseCount, elementCount, elements}
-use Rattle.door.specs.Refusals.{jobFaults, charFaults, elementsFaults, leftFaults, ownFaults}
-use Rattle.door.specs.Verdict.{verdict, append-none}
-use Rattle.door.specs.declared.Checked.the-variants as checked
-use Rattle.door.specs.Passed.{Passed, passed}
-use Rattle.job.specs.declared.Answer.{Answer}
-use Rattle.job.specs.declared.Answer.the-variants.{Set, Refused}
-use Rattle.job.specs.Laws.{head-none}
+use Rattle.refusal.specs.Refusal.{numberOf, placeOf}
+use Rattle.sheet.specs.declared.Counts.{Counts}
+use Rattle.sheet.specs.Sheet.{Tables}
+use Rattle.door.specs.Job.{Job, baseCount, elementCount}
 use Rattle.job.specs.Line.{ends}
 use Rattle.job.specs.Promise.{Filled}
-use Rattle.job.specs.Filled.{chain-few}
-use Rattle.job.specs.Refusals.{linesFaults, faults, fault}
-use Rattle.job.specs.Declined as declined
-use Rattle.job.specs.Order.{lines-turn}
+use Rattle.job.specs.Declined.{filled}
 use Rattle.engine.specs.Fault as fault
+use Rattle.engine.specs.Filled.{Stopped, Full, no-fault}
 use Rattle.result.specs.Text.{refusalText}
 use Rattle.result.specs.Short.{refusal-short}
+use Rattle.sheet_job.specs.Tables.{part, tablesJob, TablesLong}
 use Rattle.shortest.specs.Needed.{needed}
-use Rattle.job_account.specs.Lines.{accounts, counts, extents}
-use Rattle.job_account.specs.Outcome.{Telling, room, tellingBy, telling}
+use Rattle.job_account.specs.Table.{first, rowsBy, countsBy}
+use Rattle.job_account.specs.Lines.{LinesTold}
+use Rattle.job_account.specs.Outcome.{Telling, room, room-long}
+use Rattle.job_account.specs.Outcome as outcome
 use Rattle.account_text.specs.Text.{readingsOf, accountText, listsText, needsText}
 use Rattle.account_text.specs.Lists.{ListsReady}
 use Rattle.account_text.specs.Job.{text-is, lists-ready}
 use Rattle.account_text.specs.Short.{longest, account-short, declined-short}
-use Rattle.account_sheet.specs.Answer.{declinedText, tellingText, jobAccount, Lacks, Declined, lists, Told}
-
--- number 11 is the refusal of a line
-eleven : (r : Refusal) → numberOf r ≡ 11 → r ≡ NoBreak (placeOf r)
-unfolding byPaper
-eleven r e = of-number r 11 e
+use Rattle.account_sheet.specs.Answer.{refusedText, declinedText, tellingText, jobAccount, Lists, lists, Told}
 
 -- A refusal, as it is written.
-module _ (job : Job) (why : Refusal) where
-  pub other-text : (numberOf why ≡ 11 → ⊥) → declinedText job why ≡ refusalText why
-  unfolding declinedText
+module _ (why : Refusal) (needs measure : ℕ) where
+  pub other-text : (numberOf why ≡ 11 → ⊥) → refusedText why needs measure ≡ refusalText why
   other-text h = rw (ne-eqb (numberOf why) 11 h) (append-nil (refusalText why))
 
-  pub line-text : numberOf why ≡ 11 → declinedText job why ≡ refusalText why ++ needsText (needed job (placeOf why)) (job .measure)
-  unfolding declinedText
+  pub line-text : numberOf why ≡ 11 → refusedText why needs measure ≡ refusalText why ++ needsText needs measure
   line-text h = rw (eq-eqb (numberOf why) 11 h)
 
   -- room for all of it is room for each part
-  pub needs-fit : {out : List ℕ} → 66 ≤ length out → {at : ℕ} {u : List ℕ} → Wrote out 0 (refusalText why) at u → (n m : ℕ) → at + length (needsText n m) ≤ length u
-  needs-fit h w n m = omega (arith, w .next, same-long w, declined-short why n m, length-append (refusalText why) (needsText n m))
+  pub needs-fit : {out : List ℕ} → 66 ≤ length out → {at : ℕ} {u : List ℕ} → Wrote out 0 (refusalText why) at u → at + length (needsText needs measure) ≤ length u
+  needs-fit h w = omega (arith, w .next, same-long w, declined-short why needs measure, length-append (refusalText why) (needsText needs measure))
 
-  declined-most : length (declinedText job why) ≤ longest
-  unfolding declinedText
-  declined-most = go (eqb (numberOf why) 11)
+  refused-most : length (refusedText why needs measure) ≤ longest
+  refused-most = go (eqb (numberOf why) 11)
     where
-      go : (b : Bool) → length (refusalText why ++ cond b (needsText (needed job (placeOf why)) (job .measure)) []) ≤ longest
-      go true = omega (arith, declined-short why (needed job (placeOf why)) (job .measure))
+      go : (b : Bool) → length (refusalText why ++ cond b (needsText needs measure) []) ≤ longest
+      go true = omega (arith, declined-short why needs measure)
       go false = omega (arith, length-append (refusalText why) [], refusal-short why)
 
-module _ (job : Job) (rows told wide : List ℕ) where
-  abbrev m : ℕ
-  m = room rows told wide
+-- The lists of n lines, as a table and the lines' ends and extents tell them; entries that are not used stay.
+pub record Listed (em : ℕ) (t : List ℕ) (n : ℕ) (found far : List ℕ) (was now : Lists) : Type 0 where
+  pub lines : (now .rows ≡ sets (was .rows) 0 (rowsBy em t first 0 (take n found))) × (now .told ≡ sets (was .told) 0 (countsBy t first 0 (take n found)))
+  pub extent : now .wide ≡ sets (was .wide) 0 (take n far)
 
-  abbrev given : Option Refusal
-  given = fault job 1024 2048 2048 m
+-- An account is written from its lists and the table of its elements: their kinds are its first column, their left kinds its fourth.
+abbrev pub clearText : ℕ → ℕ → List ℕ → List ℕ → List ℕ → List ℕ → List ℕ
+clearText n e elem rows told wide = listsText n e (readingsOf (part 0 e elem) (part 3072 (3072 + e) elem) e) rows told wide
 
-  abbrev own : List Refusal
-  own = ownFaults job 1024 2048 2048 m
+pub record ClearReady (n e : ℕ) (elem rows told wide out : List ℕ) : Type 0 where
+  pub long : length elem ≡ 5120
+  pub few : e ≤ 1024
+  pub lists : ListsReady n e (readingsOf (part 0 e elem) (part 3072 (3072 + e) elem) e) rows told wide out
 
-  refused-given : {r : Refusal} → telling job rows told wide .answer ≡ Refused r → given ≡ some r
-  unfolding telling tellingBy
-  refused-given {r} = go given
-    where
-      go : (f : Option Refusal) → tellingBy job rows told wide f .answer ≡ Refused r → f ≡ some r
-      go none e = absurd (let z : _≡_ {A = ℕ} 0 1 = cc in omega arith)
-      go (some q) e = let h : q ≡ r = cc in ap {B = Option Refusal} some h
+-- The job that the tables hold has as many base characters and elements as they count.
+length-part : (a e : ℕ) (xs : List ℕ) → e ≤ length xs → length (part a e xs) ≡ e - a
+length-part a e xs h = simp (length-take, length-drop) (omega arith)
 
-  set-given : {n : ℕ} → telling job rows told wide .answer ≡ Set n → (given ≡ none) × (n ≡ length (ends job))
-  unfolding telling tellingBy
-  set-given {n} = go given
-    where
-      go : (f : Option Refusal) → tellingBy job rows told wide f .answer ≡ Set n → (f ≡ none) × (n ≡ length (ends job))
-      go none e = let h : length (ends job) ≡ n = cc in (refl, sym h)
-      go (some q) e = absurd (let z : _≡_ {A = ℕ} 0 1 = cc in omega arith)
+five : (n a b c d e : ℕ) → a ≡ n → b ≡ n → c ≡ n → d ≡ n → e ≡ n → n ≡ min a (min b (min c (min d e)))
+five n a b c d e f g h i j = rw (f, g, h, i, j) (omega arith)
 
-  -- a line is declined
-  pub line-declined : {r : Refusal} → telling job rows told wide .answer ≡ Refused r → numberOf r ≡ 11 → Lacks job (placeOf r)
-  unfolding ownFaults
-  line-declined {r} e h =
-      let t = lines-turn job 1024 2048 2048 m (NoBreak (placeOf r)) refl (refused-given e ∙ ap {B = Option Refusal} some (eleven r h)) in
-      let door = passed job 1024 2048 2048 m (t .0) in
-      let parts : List Refusal = elementsFaults job 0 (elements job) ++ leftFaults job in
+columns : (n : ℕ) (xs : List ℕ) → n ≤ 1024 → length xs ≡ 5120 →
+    n ≡ min (length (part 0 n xs)) (min (length (part 1024 (1024 + n) xs)) (min (length (part 2048 (2048 + n) xs)) (min (length (part 3072 (3072 + n) xs)) (length (part 4096 (4096 + n) xs)))))
+columns n xs h l =
+    five n _ _ _ _ _
+    (length-part 0 n xs (omega arith) ∙ omega arith)
+    (length-part 1024 (1024 + n) xs (omega arith) ∙ omega arith)
+    (length-part 2048 (2048 + n) xs (omega arith) ∙ omega arith)
+    (length-part 3072 (3072 + n) xs (omega arith) ∙ omega arith)
+    (length-part 4096 (4096 + n) xs (omega arith) ∙ omega arith)
+
+module _ {n : Counts} {t : Tables} (long : TablesLong n t) where
+  pub many-bases : n .bases ≡ baseCount (tablesJob n t)
+  unfolding baseCount
+  many-bases = columns (n .bases) (t .base) (long .bases) (long .lent .longBase)
+
+  pub many-elements : n .elements ≡ elementCount (tablesJob n t)
+  unfolding elementCount
+  many-elements = columns (n .elements) (t .elem) (long .few .elements) (long .lent .rest .longElem)
+
+-- A job whose lists have the maximum lengths.
+module _ (job : Job) (rows told wide : List ℕ) (is : 1024 ≡ room rows told wide) where
+  -- what the account leaves, and a text after it
+  tells : {o : Telling} → o ≡ outcome.telling job rows told wide → {out xs : List ℕ} {r : ℕ} {now : List ℕ} → jobAccount job 1024 ≡ xs → length xs ≤ longest → Wrote out 0 xs r now →
+      Told job (lists rows told wide) out r (lists (o .rows) (o .told) (o .extents)) now
+  tells e {out} {xs} {r} {now} same few wrote =
       record {
-        passed = door;
-        ahead = declined.stuck job door (placeOf r) (t .1) .more;
-        none = append-none (charFaults job) parts (append-none (jobFaults job 1024 2048 2048 m) (charFaults job ++ parts) (t .0) .1) .1;
+        holds = ap (λ (x : Telling). lists (x .rows) (x .told) (x .extents)) e;
+        text = subst (λ xs. Wrote out 0 xs r now) (sym same ∙ ap (jobAccount job) is) wrote;
+        short = omega (arith, wrote .next);
       }
 
-  refused-text : {r : Refusal} → telling job rows told wide .answer ≡ Refused r → jobAccount job m ≡ declinedText job r
-  unfolding jobAccount tellingText
-  refused-text e = rw (refused-given e)
+  -- it is refused
+  module _ {was wasFar t found far : List ℕ} {q : Refusal} (stopped : Stopped job 1024 2048 2048 1024 was wasFar t found far q) where
+    refused-text : jobAccount job 1024 ≡ declinedText job q
+    unfolding jobAccount tellingText
+    refused-text = rw (stopped .first)
 
-  -- the job is accepted
-  module _ {n : ℕ} (set : telling job rows told wide .answer ≡ Set n) where
-    no-faults : (own ≡ []) × (linesFaults job ≡ [])
-    unfolding fault faults
-    no-faults = append-none own (linesFaults job) (head-none (own ++ linesFaults job) (set-given set .0))
+    declined-most : length (declinedText job q) ≤ longest
+    unfolding declinedText
+    declined-most = refused-most q (needed job (placeOf q)) (job .measure)
 
-    passes : verdict own ≡ checked.Passed
-    passes = ap verdict (no-faults .0)
+    pub told-refused : {out : List ℕ} {r : ℕ} {now : List ℕ} → Wrote out 0 (declinedText job q) r now → Told job (lists rows told wide) out r (lists rows told wide) now
+    told-refused wrote = tells (outcome.refused job rows told wide 1024 is stopped) refused-text declined-most wrote
 
-    pub door : Passed job
-    door = fault.goes-on job 1024 2048 2048 m passes
+  -- it is accepted, and its n lines are told
+  module _ (was wasFar t found far : List ℕ) (n : ℕ) (full : Full job 1024 2048 2048 1024 was wasFar t found far n) (rows2 told2 wide2 : List ℕ)
+      (listed : Listed (job .em) t n found far (lists rows told wide) (lists rows2 told2 wide2)) where
+    kept : LinesTold job rows told wide rows2 told2 wide2
+    kept = outcome.lines-told job rows told wide 1024 is was wasFar t found far n full rows2 told2 wide2 (listed .lines) (listed .extent)
 
     fill : Filled job (ends job)
-    fill = declined.filled job door (no-faults .1)
+    fill = filled job (full .passed) (full .none)
 
     long : (6 * baseCount job ≤ length rows) × (baseCount job ≤ length told) × (baseCount job ≤ length wide)
-    long = many (length rows) (length told) (length wide) (fault.long job 1024 2048 2048 m (no-faults .0) .1)
-      where
-        many : (a b c : ℕ) → baseCount job ≤ min (a / 6) (min b c) → (6 * baseCount job ≤ a) × (baseCount job ≤ b) × (baseCount job ≤ c)
-        many a b c h = (omega arith, omega arith, omega arith)
+    long = room-long rows told wide (baseCount job) (omega (arith, is, fault.long job 1024 2048 2048 1024 (full .own) .1))
 
-    kept : (telling job rows told wide .rows ≡ sets rows 0 (accounts job)) × (telling job rows told wide .told ≡ sets told 0 (counts job)) × (telling job rows told wide .extents ≡ sets wide 0 (extents job))
-    unfolding telling tellingBy
-    kept = (rw (set-given set .0), rw (set-given set .0), rw (set-given set .0))
-
-    abbrev readings : ℕ
-    readings = readingsOf (job .kind) (job .leftKind) (elementCount job)
-
-    set-text : listsText n (elementCount job) readings (telling job rows told wide .rows) (telling job rows told wide .told) (telling job rows told wide .extents) ≡ accountText job
-    set-text = rw (kept .0, kept .1, kept .2, set-given set .1) (text-is job door fill rows told wide (long .0) (long .1) (long .2))
-
-    set-is : jobAccount job m ≡ accountText job
+    set-is : jobAccount job 1024 ≡ accountText job
     unfolding jobAccount tellingText
-    set-is = rw (set-given set .0)
+    set-is = rw (no-fault full)
 
     set-short : length (accountText job) ≤ longest
-    set-short = account-short job door fill
+    set-short = account-short job (full .passed) fill
 
-    set-ready : {out : List ℕ} → longest ≤ length out →
-        ListsReady n (elementCount job) readings (telling job rows told wide .rows) (telling job rows told wide .told) (telling job rows told wide .extents) out
-    set-ready h = rw (kept .0, kept .1, kept .2, set-given set .1) (lists-ready job door fill rows told wide (long .0) (long .1) (long .2) (omega (arith, set-short)))
+    -- its text, from its lists and its e elements
+    module _ (e : ℕ) (many : e ≡ elementCount job) where
+      pub account-ready : {out : List ℕ} → longest ≤ length out → ListsReady n e (readingsOf (job .kind) (job .leftKind) e) rows2 told2 wide2 out
+      account-ready h =
+          rw (kept .rows, kept .counts, kept .extents, full .many, many)
+          (lists-ready job (full .passed) fill rows told wide (long .0) (long .1) (long .2) (omega (arith, set-short)))
 
--- what the account left, and a text after it
-abbrev Tells : Job → List ℕ → List ℕ → List ℕ → List ℕ → Telling → ℕ → List ℕ → Type 0
-Tells job rows told wide out o r now = Told job (lists rows told wide) out r (lists (o .rows) (o .told) (o .extents)) now
+      set-text : listsText n e (readingsOf (job .kind) (job .leftKind) e) rows2 told2 wide2 ≡ accountText job
+      set-text = rw (kept .rows, kept .counts, kept .extents, full .many, many) (text-is job (full .passed) fill rows told wide (long .0) (long .1) (long .2))
 
-module _ (job : Job) (rows told wide : List ℕ) {o : Telling} (e : o ≡ telling job rows told wide) where
-  as-told : {a : Answer} → o .answer ≡ a → telling job rows told wide .answer ≡ a
-  as-told is = ap (λ (x : Telling). x .answer) (sym e) ∙ is
-
-  pub refusal-ready : {why : Refusal} → o .answer ≡ Refused why → {out : List ℕ} → longest ≤ length out → Declined job why out
-  refusal-ready {why} is h = record { line = line-declined job rows told wide (as-told is); room = omega arith }
-
-  pub account-ready : {n : ℕ} → o .answer ≡ Set n → {out : List ℕ} → longest ≤ length out →
-      ListsReady n (elementCount job) (readingsOf (job .kind) (job .leftKind) (elementCount job)) (o .rows) (o .told) (o .extents) out
-  account-ready is h = rw e (set-ready job rows told wide (as-told is) h)
-
-  -- there are at most as many lines as base characters
-  pub few-lines : {n : ℕ} → o .answer ≡ Set n → n ≤ 1024
-  few-lines is =
-      let set = as-told is in
-      omega (arith, set-given job rows told wide set .1, chain-few job 0 (baseCount job) (ends job) (fill job rows told wide set), door job rows told wide set .fewBase)
-
-  pub few-elements : {n : ℕ} → o .answer ≡ Set n → elementCount job ≤ 1024
-  few-elements is = door job rows told wide (as-told is) .fewElements
-
-  module _ {out : List ℕ} {r : ℕ} {now : List ℕ} where
-    tells : {xs : List ℕ} → jobAccount job (room rows told wide) ≡ xs → length xs ≤ longest → Wrote out 0 xs r now → Tells job rows told wide out o r now
-    tells same few wrote =
-        record {
-          holds = ap (λ (x : Telling). lists (x .rows) (x .told) (x .extents)) e;
-          text = subst (λ xs. Wrote out 0 xs r now) (sym same) wrote;
-          short = omega (arith, wrote .next);
-        }
-
-    pub told-refused : {why : Refusal} → o .answer ≡ Refused why → Wrote out 0 (declinedText job why) r now → Tells job rows told wide out o r now
-    told-refused {why} is wrote = tells (refused-text job rows told wide (as-told is)) (declined-most job why) wrote
-
-    pub told-set : {n : ℕ} → o .answer ≡ Set n → Wrote out 0 (listsText n (elementCount job) (readingsOf (job .kind) (job .leftKind) (elementCount job)) (o .rows) (o .told) (o .extents)) r now → Tells job rows told wide out o r now
-    told-set {n} is wrote =
-        let same : listsText n (elementCount job) (readingsOf (job .kind) (job .leftKind) (elementCount job)) (o .rows) (o .told) (o .extents) ≡ accountText job = rw e (set-text job rows told wide (as-told is)) in
-        tells (set-is job rows told wide (as-told is)) (set-short job rows told wide (as-told is)) (subst (λ xs. Wrote out 0 xs r now) same wrote)
+      pub told-set : {out : List ℕ} {r : ℕ} {now : List ℕ} → Wrote out 0 (listsText n e (readingsOf (job .kind) (job .leftKind) e) rows2 told2 wide2) r now →
+          Told job (lists rows told wide) out r (lists rows2 told2 wide2) now
+      told-set {out} {r} {now} wrote =
+          tells (outcome.tells job rows told wide 1024 is was wasFar t found far n full rows2 told2 wide2 (listed .lines) (listed .extent)) set-is set-short (subst (λ xs. Wrote out 0 xs r now) set-text wrote)

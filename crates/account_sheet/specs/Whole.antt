@@ -13,8 +13,10 @@ use Rattle.sheet.specs.declared.Reading.the-variants.{Sound, Refused}
 use Rattle.sheet.specs.Sheet.{reading, Tables, Into}
 use Rattle.result.specs.Text.{refusalText}
 use Rattle.result.specs.Short.{refusal-short}
-use Rattle.setter.specs.Answer.{sheetJob, tablesJob, Fits}
-use Rattle.setter.specs.Whole.{as-read, Lent, same-job}
+use Rattle.sheet_job.specs.Tables.{sheetJob, tablesJob, Lent}
+use Rattle.setter.specs.Answer.{Fits}
+use Rattle.sheet_job.specs.Read.{as-read, same-job}
+use Rattle.job_account.specs.Outcome.{room}
 use Rattle.account_sheet.specs.Answer.{jobAccount, accountBy, accountOfSheet, Lists, listsBy, Told, Answered}
 
 -- the bytes of an account stand within their list
@@ -37,20 +39,22 @@ answered-refused {s} into {before} {out} {out'} {r} {why} e wrote =
     }
 
 -- lists of the maximum lengths have room for as many base characters as there can be
-most : (a b c : ℕ) → a ≡ 6144 → b ≡ 1024 → c ≡ 1024 → min (a / 6) (min b c) ≡ 1024
-most a b c f g h = omega arith
+pub most : (rows told wide : List ℕ) → length rows ≡ 6144 → length told ≡ 1024 → length wide ≡ 1024 → 1024 ≡ room rows told wide
+most rows told wide f g h = go (length rows) (length told) (length wide) f g h
+  where
+    go : (a b c : ℕ) → a ≡ 6144 → b ≡ 1024 → c ≡ 1024 → 1024 ≡ min (a / 6) (min b c)
+    go a b c f g h = omega arith
 
 -- a sheet that keeps its form
 pub answered-sound : {s : List ℕ} {was t : Tables} {a : Reading} {n : Counts} → Into s was a t → a ≡ Sound n → Lent t →
-    {before now : Lists} {out out' : List ℕ} {r : ℕ} → length (before .rows) ≡ 6144 → length (before .told) ≡ 1024 → length (before .wide) ≡ 1024 →
+    {before now : Lists} {out out' : List ℕ} {r : ℕ} → 1024 ≡ room (before .rows) (before .told) (before .wide) →
     Told (tablesJob n t) before out r now out' → Answered s was before out r t now out'
 unfolding accountOfSheet accountBy listsBy
-answered-sound {s} into e l {before} {now} {out} {out'} {r} lr lt lw told =
+answered-sound {s} into e l {before} {now} {out} {out'} {r} full told =
     let is = sym (into .answer) ∙ e in
     let x : Told (sheetJob (reading s)) before out r now out' = subst (λ job. Told job before out r now out') (same-job into e l) told in
-    let full = most (length (before .rows)) (length (before .told)) (length (before .wide)) lr lt lw in
     record {
-      text = subst (λ xs. Wrote out 0 xs r out') (ap (jobAccount (sheetJob (reading s))) full ∙ sym (ap (accountBy (reading s)) is)) (x .text);
+      text = subst (λ xs. Wrote out 0 xs r out') (ap (jobAccount (sheetJob (reading s))) (sym full) ∙ sym (ap (accountBy (reading s)) is)) (x .text);
       short = x .short;
       holds = x .holds ∙ sym (ap (λ y. listsBy (reading s) y before) is);
       read = as-read into;

@@ -1,231 +1,87 @@
 // A job sheet of either form in, its account out: bytes to bytes, and nothing is asked of the caller. A page that can be set is told line by line, with the reason for each gap; one that can't is
-// refused as the setting refuses it, and where a line is too long the account says how far. It relies on `sheet` for the reading, on `job_account` for the account, on `layout` and `shortest` for
-// what a declined line needs, and on `account_text` for the text.
+// refused as the setting refuses it, and where a line is too long the account says how far. It relies on `sheet` for the reading, on `sheet_job` for the job's table and lines, on `job_account` for
+// the account, on `shortest` for what a declined line needs, and on `account_text` for the text.
+ghost use mathlib.Core.Path.{_≡_};
 ghost use Prim.Native.Nat.{_≤_};
 ghost use lib.ListN.{length};
+ghost use Rattle.basics.specs.Seen.{was};
+ghost use Rattle.sheet.specs.Seen.{tablesNow, tablesWas};
+ghost use Rattle.account_sheet.specs.Seen.{listsNow, listsWas, Answers};
 ghost use Rattle.text.specs.Print.{Wrote};
-ghost use Rattle.door.specs.Job.{jobOf};
-ghost use Rattle.sheet.specs.Sheet.{tables};
-ghost use Rattle.setter.specs.Answer.{ElementsLong, TablesLong, elementsJob, tablesJob, Fits};
+ghost use Rattle.refusal.specs.Refusal.{placeOf};
+ghost use Rattle.sheet_job.specs.Tables.{TablesLong, tablesJob};
+ghost use Rattle.setter.specs.Answer.{Fits};
+ghost use Rattle.shortest.specs.Shortest.{neededOf};
+ghost use Rattle.job_account.specs.Walk.{LinesReady};
+ghost use Rattle.job_account.specs.Outcome.{room};
 ghost use Rattle.account_text.specs.Short.{longest};
-ghost use Rattle.account_sheet.specs.Answer.{declinedText, Declined, lists, Told, Answered};
+ghost use Rattle.account_sheet.specs.Answer.{refusedText, Told};
+ghost use Rattle.account_sheet.specs.Needs.{Declined};
+ghost use Rattle.account_sheet.specs.Tell.{Listed, clearText, ClearReady};
 
-// A refusal by its number and place; of a line that is too long also the extent that it needs, and the measure. It is found in a table of this function's own, for
-// 1,024 base characters.
+// A refusal by its number and place; of a line that is too long also the extent that it needs, by the n rows of the job's table, and the measure. The table is lent as an array here and below: a
+// local one that was filled by a call is known to have its length only behind a reference to it.
 fn write_declined(
     why: refusal::Refusal,
+    t: &[u32; engine::TABLE],
+    n: usize,
     em: u32,
     measure: u32,
-    ratios: [[u32; 3]; 2],
-    profile: u32,
-    class: &[u32],
-    width: &[u32],
-    before: &[u32],
-    after: &[u32],
-    flag: &[u32],
-    rclass: &[u32],
-    rwidth: &[u32],
-    lclass: &[u32],
-    lwidth: &[u32],
-    kind: &[u32],
-    ebase: &[u32],
-    eruby: &[u32],
-    lkind: &[u32],
-    eleft: &[u32],
-    runs: &[u32],
-    lruns: &[u32],
     out: &mut [u8],
 ) -> usize
-    requires { let job = jobOf em measure ratios profile (now class) (now width) (now before) (now after) (now flag) (now rclass) (now rwidth) (now lclass) (now lwidth) (now kind) (now ebase) (now eruby) (now lkind) (now eleft) (now runs) (now lruns) in ⌜ Declined job why (now out) ⌝ }
-    ensures { λ r. let job = jobOf em measure ratios profile (now (class .entry)) (now (width .entry)) (now (before .entry)) (now (after .entry)) (now (flag .entry)) (now (rclass .entry)) (now (rwidth .entry)) (now (lclass .entry)) (now (lwidth .entry)) (now (kind .entry)) (now (ebase .entry)) (now (eruby .entry)) (now (lkind .entry)) (now (eleft .entry)) (now (runs .entry)) (now (lruns .entry)) in ⌜ Wrote (now (out .entry)) 0 (declinedText job why) r (now (out .exit)) ⌝ }
+    requires { ⌜ Declined em (now t) n measure why (now out) ⌝ }
+    ensures { λ r. ⌜ Wrote (was out) 0 (refusedText why (neededOf em (was t) n (placeOf why)) measure) r (now (out .exit)) ⌝ }
 {
     let at = result::write_refusal(why, out);
     if refusal::number(why) != 11 {
         return at;
     }
-    let mut t = [0; 27655];
-    match layout::layout(
-        &mut t,
-        em,
-        ratios,
-        profile,
-        class,
-        width,
-        before,
-        after,
-        flag,
-        rclass,
-        rwidth,
-        lclass,
-        lwidth,
-        kind,
-        ebase,
-        eruby,
-        lkind,
-        eleft,
-        runs,
-        lruns,
-    ) {
-        door::Checked::Refused(_) => return at, // unreachable: a job whose line is declined has no fault of its own
-        door::Checked::Passed => {}
-    }
-    let n = door::base_count(class, width, before, after, flag);
-    let needed = shortest::needed_extent(&t, n, refusal::place(why) as usize, em);
+    let needed = shortest::needed_extent(t, n, refusal::place(why) as usize, em);
     account_text::put_needs(out, at, needed, measure)
 }
 
-// The account of a job in lists, in text.
-fn tell_lists(
+// The account's lists of n lines, which end where the front of `ends` says and have the extents at the front of `found`.
+fn put_lists(
+    t: &[u32; engine::TABLE],
+    n: usize,
+    ends: &[u32; limits::MOST_BASES],
+    found: &[u32; limits::MOST_BASES],
     em: u32,
-    measure: u32,
-    ratios: [[u32; 3]; 2],
-    profile: u32,
-    class: &[u32],
-    width: &[u32],
-    before: &[u32],
-    after: &[u32],
-    flag: &[u32],
-    rclass: &[u32],
-    rwidth: &[u32],
-    lclass: &[u32],
-    lwidth: &[u32],
-    kind: &[u32],
-    ebase: &[u32],
-    eruby: &[u32],
-    lkind: &[u32],
-    eleft: &[u32],
-    runs: &[u32],
-    lruns: &[u32],
     rows: &mut [u32],
     told: &mut [u32],
     extents: &mut [u32],
-    out: &mut [u8],
-) -> usize
-    requires { ⌜ longest ≤ length (now out) ⌝ }
-    ensures { λ r. let job = jobOf em measure ratios profile (now (class .entry)) (now (width .entry)) (now (before .entry)) (now (after .entry)) (now (flag .entry)) (now (rclass .entry)) (now (rwidth .entry)) (now (lclass .entry)) (now (lwidth .entry)) (now (kind .entry)) (now (ebase .entry)) (now (eruby .entry)) (now (lkind .entry)) (now (eleft .entry)) (now (runs .entry)) (now (lruns .entry)) in ⌜ Told job (lists (now (rows .entry)) (now (told .entry)) (now (extents .entry))) (now (out .entry)) r (lists (now (rows .exit)) (now (told .exit)) (now (extents .exit))) (now (out .exit)) ⌝ }
+)
+    requires { ⌜ LinesReady em (now t) n (now ends) (now rows) (now told) ⌝ }
+    requires { ⌜ (n ≤ 1024) × (n ≤ length (now found)) × (n ≤ length (now extents)) ⌝ }
+    ensures { λ _. ⌜ Listed em (was t) n (was ends) (was found) (listsWas rows told extents) (listsNow (rows .exit) (told .exit) (extents .exit)) ⌝ }
 {
-    match job_account::account_job(
-        em,
-        measure,
-        ratios,
-        profile,
-        class,
-        width,
-        before,
-        after,
-        flag,
-        rclass,
-        rwidth,
-        lclass,
-        lwidth,
-        kind,
-        ebase,
-        eruby,
-        lkind,
-        eleft,
-        runs,
-        lruns,
-        rows,
-        told,
-        extents,
-    ) {
-        job::Answer::Refused(why) => write_declined(
-            why,
-            em,
-            measure,
-            ratios,
-            profile,
-            class,
-            width,
-            before,
-            after,
-            flag,
-            rclass,
-            rwidth,
-            lclass,
-            lwidth,
-            kind,
-            ebase,
-            eruby,
-            lkind,
-            eleft,
-            runs,
-            lruns,
-            out,
-        ),
-        job::Answer::Set(n) => {
-            let elements = door::element_count(kind, ebase, eruby, lkind, eleft);
-            let readings = account_text::count_readings(elements, kind, lkind);
-            account_text::write_account(n, elements, readings, rows, told, extents, out)
-        }
-    }
+    job_account::tell_lines(t, n, ends, em, rows, told);
+    job_account::put_extents(n, found, extents);
 }
 
-// The same, where left characters, elements and runs stand in tables: class and width of left characters 2,048 apart; kind, base count, ruby count, left kind and left count of elements 1,024 apart.
-fn tell_elements(
-    em: u32,
-    measure: u32,
-    ratios: [[u32; 3]; 2],
-    profile: u32,
-    class: &[u32],
-    width: &[u32],
-    before: &[u32],
-    after: &[u32],
-    flag: &[u32],
-    rclass: &[u32],
-    rwidth: &[u32],
-    n: sheet::Counts,
-    left: &[u32],
+// The account of a page of n lines that is clear, from its lists and the table of its elements.
+fn write_clear(
+    n: usize,
+    elements: usize,
     elem: &[u32],
-    runs: &[u32],
-    lruns: &[u32],
-    rows: &mut [u32],
-    told: &mut [u32],
-    extents: &mut [u32],
+    rows: &[u32],
+    told: &[u32],
+    extents: &[u32],
     out: &mut [u8],
 ) -> usize
-    requires { ⌜ ElementsLong n (now left) (now elem) (now runs) (now lruns) ⌝ }
-    requires { ⌜ longest ≤ length (now out) ⌝ }
-    ensures { λ r. let job = elementsJob em measure ratios profile (now (class .entry)) (now (width .entry)) (now (before .entry)) (now (after .entry)) (now (flag .entry)) (now (rclass .entry)) (now (rwidth .entry)) n (now (left .entry)) (now (elem .entry)) (now (runs .entry)) (now (lruns .entry)) in ⌜ Told job (lists (now (rows .entry)) (now (told .entry)) (now (extents .entry))) (now (out .entry)) r (lists (now (rows .exit)) (now (told .exit)) (now (extents .exit))) (now (out .exit)) ⌝ }
+    requires { ⌜ ClearReady n elements (now elem) (now rows) (now told) (now extents) (now out) ⌝ }
+    ensures { λ r. ⌜ Wrote (was out) 0 (clearText n elements (was elem) (was rows) (was told) (was extents)) r (now (out .exit)) ⌝ }
 {
-    let l = n.lefts;
-    let l1 = 2048 + l;
-    let e = n.elements;
-    let e1 = 1024 + e;
-    let e2 = 2048 + e;
-    let e3 = 3072 + e;
-    let e4 = 4096 + e;
-    let u = n.runs;
-    let v = n.lruns;
-    tell_lists(
-        em,
-        measure,
-        ratios,
-        profile,
-        class,
-        width,
-        before,
-        after,
-        flag,
-        rclass,
-        rwidth,
-        &left[0..l],
-        &left[2048..l1],
-        &elem[0..e],
-        &elem[1024..e1],
-        &elem[2048..e2],
-        &elem[3072..e3],
-        &elem[4096..e4],
-        &runs[0..u],
-        &lruns[0..v],
-        rows,
-        told,
-        extents,
-        out,
-    )
+    let end = limits::ELEMENT_LEFT_KIND + elements;
+    let readings = account_text::count_readings(
+        elements,
+        &elem[0..elements],
+        &elem[limits::ELEMENT_LEFT_KIND..end],
+    );
+    account_text::write_account(n, elements, readings, rows, told, extents, out)
 }
 
-// The job that the tables hold, column by column (`sheet::read_sheet`).
+// The account of the job that the tables hold (`sheet::read_sheet`), in text. Its lists have room for as many base characters as a job can have.
 fn tell_tables(
     n: sheet::Counts,
     set: &[u32],
@@ -240,57 +96,51 @@ fn tell_tables(
     extents: &mut [u32],
     out: &mut [u8],
 ) -> usize
-    requires { ⌜ TablesLong n (tables (now set) (now base) (now ruby) (now left) (now elem) (now runs) (now lruns)) ⌝ }
+    requires { ⌜ TablesLong n (tablesNow set base ruby left elem runs lruns) ⌝ }
+    requires { ⌜ 1024 ≡ room (now rows) (now told) (now extents) ⌝ }
     requires { ⌜ longest ≤ length (now out) ⌝ }
-    ensures { λ r. let job = tablesJob n (tables (now (set .entry)) (now (base .entry)) (now (ruby .entry)) (now (left .entry)) (now (elem .entry)) (now (runs .entry)) (now (lruns .entry))) in ⌜ Told job (lists (now (rows .entry)) (now (told .entry)) (now (extents .entry))) (now (out .entry)) r (lists (now (rows .exit)) (now (told .exit)) (now (extents .exit))) (now (out .exit)) ⌝ }
+    ensures { λ r. let job = tablesJob n (tablesWas set base ruby left elem runs lruns) in ⌜ Told job (listsWas rows told extents) (was out) r (listsNow (rows .exit) (told .exit) (extents .exit)) (now (out .exit)) ⌝ }
 {
-    let b = n.bases;
-    let b1 = 1024 + b;
-    let b2 = 2048 + b;
-    let b3 = 3072 + b;
-    let b4 = 4096 + b;
-    let r = n.rubies;
-    let r1 = 2048 + r;
-    tell_elements(
-        set[0],
-        set[1],
-        [[set[2], set[3], set[4]], [set[5], set[6], set[7]]],
-        set[8],
-        &base[0..b],
-        &base[1024..b1],
-        &base[2048..b2],
-        &base[3072..b3],
-        &base[4096..b4],
-        &ruby[0..r],
-        &ruby[2048..r1],
+    let mut t = [0; engine::TABLE];
+    let mut ends = [0; limits::MOST_BASES];
+    let mut found = [0; limits::MOST_BASES];
+    match sheet_job::fill_tables(
+        &mut t,
+        &mut ends,
+        &mut found,
         n,
+        set,
+        base,
+        ruby,
         left,
         elem,
         runs,
         lruns,
-        rows,
-        told,
-        extents,
-        out,
-    )
+    ) {
+        filling::Lines::Refused(why) => write_declined(why, &t, n.bases, set[0], set[1], out),
+        filling::Lines::Filled(k) => {
+            put_lists(&t, k, &ends, &found, set[0], rows, told, extents);
+            write_clear(k, n.elements, elem, rows, told, extents, out)
+        }
+    }
 }
 
 // The account of a sheet. The answer is how many bytes of `out` its text has.
 pub fn account_sheet(
     s: &[u8],
-    set: &mut [u32; 9],
-    base: &mut [u32; 5120],
-    ruby: &mut [u32; 4096],
-    left: &mut [u32; 4096],
-    elem: &mut [u32; 5120],
-    runs: &mut [u32; 32768],
-    lruns: &mut [u32; 32768],
-    rows: &mut [u32; 6144],
-    told: &mut [u32; 1024],
-    extents: &mut [u32; 1024],
-    out: &mut [u8; 131072],
+    set: &mut [u32; limits::SET],
+    base: &mut [u32; limits::BASE_TABLE],
+    ruby: &mut [u32; limits::RUBY_TABLE],
+    left: &mut [u32; limits::LEFT_TABLE],
+    elem: &mut [u32; limits::ELEMENT_TABLE],
+    runs: &mut [u32; limits::RUNS],
+    lruns: &mut [u32; limits::RUNS],
+    rows: &mut [u32; limits::ACCOUNT],
+    told: &mut [u32; limits::MOST_BASES],
+    extents: &mut [u32; limits::MOST_BASES],
+    out: &mut [u8; limits::ANSWER],
 ) -> usize
-    ensures { λ r. ⌜ Answered (now (s .entry)) (tables (now (set .entry)) (now (base .entry)) (now (ruby .entry)) (now (left .entry)) (now (elem .entry)) (now (runs .entry)) (now (lruns .entry))) (lists (now (rows .entry)) (now (told .entry)) (now (extents .entry))) (now (out .entry)) r (tables (now (set .exit)) (now (base .exit)) (now (ruby .exit)) (now (left .exit)) (now (elem .exit)) (now (runs .exit)) (now (lruns .exit))) (lists (now (rows .exit)) (now (told .exit)) (now (extents .exit))) (now (out .exit)) ⌝ }
+    ensures { λ r. ⌜ Answers s (tablesWas set base ruby left elem runs lruns) (listsWas rows told extents) out r (tablesNow (set .exit) (base .exit) (ruby .exit) (left .exit) (elem .exit) (runs .exit) (lruns .exit)) (listsNow (rows .exit) (told .exit) (extents .exit)) ⌝ }
     ensures { λ r. ⌜ Fits r (now (out .exit)) ⌝ }
 {
     match sheet::read_sheet(s, set, base, ruby, left, elem, runs, lruns) {

@@ -5,6 +5,7 @@ ghost use Prim.Native.Nat.{_+_, _*_, _^_, _≤_, _<_};
 ghost use lib.ListN.{length};
 ghost use mathlib.Core.Bool.{cond};
 ghost use mathlib.Core.List.{_++_};
+ghost use Rattle.basics.specs.Seen.{was};
 ghost use Rattle.text.specs.Print.{Wrote};
 ghost use Rattle.word.specs.Given.{hasRuby};
 ghost use Rattle.word.specs.Both.{hasLeft};
@@ -16,7 +17,7 @@ ghost use Rattle.account_text.specs.Lists.{ListsReady};
 // A phrase and its number.
 fn put_said(out: &mut [u8], from: usize, phrase: &[u8], n: u32) -> usize
     requires { ⌜ from + length (said (now phrase) n) ≤ length (now out) ⌝ }
-    ensures { λ r. ⌜ Wrote (now (out .entry)) from (said (now (phrase .entry)) n) r (now (out .exit)) ⌝ }
+    ensures { λ r. ⌜ Wrote (was out) from (said (was phrase) n) r (now (out .exit)) ⌝ }
 {
     let a = text::print::put_word(out, from, phrase);
     text::print::put_number(out, a, n)
@@ -25,7 +26,7 @@ fn put_said(out: &mut [u8], from: usize, phrase: &[u8], n: u32) -> usize
 // A phrase with the other element and the depth.
 fn put_deep(out: &mut [u8], from: usize, phrase: &[u8], other: u32, depth: u32) -> usize
     requires { ⌜ from + length (deep (now phrase) other depth) ≤ length (now out) ⌝ }
-    ensures { λ r. ⌜ Wrote (now (out .entry)) from (deep (now (phrase .entry)) other depth) r (now (out .exit)) ⌝ }
+    ensures { λ r. ⌜ Wrote (was out) from (deep (was phrase) other depth) r (now (out .exit)) ⌝ }
 {
     let a = put_said(out, from, phrase, other);
     put_said(out, a, b" at depth ", depth)
@@ -34,7 +35,7 @@ fn put_deep(out: &mut [u8], from: usize, phrase: &[u8], other: u32, depth: u32) 
 // A phrase, and what a ruby is called.
 fn put_named(out: &mut [u8], from: usize, phrase: &[u8], name: &[u8]) -> usize
     requires { ⌜ from + length (named (now phrase) (now name)) ≤ length (now out) ⌝ }
-    ensures { λ r. ⌜ Wrote (now (out .entry)) from (named (now (phrase .entry)) (now (name .entry))) r (now (out .exit)) ⌝ }
+    ensures { λ r. ⌜ Wrote (was out) from (named (was phrase) (was name)) r (now (out .exit)) ⌝ }
 {
     let a = text::print::put_word(out, from, phrase);
     text::print::put_word(out, a, name)
@@ -43,7 +44,7 @@ fn put_named(out: &mut [u8], from: usize, phrase: &[u8], name: &[u8]) -> usize
 // Rule 2: the block, and a ruby of the element before.
 fn put_under(out: &mut [u8], from: usize, name: &[u8], other: u32, depth: u32) -> usize
     requires { ⌜ from + length (underText (now name) other depth) ≤ length (now out) ⌝ }
-    ensures { λ r. ⌜ Wrote (now (out .entry)) from (underText (now (name .entry)) other depth) r (now (out .exit)) ⌝ }
+    ensures { λ r. ⌜ Wrote (was out) from (underText (was name) other depth) r (now (out .exit)) ⌝ }
 {
     let a = put_named(out, from, b" rule 2 block touches ", name);
     put_deep(out, a, b" of ", other, depth)
@@ -52,7 +53,7 @@ fn put_under(out: &mut [u8], from: usize, name: &[u8], other: u32, depth: u32) -
 // Rule 2: its ruby, and the block before.
 fn put_over(out: &mut [u8], from: usize, name: &[u8], other: u32, depth: u32) -> usize
     requires { ⌜ from + length (overText (now name) other depth) ≤ length (now out) ⌝ }
-    ensures { λ r. ⌜ Wrote (now (out .entry)) from (overText (now (name .entry)) other depth) r (now (out .exit)) ⌝ }
+    ensures { λ r. ⌜ Wrote (was out) from (overText (was name) other depth) r (now (out .exit)) ⌝ }
 {
     let a = put_named(out, from, b" rule 2 ", name);
     put_deep(out, a, b" touches block of ", other, depth)
@@ -61,7 +62,7 @@ fn put_over(out: &mut [u8], from: usize, name: &[u8], other: u32, depth: u32) ->
 // Rule 3: its ruby, and an earlier one of its side.
 fn put_touch(out: &mut [u8], from: usize, name: &[u8], other: u32) -> usize
     requires { ⌜ from + length (touchText (now name) other) ≤ length (now out) ⌝ }
-    ensures { λ r. ⌜ Wrote (now (out .entry)) from (touchText (now (name .entry)) other) r (now (out .exit)) ⌝ }
+    ensures { λ r. ⌜ Wrote (was out) from (touchText (was name) other) r (now (out .exit)) ⌝ }
 {
     let a = put_named(out, from, b" rule 3 ", name);
     let b = put_named(out, a, b" touches ", name);
@@ -71,7 +72,7 @@ fn put_touch(out: &mut [u8], from: usize, name: &[u8], other: u32) -> usize
 // Rule 4: its ruby, at the line's start.
 fn put_edge(out: &mut [u8], from: usize, name: &[u8]) -> usize
     requires { ⌜ from + length (edgeText (now name)) ≤ length (now out) ⌝ }
-    ensures { λ r. ⌜ Wrote (now (out .entry)) from (edgeText (now (name .entry))) r (now (out .exit)) ⌝ }
+    ensures { λ r. ⌜ Wrote (was out) from (edgeText (was name)) r (now (out .exit)) ⌝ }
 {
     let a = put_named(out, from, b" rule 4 ", name);
     text::print::put_word(out, a, b" touches start")
@@ -80,7 +81,7 @@ fn put_edge(out: &mut [u8], from: usize, name: &[u8]) -> usize
 // A reason that speaks of a ruby with this name, by the number of the right side's.
 fn put_ruby(out: &mut [u8], from: usize, name: &[u8], reason: u32, other: u32, depth: u32) -> usize
     requires { ⌜ from + length (rubyText (now name) reason other depth) ≤ length (now out) ⌝ }
-    ensures { λ r. ⌜ Wrote (now (out .entry)) from (rubyText (now (name .entry)) reason other depth) r (now (out .exit)) ⌝ }
+    ensures { λ r. ⌜ Wrote (was out) from (rubyText (was name) reason other depth) r (now (out .exit)) ⌝ }
 {
     if reason == 3 {
         return put_under(out, from, name, other, depth);
@@ -97,7 +98,7 @@ fn put_ruby(out: &mut [u8], from: usize, name: &[u8], reason: u32, other: u32, d
 // What holds an element, by the reason's number.
 fn put_reason(out: &mut [u8], from: usize, reason: u32, other: u32, depth: u32) -> usize
     requires { ⌜ from + length (reasonText reason other depth) ≤ length (now out) ⌝ }
-    ensures { λ r. ⌜ Wrote (now (out .entry)) from (reasonText reason other depth) r (now (out .exit)) ⌝ }
+    ensures { λ r. ⌜ Wrote (was out) from (reasonText reason other depth) r (now (out .exit)) ⌝ }
 {
     if reason == 1 {
         return text::print::put_word(out, from, b" rule 4 block touches start");
@@ -114,7 +115,7 @@ fn put_reason(out: &mut [u8], from: usize, reason: u32, other: u32, depth: u32) 
 // Row q of an account on its line.
 fn put_row(out: &mut [u8], from: usize, q: usize, rows: &[u32]) -> usize
     requires { ⌜ (6 * q + 6 ≤ length (now rows)) × (q < 4096) × (from + length (rowAt (now rows) q) ≤ length (now out)) ⌝ }
-    ensures { λ r. ⌜ Wrote (now (out .entry)) from (rowAt (now (rows .entry)) q) r (now (out .exit)) ⌝ }
+    ensures { λ r. ⌜ Wrote (was out) from (rowAt (was rows) q) r (now (out .exit)) ⌝ }
 {
     let i = 6 * q;
     let a = put_said(out, from, b"element ", rows[i]);
@@ -127,7 +128,7 @@ fn put_row(out: &mut [u8], from: usize, q: usize, rows: &[u32]) -> usize
 // The rows from q up to e.
 fn put_rows(out: &mut [u8], from: usize, q: usize, e: usize, rows: &[u32]) -> usize
     requires { ⌜ SegmentReady (now out) from q e (now rows) (rowsText (segment (now rows) q e)) ⌝ }
-    ensures { λ r. ⌜ Wrote (now (out .entry)) from (rowsText (segment (now (rows .entry)) q e)) r (now (out .exit)) ⌝ }
+    ensures { λ r. ⌜ Wrote (was out) from (rowsText (segment (was rows) q e)) r (now (out .exit)) ⌝ }
 {
     let mut at = from;
     let mut k = q;
@@ -141,7 +142,7 @@ fn put_rows(out: &mut [u8], from: usize, q: usize, e: usize, rows: &[u32]) -> us
 // A line's extent, and its rows.
 fn put_line(out: &mut [u8], from: usize, extent: u32, q: usize, e: usize, rows: &[u32]) -> usize
     requires { ⌜ SegmentReady (now out) from q e (now rows) (headText extent ++ rowsText (segment (now rows) q e)) ⌝ }
-    ensures { λ r. ⌜ Wrote (now (out .entry)) from (headText extent ++ rowsText (segment (now (rows .entry)) q e)) r (now (out .exit)) ⌝ }
+    ensures { λ r. ⌜ Wrote (was out) from (headText extent ++ rowsText (segment (was rows) q e)) r (now (out .exit)) ⌝ }
 {
     let a = put_said(out, from, b"line ", extent);
     let b = text::print::put_byte(out, a, 10);
@@ -151,7 +152,7 @@ fn put_line(out: &mut [u8], from: usize, extent: u32, q: usize, e: usize, rows: 
 // The verdict of an accepted page.
 fn put_verdict(out: &mut [u8], lines: u32, elements: u32, readings: u32) -> usize
     requires { ⌜ length (verdictText lines elements readings) ≤ length (now out) ⌝ }
-    ensures { λ r. ⌜ Wrote (now (out .entry)) 0 (verdictText lines elements readings) r (now (out .exit)) ⌝ }
+    ensures { λ r. ⌜ Wrote (was out) 0 (verdictText lines elements readings) r (now (out .exit)) ⌝ }
 {
     let a = put_said(out, 0, b"clear lines ", lines);
     let b = put_said(out, a, b" elements ", elements);
@@ -188,7 +189,7 @@ fn reads_left(kind: u32) -> usize
 // How many readings n elements have on either side.
 pub fn count_readings(n: usize, kind: &[u32], lkind: &[u32]) -> usize
     requires { ⌜ (n ≤ length (now kind)) × (n ≤ length (now lkind)) × (n ≤ 1024) ⌝ }
-    ensures { λ r. ⌜ r ≡ readingsOf (now (kind .entry)) (now (lkind .entry)) n ⌝ }
+    ensures { λ r. ⌜ r ≡ readingsOf (was kind) (was lkind) n ⌝ }
 {
     let mut k: usize = 0;
     let mut readings: usize = 0;
@@ -212,7 +213,7 @@ pub fn write_account(
     out: &mut [u8],
 ) -> usize
     requires { ⌜ ListsReady n elements readings (now rows) (now told) (now extents) (now out) ⌝ }
-    ensures { λ r. ⌜ Wrote (now (out .entry)) 0 (listsText n elements readings (now (rows .entry)) (now (told .entry)) (now (extents .entry))) r (now (out .exit)) ⌝ }
+    ensures { λ r. ⌜ Wrote (was out) 0 (listsText n elements readings (was rows) (was told) (was extents)) r (now (out .exit)) ⌝ }
 {
     let mut at = put_verdict(out, n as u32, elements as u32, readings as u32);
     let mut q: usize = 0;
@@ -229,7 +230,7 @@ pub fn write_account(
 // By how much a line is too long: the extent that it needs, and the measure in half units, from place `from` on.
 pub fn put_needs(out: &mut [u8], from: usize, needed: u32, measure: u32) -> usize
     requires { ⌜ (from + length (needsText needed measure) ≤ length (now out)) × (measure < 2 ^ 31) ⌝ }
-    ensures { λ r. ⌜ Wrote (now (out .entry)) from (needsText needed measure) r (now (out .exit)) ⌝ }
+    ensures { λ r. ⌜ Wrote (was out) from (needsText needed measure) r (now (out .exit)) ⌝ }
 {
     let a = put_said(out, from, b"needs ", needed);
     let b = put_said(out, a, b" measure ", 2 * measure);

@@ -7,6 +7,7 @@ ghost use mathlib.Core.Bool.{true, not, _&&_};
 ghost use Prim.Native.Nat.{_+_, _-_, _*_, _≤_, _<_};
 ghost use lib.Dec.{eqb};
 ghost use lib.ListN.{length};
+ghost use Rattle.basics.specs.Seen.{was};
 ghost use Rattle.spread.specs.Ratio.{ratiosOf};
 ghost use Rattle.word.specs.Word.{between};
 ghost use Rattle.line.specs.Setting.{furthest, total};
@@ -80,7 +81,7 @@ pub struct Step {
 // The house ratios, from the head of a table.
 fn ratios_at(t: &[u32]) -> [[u32; 3]; 2]
     requires { ⌜ size 0 ≤ length (now t) ⌝ }
-    ensures { λ r. ⌜ ratiosOf r ≡ ratiosAt (now (t .entry)) ⌝ }
+    ensures { λ r. ⌜ ratiosOf r ≡ ratiosAt (was t) ⌝ }
 {
     [[t[0], t[1], t[2]], [t[3], t[4], t[5]]]
 }
@@ -88,7 +89,7 @@ fn ratios_at(t: &[u32]) -> [[u32; 3]; 2]
 // The head written: the house ratios, and where the left readings begin, 0 where the job has none.
 pub fn put_head(t: &mut [u32], ratios: [[u32; 3]; 2], lefts: u32)
     requires { ⌜ size 0 ≤ length (now t) ⌝ }
-    ensures { λ _. ⌜ now (t .exit) ≡ headed (now (t .entry)) (ratiosOf ratios) lefts ⌝ }
+    ensures { λ _. ⌜ now (t .exit) ≡ headed (was t) (ratiosOf ratios) lefts ⌝ }
 {
     t[0] = ratios[0][0];
     t[1] = ratios[0][1];
@@ -102,7 +103,7 @@ pub fn put_head(t: &mut [u32], ratios: [[u32; 3]; 2], lefts: u32)
 // The left row that begins at `at`.
 fn left_row(t: &[u32], at: usize) -> LeftRow
     requires { ⌜ at + 8 ≤ length (now t) ⌝ }
-    ensures { λ r. ⌜ r ≡ leftRowAt (now (t .entry)) at ⌝ }
+    ensures { λ r. ⌜ r ≡ leftRowAt (was t) at ⌝ }
 {
     LeftRow {
         from: t[at],
@@ -119,7 +120,7 @@ fn left_row(t: &[u32], at: usize) -> LeftRow
 // What is known of base character i's left reading. A job without left readings has no such rows, and is told by one test.
 fn left_at(t: &[u32], i: usize) -> LeftRow
     requires { ⌜ size (i + 1) ≤ length (now t) ⌝ }
-    ensures { λ r. ⌜ r ≡ leftAt (now (t .entry)) i ⌝ }
+    ensures { λ r. ⌜ r ≡ leftAt (was t) i ⌝ }
 {
     let from = t[6] as usize;
     if from == 0 {
@@ -135,7 +136,7 @@ fn left_at(t: &[u32], i: usize) -> LeftRow
 // Row i of a table, without its left reading.
 fn row_at(t: &[u32], i: usize) -> Cell
     requires { ⌜ size (i + 1) ≤ length (now t) ⌝ }
-    ensures { λ r. ⌜ r ≡ rowAt (now (t .entry)) i ⌝ }
+    ensures { λ r. ⌜ r ≡ rowAt (was t) i ⌝ }
 {
     let at = HEAD + ROW * i;
     Cell {
@@ -211,7 +212,7 @@ fn with_left(c: Cell, l: LeftRow) -> Cell
 // Row i of a table.
 pub fn cell_at(t: &[u32], i: usize) -> Cell
     requires { ⌜ size (i + 1) ≤ length (now t) ⌝ }
-    ensures { λ r. ⌜ r ≡ cellAt (now (t .entry)) i ⌝ }
+    ensures { λ r. ⌜ r ≡ cellAt (was t) i ⌝ }
 {
     with_left(row_at(t, i), left_at(t, i))
 }
@@ -267,7 +268,7 @@ fn left_numbers_of(l: LeftRow) -> [u32; 8]
 
 fn copy_row(t: &mut [u32], at: usize, row: &[u32])
     requires { ⌜ at + length (now row) ≤ length (now t) ⌝ }
-    ensures { λ _. ⌜ Copied (now (t .entry)) at (now (row .entry)) (length (now (row .entry))) (now (t .exit)) ⌝ }
+    ensures { λ _. ⌜ Copied (was t) at (was row) (length (was row)) (now (t .exit)) ⌝ }
 {
     let mut j: usize = 0;
     while j < row.len() {
@@ -279,7 +280,7 @@ fn copy_row(t: &mut [u32], at: usize, row: &[u32])
 // Row i written, without its left reading.
 pub fn put_cell(t: &mut [u32], i: usize, c: Cell)
     requires { ⌜ size (i + 1) ≤ length (now t) ⌝ }
-    ensures { λ _. ⌜ Puts (now (t .entry)) i c (now (t .exit)) ⌝ }
+    ensures { λ _. ⌜ Puts (was t) i c (now (t .exit)) ⌝ }
 {
     let row = numbers_of(c);
     copy_row(t, HEAD + ROW * i, &row);
@@ -288,7 +289,7 @@ pub fn put_cell(t: &mut [u32], i: usize, c: Cell)
 // The left row of base character i written, where the head says that left readings begin.
 pub fn put_left(t: &mut [u32], i: usize, l: LeftRow)
     requires { ⌜ (size 0 ≤ leftsAt (now t)) × (leftsAt (now t) + leftSize (i + 1) ≤ length (now t)) ⌝ }
-    ensures { λ _. ⌜ PutsLeft (now (t .entry)) i l (now (t .exit)) ⌝ }
+    ensures { λ _. ⌜ PutsLeft (was t) i l (now (t .exit)) ⌝ }
 {
     let row = left_numbers_of(l);
     let from = t[6] as usize;
@@ -352,7 +353,7 @@ fn over_with(em: u32, z: Cell) -> u32
 // its own character on both sides.
 fn both_upto(t: &[u32], i: usize, c: usize, em: u32) -> word::Word
     requires { ⌜ (0 < cellAt (now t) i .lefts) × (Cuts em (now t) i c) ⌝ }
-    ensures { λ w. ⌜ w ≡ both em (now (t .entry)) i c ⌝ }
+    ensures { λ w. ⌜ w ≡ both em (was t) i c ⌝ }
 {
     let a = cell_at(t, i);
     let z = cell_at(t, c - 1);
@@ -379,7 +380,7 @@ fn both_upto(t: &[u32], i: usize, c: usize, em: u32) -> word::Word
 // em each run stands over its own character, else the part is set as G.
 pub fn part_upto(t: &[u32], i: usize, c: usize, em: u32) -> word::Word
     requires { ⌜ Cuts em (now t) i c ⌝ }
-    ensures { λ w. ⌜ w ≡ part em (now (t .entry)) i c ⌝ }
+    ensures { λ w. ⌜ w ≡ part em (was t) i c ⌝ }
 {
     let a = cell_at(t, i);
     if 0 < a.lefts {
@@ -469,7 +470,7 @@ pub struct Share {
 // The share of one side. Only the row of that side is read.
 pub fn share_at(t: &[u32], i: usize, side: line::Side) -> Share
     requires { ⌜ size (i + 1) ≤ length (now t) ⌝ }
-    ensures { λ r. ⌜ r ≡ shareOf side (cellAt (now (t .entry)) i) ⌝ }
+    ensures { λ r. ⌜ r ≡ shareOf side (cellAt (was t) i) ⌝ }
 {
     match side {
         line::Side::Right => {
@@ -494,7 +495,7 @@ pub fn share_at(t: &[u32], i: usize, side: line::Side) -> Share
 // Whether a line may end within the element of base character i, and whether the word in its row has ruby.
 fn cut_at(t: &[u32], i: usize) -> bool
     requires { ⌜ size (i + 1) ≤ length (now t) ⌝ }
-    ensures { λ b. ⌜ b ≡ cellAt (now (t .entry)) i .cut ⌝ }
+    ensures { λ b. ⌜ b ≡ cellAt (was t) i .cut ⌝ }
 {
     let at = HEAD + ROW * i;
     t[at + 1] == 1
@@ -502,7 +503,7 @@ fn cut_at(t: &[u32], i: usize) -> bool
 
 fn there_at(t: &[u32], i: usize) -> bool
     requires { ⌜ size (i + 1) ≤ length (now t) ⌝ }
-    ensures { λ b. ⌜ b ≡ cellAt (now (t .entry)) i .word .right .there ⌝ }
+    ensures { λ b. ⌜ b ≡ cellAt (was t) i .word .right .there ⌝ }
 {
     let at = HEAD + ROW * i;
     t[at + 6] == 1
@@ -511,7 +512,7 @@ fn there_at(t: &[u32], i: usize) -> bool
 // The word of the piece from i up to c.
 fn word_upto(t: &[u32], i: usize, c: usize, em: u32) -> word::Word
     requires { ⌜ (size (i + 1) ≤ length (now t)) × (cellAt (now t) i .cut ≡ true → Cuts em (now t) i c) ⌝ }
-    ensures { λ w. ⌜ w ≡ wordAt em (now (t .entry)) i c ⌝ }
+    ensures { λ w. ⌜ w ≡ wordAt em (was t) i c ⌝ }
 {
     if cut_at(t, i) {
         return part_upto(t, i, c, em);
@@ -523,7 +524,7 @@ fn word_upto(t: &[u32], i: usize, c: usize, em: u32) -> word::Word
 // Whether the piece at i is a word or a part of a J, and no P.
 fn has_ruby(t: &[u32], i: usize) -> bool
     requires { ⌜ size (i + 1) ≤ length (now t) ⌝ }
-    ensures { λ b. ⌜ b ≡ hasRuby (cellAt (now (t .entry)) i) ⌝ }
+    ensures { λ b. ⌜ b ≡ hasRuby (cellAt (was t) i) ⌝ }
 {
     if cut_at(t, i) {
         return true;
@@ -534,7 +535,7 @@ fn has_ruby(t: &[u32], i: usize) -> bool
 // A P after the line so far, by the three numbers of its row that say something of it.
 fn plain_at(t: &[u32], i: usize, st: line::State) -> Step
     requires { ⌜ (size (i + 1) ≤ length (now t)) × (Plain (cellAt (now t) i)) × (furthest st + cellAt (now t) i .word .len ≤ 4294967295) ⌝ }
-    ensures { λ r. let a = cellAt (now (t .entry)) i in ⌜ r ≡ stepOf (a .word) (a .before) (a .after) st ⌝ }
+    ensures { λ r. let a = cellAt (was t) i in ⌜ r ≡ stepOf (a .word) (a .before) (a .after) st ⌝ }
 {
     let at = HEAD + ROW * i;
     let len = t[at + 4];
@@ -556,7 +557,7 @@ fn plain_at(t: &[u32], i: usize, st: line::State) -> Step
 // Whether the word of the piece at i stands in its row: it is no J that may be cut, and the job has no left readings.
 fn in_row(t: &[u32], i: usize) -> bool
     requires { ⌜ size (i + 1) ≤ length (now t) ⌝ }
-    ensures { λ b. ⌜ b ≡ (not (cellAt (now (t .entry)) i .cut) && eqb (leftsAt (now (t .entry))) 0) ⌝ }
+    ensures { λ b. ⌜ b ≡ (not (cellAt (was t) i .cut) && eqb (leftsAt (was t)) 0) ⌝ }
 {
     if cut_at(t, i) {
         return false;
@@ -567,7 +568,7 @@ fn in_row(t: &[u32], i: usize) -> bool
 // A word with ruby after the line so far, in a job without left readings.
 fn right_at(t: &[u32], i: usize, st: line::State) -> Step
     requires { ⌜ (size (i + 1) ≤ length (now t)) × (leftsAt (now t) ≡ 0) × (furthest st + total (elementOf (cellAt (now t) i .word) 0 0) ≤ 4294967295) ⌝ }
-    ensures { λ r. ⌜ r ≡ stepOf (cellAt (now (t .entry)) i .word) 0 0 st ⌝ }
+    ensures { λ r. ⌜ r ≡ stepOf (cellAt (was t) i .word) 0 0 st ⌝ }
 {
     let a = row_at(t, i);
     let w = a.word;
@@ -594,7 +595,7 @@ fn right_at(t: &[u32], i: usize, st: line::State) -> Step
 // The part of a J from i up to c after the line so far. Ruby lies on no word, so both depths are 0.
 pub fn advance_cut(t: &[u32], i: usize, c: usize, em: u32, st: line::State) -> Step
     requires { ⌜ (cellAt (now t) i .cut ≡ true) × (Advances em (now t) st i c) ⌝ }
-    ensures { λ r. ⌜ r ≡ stepAt em (now (t .entry)) st i c ⌝ }
+    ensures { λ r. ⌜ r ≡ stepAt em (was t) st i c ⌝ }
 {
     step_of(word_upto(t, i, c, em), 0, 0, st)
 }
@@ -604,7 +605,7 @@ pub fn advance_cut(t: &[u32], i: usize, c: usize, em: u32, st: line::State) -> S
 // so would every line that is taken on by it.
 pub fn advance(t: &[u32], i: usize, c: usize, em: u32, st: line::State) -> Step
     requires { ⌜ Advances em (now t) st i c ⌝ }
-    ensures { λ r. ⌜ r ≡ stepAt em (now (t .entry)) st i c ⌝ }
+    ensures { λ r. ⌜ r ≡ stepAt em (was t) st i c ⌝ }
 {
     if has_ruby(t, i) {
         if in_row(t, i) {

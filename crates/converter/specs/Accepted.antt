@@ -1,15 +1,14 @@
 -- A sheet whose job is accepted is converted within 65,535 bytes: form one to form two by the job's limits (`Modest`), form two to form one since that is shorter.
-use mathlib.Core.List.{List, [], _∷_, _++_, head?}
+use mathlib.Core.List.{List, _++_}
 use mathlib.Core.Option.{none}
 use mathlib.Core.Path.{_≡_, refl, _∙_, ap, subst}
 use Prim.Native.Nat.{ℕ, _≤_, min}
 use native.Mathlib.Omega.{arith}
-use lib.ListN.{length, getD, length-map}
-use Rattle.rows.specs.Table.{column}
+use lib.ListN.{length}
+use Rattle.rows.specs.Table.{column, length-column}
 use Rattle.elements.specs.declared.SheetForm.{SheetForm}
 use Rattle.elements.specs.declared.SheetForm.the-variants.{One, Two}
-use Rattle.elements.specs.Element.{rowOf}
-use Rattle.elements.specs.Print.{rowsOf, elementOf}
+use Rattle.elements.specs.Print.{rowsOf, rows-many}
 use Rattle.sheet.specs.declared.Counts.{Counts}
 use Rattle.sheet.specs.declared.Reading.the-variants.{Sound}
 use Rattle.sheet.specs.Sheet.{Sheet, reading}
@@ -18,8 +17,9 @@ use Rattle.door.specs.Job.{Job, baseCount, rubyCount, elementCount}
 use Rattle.door.specs.Refusals.{ownFaults}
 use Rattle.door.specs.Verdict.{append-none}
 use Rattle.door.specs.Passed.{Passed, passed}
+use Rattle.job.specs.Laws.{head-none}
 use Rattle.job.specs.Refusals.{linesFaults, faults, fault}
-use Rattle.setter.specs.Answer.{sheetJob}
+use Rattle.sheet_job.specs.Tables.{sheetJob}
 use Rattle.other_form.specs.Other.{otherText, Holds}
 use Rattle.other_form.specs.Known.{known}
 use Rattle.other_form.specs.Joined.{other-one}
@@ -27,13 +27,6 @@ use Rattle.other_form.specs.Back.{back-short}
 use Rattle.other_form.specs.Short.{two-short}
 use Rattle.converter.specs.Modest.{JobHas, modest}
 use Rattle.converter.specs.Convert.{given}
-
-long : (j : ℕ) (rows : List (List ℕ)) → length (column j rows) ≡ length rows
-long j rows = length-map rows (λ (r : List ℕ). getD r j 0)
-
-many : (r : Written) → length (rowsOf (r .elem)) ≡ length (r .elem)
-unfolding rowsOf
-many r = length-map (r .elem) (λ e. rowOf (elementOf e))
 
 -- lists that are all as long as one
 least-five : (n a b c d e : ℕ) → a ≡ n → b ≡ n → c ≡ n → d ≡ n → e ≡ n → min a (min b (min c (min d e))) ≡ n
@@ -46,7 +39,7 @@ pub job-has : (f : SheetForm) (r : Written) → JobHas (sheetJob (sheetOf f r)) 
 unfolding sheetJob sheetOf baseCount rubyCount elementCount
 job-has f r =
     let b = r .base in
-    let e = rowsOf (r .elem) in
+    let many : (j : ℕ) → length (column j (rowsOf (r .elem))) ≡ length (r .elem) = λ j. length-column j (rowsOf (r .elem)) ∙ rows-many (r .elem) in
     record {
       class = refl;
       width = refl;
@@ -59,20 +52,16 @@ job-has f r =
       elementBase = refl;
       elementRuby = refl;
       run = refl;
-      bases = least-five (length b) _ _ _ _ _ (long 0 b) (long 1 b) (long 2 b) (long 3 b) (long 4 b);
-      rubies = least-two (length (r .ruby)) _ _ (long 0 (r .ruby)) (long 1 (r .ruby));
-      elements = least-five (length (r .elem)) _ _ _ _ _ (long 0 e ∙ many r) (long 1 e ∙ many r) (long 2 e ∙ many r) (long 3 e ∙ many r) (long 4 e ∙ many r);
+      bases = least-five (length b) _ _ _ _ _ (length-column 0 b) (length-column 1 b) (length-column 2 b) (length-column 3 b) (length-column 4 b);
+      rubies = least-two (length (r .ruby)) _ _ (length-column 0 (r .ruby)) (length-column 1 (r .ruby));
+      elements = least-five (length (r .elem)) _ _ _ _ _ (many 0) (many 1) (many 2) (many 3) (many 4);
     }
-
-none-first : {A : Type 0} (xs : List A) → head? xs ≡ none → xs ≡ []
-none-first [] e = refl
-none-first (x ∷ xs) e = absurd (let z : _≡_ {A = ℕ} 0 1 = cc in omega arith)
 
 -- a job without a refusal passed the door
 passed-by : (job : Job) (base ruby left lines : ℕ) → fault job base ruby left lines ≡ none → Passed job
 unfolding fault faults
 passed-by job base ruby left lines e =
-    passed job base ruby left lines (append-none (ownFaults job base ruby left lines) (linesFaults job) (none-first (ownFaults job base ruby left lines ++ linesFaults job) e) .0)
+    passed job base ruby left lines (append-none (ownFaults job base ruby left lines) (linesFaults job) (head-none (ownFaults job base ruby left lines ++ linesFaults job) e) .0)
 
 pub given-passed : (t : Sheet) → given t ≡ none → Passed (sheetJob t)
 unfolding given

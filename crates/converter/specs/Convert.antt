@@ -15,12 +15,9 @@ use Rattle.sheet.specs.declared.Reading.{Reading}
 use Rattle.sheet.specs.declared.Reading.the-variants.{Sound, Refused}
 use Rattle.sheet.specs.Sheet.{Sheet, reading, Tables, Into}
 use Rattle.sheet.specs.Form.{writtenOf}
-use Rattle.door.specs.Job.{Job}
 use Rattle.job.specs.Refusals.{fault}
 use Rattle.result.specs.Text.{refusalText}
-use Rattle.result.specs.Short.{longest}
-use Rattle.setter.specs.Answer.{sheetJob, jobText}
-use Rattle.setter.specs.Whole.{Lent}
+use Rattle.sheet_job.specs.Tables.{sheetJob, Lent}
 use Rattle.other_form.specs.Other.{otherText, faultLine}
 
 -- the refusal of a sheet's job, if it has one; the result lists have the maximum lengths
@@ -57,11 +54,6 @@ pub record TablesHold (s : List ℕ) (n : Counts) (t : Tables) (out : List ℕ) 
 pub record HoldsReady (s : List ℕ) (n : Counts) (t : Tables) (out : List ℕ) : Type 0 where
   pub tables : TablesHold s n t out
   pub holds : faultLine (writtenOf (reading s)) ≡ 0
-
--- A job is judged: its own text stands at the front of a list.
-pub record Judged (job : Job) (told : List ℕ) (r : ℕ) (newTold : List ℕ) : Type 0 where
-  pub text : Wrote told 0 (jobText job 1024 2048 2048 1024) r newTold
-  pub short : r ≤ longest
 
 -- A sheet is converted: the tables hold what was read, and `out` begins with what is written.
 pub record Converted (s : List ℕ) (was : Tables) (out : List ℕ) (r : ℕ) (t : Tables) (newOut : List ℕ) : Type 0 where

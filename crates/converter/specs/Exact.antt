@@ -15,13 +15,14 @@ use Rattle.elements.specs.declared.SheetForm.the-variants.{One, Two}
 use Rattle.sheet.specs.declared.Counts.{Counts}
 use Rattle.sheet.specs.declared.Reading.{Reading}
 use Rattle.sheet.specs.declared.Reading.the-variants.{Sound, Refused}
-use Rattle.sheet.specs.Sheet.{reading}
+use Rattle.sheet.specs.Sheet.{Sheet, reading}
 use Rattle.sheet.specs.Form.{Written, InForm, sheetOf, writtenOf}
 use Rattle.sheet.specs.Exact.{SoundAs}
 use Rattle.door.specs.Job.{Job}
 use Rattle.job.specs.Refusals.{fault}
 use Rattle.result.specs.Text.{refusalText}
-use Rattle.setter.specs.Answer.{sheetJob, answerBy, answerText}
+use Rattle.sheet_job.specs.Tables.{sheetJob}
+use Rattle.setter.specs.Answer.{answerBy, answerText}
 use Rattle.other_form.specs.Other.{other, otherText, Holds, faultLine}
 use Rattle.other_form.specs.Fault.{house-seven}
 use Rattle.other_form.specs.Known.{known}
@@ -120,14 +121,18 @@ module _ (s : List ℕ) (c : Counts) (sound : reading s .end ≡ Sound c) (holds
   pub converted-sound : SoundAs (convertText s) (other (reading s .form)) (writtenOf (reading s))
   converted-sound = subst (λ t. SoundAs t (other (reading s .form)) (writtenOf (reading s))) (sym is) (other-sound goes)
 
-  -- so its job is the same, and is accepted
+  -- so all that the numbers alone decide is the same
+  pub same-numbers : (A : Type 0) (what : Sheet → A) → ((r : Written) → what (sheetOf One r) ≡ what (sheetOf Two r)) → what (reading (convertText s)) ≡ what (reading s)
+  same-numbers A what alike = ap (λ t. what (reading t)) is ∙ same-reading goes A what alike
+
+  -- its job is the same, and is accepted
   pub same-sheet-job : sheetJob (reading (convertText s)) ≡ sheetJob (reading s)
-  same-sheet-job = ap (λ t. sheetJob (reading t)) is ∙ same-reading goes Job sheetJob same-job
+  same-sheet-job = same-numbers Job sheetJob same-job
 
   -- what the setting program writes of the two is the same
   pub same-answer : answerText (convertText s) ≡ answerText s
   unfolding answerText
-  same-answer = ap (λ t. answerBy (reading t) (reading t .end)) is ∙ same-reading goes (List ℕ) (λ t. answerBy t (t .end)) same-told
+  same-answer = same-numbers (List ℕ) (λ t. answerBy t (t .end)) same-told
 
   pub converted-back : convertText (convertText s) ≡ s
   converted-back =

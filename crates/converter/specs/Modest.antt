@@ -4,7 +4,7 @@ use mathlib.Core.Bool.{Bool, true, false, _&&_, _||_, false≢true}
 use mathlib.Core.List.{List, [], _∷_, _++_, map}
 use mathlib.Core.Path.{_≡_, refl, _∙_, ap, ap₂, sym, subst}
 use Prim.Native.Nat.{ℕ, zero, suc, _+_, _*_, _≤_, _<_}
-use native.Mathlib.Nat.{add-zero, add-assoc}
+use native.Mathlib.Nat.{add-zero}
 use native.Mathlib.Omega.{arith}
 use borrow.Author.Tests.{leb-true}
 use lib.Dec.{leb}
@@ -18,10 +18,10 @@ use Rattle.sheet.specs.Form.{Written, InForm}
 use Rattle.class.specs.Class.{accepted}
 use Rattle.word.specs.declared.Form.{Form}
 use Rattle.word.specs.declared.Form.the-variants as form
-use Rattle.door.specs.declared.Piece.{Piece}
 use Rattle.door.specs.declared.Taken.{Taken}
 use Rattle.door.specs.Job.{Job, baseCount, rubyCount, elementCount, entries, formOf, takesBase, takesRuby, takesRuns, nothing, past, element, elementsFrom, elements}
 use Rattle.door.specs.Passed.{Passed, GoodBase, GoodReading, GoodElement, Tiled}
+use Rattle.job.specs.Bounded.{tiled-sum}
 use Rattle.other_form.specs.Short.{Modest, RightSmall, short-base, short-ruby, short-word, short-plain}
 
 -- Lists.
@@ -234,10 +234,6 @@ lines-short job [] k at a h g = omega arith
 lines-short job (e ∷ es) k at a h g =
     let s = step job es k at e a (h .0) (g .0) in
     omega (arith, length-append (elementText Two e) (elementsText Two es), s .line, lines-short job es (suc k) (past at (element job k at)) (s .next) (h .1) (g .1))
-
-tiled-sum : (first count : Piece → ℕ) (b : ℕ) (xs : List Piece) (d : ℕ) → Tiled first count b xs d → b + sum (map count xs) ≡ d
-tiled-sum first count b [] d t = add-zero b ∙ t
-tiled-sum first count b (x ∷ xs) d t = sym (add-assoc b (count x) (sum (map count xs))) ∙ tiled-sum first count (b + count x) xs d (t .1)
 
 -- an accepted job's numbers are short enough
 pub modest : (job : Job) (r : Written) → JobHas job r → Passed job → InForm One r → Modest r

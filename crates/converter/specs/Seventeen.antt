@@ -24,7 +24,7 @@ use Rattle.job.specs.Table.{First}
 use Rattle.job.specs.Order.{given-first}
 use Rattle.result.specs.Text.{lineTwo, refusalText}
 use Rattle.result.specs.Refused.{refused-is}
-use Rattle.setter.specs.Answer.{sheetJob}
+use Rattle.sheet_job.specs.Tables.{sheetJob}
 use Rattle.other_form.specs.Other.{otherText, Holds}
 use Rattle.other_form.specs.Text.{text-one, text-two}
 use Rattle.other_form.specs.Joined.{other-one, other-two}

@@ -19,8 +19,9 @@ use Rattle.sheet.specs.Sheet.{reading, Tables, Into}
 use Rattle.sheet.specs.Form.{Written, writtenOf}
 use Rattle.result.specs.Text.{refusalText}
 use Rattle.result.specs.Short.{refusal-short}
+use Rattle.sheet_job.specs.Tables.{Lent}
 use Rattle.setter.specs.Answer.{Fits}
-use Rattle.setter.specs.Whole.{Lent, as-read}
+use Rattle.sheet_job.specs.Read.{as-read}
 use Rattle.other_form.specs.Other.{Holds, faultLine}
 use Rattle.other_form.specs.Fault.{house-seven}
 use Rattle.other_form.specs.Known.{known}
@@ -73,5 +74,5 @@ module _ {s : List ℕ} {was t : Tables} {a : Reading} (into : Into s was a t) w
   pub tables-hold : {n : Counts} {out : List ℕ} → a ≡ Sound n → Lent t → length out ≡ 65535 → TablesHold s n t out
   tables-hold {n} {out} e lent room = record { was = was; into = subst (λ x. Into s was x t) e into; lent = lent; room = room }
 
-  pub converted-sound : {out out' : List ℕ} {r : ℕ} → Wrote out 0 (convertText s) r out' → Converted s was out r t out'
-  converted-sound wrote = record { text = wrote; short = omega (arith, wrote .next, convert-short s); read = as-read into }
+  pub converted-written : {out out' : List ℕ} {r : ℕ} → Wrote out 0 (convertText s) r out' → Converted s was out r t out'
+  converted-written wrote = record { text = wrote; short = omega (arith, wrote .next, convert-short s); read = as-read into }

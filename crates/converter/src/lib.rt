@@ -1,50 +1,12 @@
 // The converter of R-6: a sheet of one form in, the same sheet of the other form out, or `refused N P`; bytes to bytes, and nothing is asked of the caller. The tables are lent, so that a program says
 // once how large they are; what each holds afterwards is part of the contract. It relies on `sheet` for the reading, on `other_form` for the other sheet and the line that form one can't hold, on
-// `setter` for the job's own refusal, and on `result` for the text of a refusal.
-ghost use Prim.Native.Nat.{_≤_};
-ghost use lib.ListN.{length};
+// `sheet_job` for the job's own refusal, and on `result` for the text of a refusal.
+ghost use Rattle.basics.specs.Seen.{was};
+ghost use Rattle.sheet.specs.Seen.{tablesNow, tablesWas};
 ghost use Rattle.text.specs.Print.{Wrote};
 ghost use Rattle.sheet.specs.Sheet.{tables};
-ghost use Rattle.result.specs.Short.{longest};
-ghost use Rattle.setter.specs.Answer.{TablesLong, tablesJob, Fits};
-ghost use Rattle.converter.specs.Convert.{Judged, HoldsReady, TablesHold, convertText, Converted};
-
-// The text of the job that the tables hold: `refused N P`, or its result.
-fn judge(
-    n: sheet::Counts,
-    set: &[u32],
-    base: &[u32],
-    ruby: &[u32],
-    left: &[u32],
-    elem: &[u32],
-    runs: &[u32],
-    lruns: &[u32],
-    told: &mut [u8],
-) -> usize
-    requires { ⌜ TablesLong n (tables (now set) (now base) (now ruby) (now left) (now elem) (now runs) (now lruns)) ⌝ }
-    requires { ⌜ longest ≤ length (now told) ⌝ }
-    ensures { λ r. let job = tablesJob n (tables (now (set .entry)) (now (base .entry)) (now (ruby .entry)) (now (left .entry)) (now (elem .entry)) (now (runs .entry)) (now (lruns .entry))) in ⌜ Judged job (now (told .entry)) r (now (told .exit)) ⌝ }
-{
-    let mut bases = [0; 1024];
-    let mut rubies = [0; 2048];
-    let mut lefts = [0; 2048];
-    let mut lines = [0; 1024];
-    setter::set_tables(
-        n,
-        set,
-        base,
-        ruby,
-        left,
-        elem,
-        runs,
-        lruns,
-        &mut bases,
-        &mut rubies,
-        &mut lefts,
-        &mut lines,
-        told,
-    )
-}
+ghost use Rattle.setter.specs.Answer.{Fits};
+ghost use Rattle.converter.specs.Convert.{HoldsReady, TablesHold, convertText, Converted};
 
 // A sound sheet that form one can hold: the other sheet, where its job is accepted.
 fn write_judged(
@@ -59,15 +21,28 @@ fn write_judged(
     lruns: &[u32],
     out: &mut [u8],
 ) -> usize
-    requires { ⌜ HoldsReady (now s) n (tables (now set) (now base) (now ruby) (now left) (now elem) (now runs) (now lruns)) (now out) ⌝ }
-    ensures { λ r. ⌜ Wrote (now (out .entry)) 0 (convertText (now (s .entry))) r (now (out .exit)) ⌝ }
+    requires { ⌜ HoldsReady (now s) n (tablesNow set base ruby left elem runs lruns) (now out) ⌝ }
+    ensures { λ r. ⌜ Wrote (was out) 0 (convertText (was s)) r (now (out .exit)) ⌝ }
 {
-    let mut told = [0; 131072];
-    let r = judge(n, set, base, ruby, left, elem, runs, lruns, &mut told);
-    if told[0] == 114 {
-        return text::print::put_word(out, 0, &told[0..r]);
+    let mut t = [0; engine::TABLE];
+    let mut ends = [0; limits::MOST_BASES];
+    let mut extents = [0; limits::MOST_BASES];
+    match sheet_job::fill_tables(
+        &mut t,
+        &mut ends,
+        &mut extents,
+        n,
+        set,
+        base,
+        ruby,
+        left,
+        elem,
+        runs,
+        lruns,
+    ) {
+        filling::Lines::Refused(why) => result::write_refusal(why, out),
+        filling::Lines::Filled(_) => other_form::write_other(s, n, out),
     }
-    other_form::write_other(s, n, out)
 }
 
 // A sound sheet: "17 .. after 13", and then its job.
@@ -83,8 +58,8 @@ fn convert_tables(
     lruns: &[u32],
     out: &mut [u8],
 ) -> usize
-    requires { ⌜ TablesHold (now s) n (tables (now set) (now base) (now ruby) (now left) (now elem) (now runs) (now lruns)) (now out) ⌝ }
-    ensures { λ r. ⌜ Wrote (now (out .entry)) 0 (convertText (now (s .entry))) r (now (out .exit)) ⌝ }
+    requires { ⌜ TablesHold (now s) n (tablesNow set base ruby left elem runs lruns) (now out) ⌝ }
+    ensures { λ r. ⌜ Wrote (was out) 0 (convertText (was s)) r (now (out .exit)) ⌝ }
 {
     let line = other_form::fault_line(n, set, elem);
     if line != 0 {
@@ -96,16 +71,16 @@ fn convert_tables(
 // Converts a sheet. The answer is how many bytes of `out` are written: the other sheet, or `refused N P`.
 pub fn convert(
     s: &[u8],
-    set: &mut [u32; 9],
-    base: &mut [u32; 5120],
-    ruby: &mut [u32; 4096],
-    left: &mut [u32; 4096],
-    elem: &mut [u32; 5120],
-    runs: &mut [u32; 32768],
-    lruns: &mut [u32; 32768],
-    out: &mut [u8; 65535],
+    set: &mut [u32; limits::SET],
+    base: &mut [u32; limits::BASE_TABLE],
+    ruby: &mut [u32; limits::RUBY_TABLE],
+    left: &mut [u32; limits::LEFT_TABLE],
+    elem: &mut [u32; limits::ELEMENT_TABLE],
+    runs: &mut [u32; limits::RUNS],
+    lruns: &mut [u32; limits::RUNS],
+    out: &mut [u8; limits::SHEET],
 ) -> usize
-    ensures { λ r. ⌜ Converted (now (s .entry)) (tables (now (set .entry)) (now (base .entry)) (now (ruby .entry)) (now (left .entry)) (now (elem .entry)) (now (runs .entry)) (now (lruns .entry))) (now (out .entry)) r (tables (now (set .exit)) (now (base .exit)) (now (ruby .exit)) (now (left .exit)) (now (elem .exit)) (now (runs .exit)) (now (lruns .exit))) (now (out .exit)) ⌝ }
+    ensures { λ r. ⌜ Converted (was s) (tablesWas set base ruby left elem runs lruns) (was out) r (tablesNow (set .exit) (base .exit) (ruby .exit) (left .exit) (elem .exit) (runs .exit) (lruns .exit)) (now (out .exit)) ⌝ }
     ensures { λ r. ⌜ Fits r (now (out .exit)) ⌝ }
 {
     match sheet::read_sheet(s, set, base, ruby, left, elem, runs, lruns) {

@@ -1,4 +1,5 @@
 pub mod Job
+pub mod Seen
 pub mod Refusals
 pub mod Verdict
 pub mod Entries

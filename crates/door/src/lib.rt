@@ -8,6 +8,7 @@ ghost use mathlib.Core.List.{[]};
 ghost use Prim.Native.Nat.{_+_, _%_, _^_, _≤_, _<_, min};
 ghost use lib.Dec.{ltb, eqb};
 ghost use lib.ListN.{length, getD};
+ghost use Rattle.basics.specs.Seen.{was};
 ghost use Rattle.basics.specs.Lists.{each, count};
 ghost use Rattle.spread.specs.Ratio.{ratioOf, ratiosOf, Housed};
 ghost use Rattle.class.specs.Class.{accepted, blankBefore, blankAfter};
@@ -22,46 +23,6 @@ ghost use Rattle.word.specs.declared.Form.the-variants as form;
 ghost use Rattle.door.specs.Elements.{alone, withLeft, rightAs, rightBy, glossedBy, countedBy};
 ghost use Rattle.door.specs.Whole.{ahead};
 use refusal::Refusal;
-
-// The kinds of element, as their letters on the sheet; a left reading has the letter of its kind, or that of none.
-pub const PLAIN: u32 = 80;
-
-pub const MONO: u32 = 77;
-
-pub const GROUP: u32 = 71;
-
-pub const JUKUGO: u32 = 74;
-
-pub const LEFT_NONE: u32 = 78;
-
-// The most that a job may have (numbers 1, 15, 20 and 2), that a character may be wide (3) and that an element may take (5).
-pub const MOST_EM: u32 = 4096;
-
-pub const MOST_MEASURE: u32 = 4000000;
-
-pub const MOST_RATIO: u32 = 7;
-
-pub const MOST_PROFILE: u32 = 1;
-
-pub const MOST_BASES: usize = 1024;
-
-pub const MOST_RUBIES: usize = 2048;
-
-pub const MOST_ELEMENTS: usize = 1024;
-
-// "as for right ones"
-pub const MOST_LEFTS: usize = 2048;
-
-pub const MOST_WIDTH: u32 = 4096;
-
-pub const ELEMENT_BASES: u32 = 32;
-
-pub const ELEMENT_RUBIES: u32 = 64;
-
-// "ruby ones 1,024 + index", left ones "3,072 + index": the place of the first character of either side in a refusal.
-pub const FIRST_RUBY: u32 = 1024;
-
-pub const FIRST_LEFT: u32 = 3072;
 
 // What the elements before one have taken: base characters, ruby characters and runs, left characters and their runs.
 pub struct Taken {
@@ -135,7 +96,7 @@ fn em_wrong(em: u32) -> bool
     if em % 2 == 1 {
         return true;
     }
-    is_outside(2, MOST_EM, em)
+    is_outside(2, limits::MOST_EM, em)
 }
 
 // Number 12: some result list is below its count.
@@ -166,13 +127,13 @@ fn too_short(
 fn ratio_wrong(r: [u32; 3]) -> bool
     ensures { λ t. ⌜ t ≡ ratioWrong (ratioOf r) ⌝ }
 {
-    if MOST_RATIO < r[0] {
+    if limits::MOST_RATIO < r[0] {
         return true;
     }
-    if MOST_RATIO < r[1] {
+    if limits::MOST_RATIO < r[1] {
         return true;
     }
-    if MOST_RATIO < r[2] {
+    if limits::MOST_RATIO < r[2] {
         return true;
     }
     if r[0] == 0 {
@@ -190,7 +151,7 @@ fn check_house(em: u32, measure: u32, ratios: [[u32; 3]; 2], profile: u32) -> Ch
     if em_wrong(em) {
         return Checked::Refused(Refusal::Range(0));
     }
-    if is_outside(1, MOST_MEASURE, measure) {
+    if is_outside(1, limits::MOST_MEASURE, measure) {
         return Checked::Refused(Refusal::Range(1));
     }
     if ratio_wrong(ratios[0]) {
@@ -199,7 +160,7 @@ fn check_house(em: u32, measure: u32, ratios: [[u32; 3]; 2], profile: u32) -> Ch
     if ratio_wrong(ratios[1]) {
         return Checked::Refused(Refusal::Ratio(1));
     }
-    if MOST_PROFILE < profile {
+    if limits::MOST_PROFILE < profile {
         return Checked::Refused(Refusal::Profile);
     }
     Checked::Passed
@@ -218,16 +179,16 @@ fn check_sizes(
 ) -> Checked
     ensures { λ r. ⌜ r ≡ verdict (sizeRows bases rubies elements lefts base ruby left lines) ⌝ }
 {
-    if MOST_BASES < bases {
+    if limits::MOST_BASES < bases {
         return Checked::Refused(Refusal::Count(0));
     }
-    if MOST_RUBIES < rubies {
+    if limits::MOST_RUBIES < rubies {
         return Checked::Refused(Refusal::Count(1));
     }
-    if MOST_ELEMENTS < elements {
+    if limits::MOST_ELEMENTS < elements {
         return Checked::Refused(Refusal::Count(2));
     }
-    if MOST_LEFTS < lefts {
+    if limits::MOST_LEFTS < lefts {
         return Checked::Refused(Refusal::Count(3));
     }
     if too_short(base, ruby, left, lines, bases, rubies, lefts) {
@@ -241,7 +202,7 @@ fn character_wrong(class: u32, width: u32, flag: u32) -> bool
     ensures { λ r. ⌜ r ≡ characterWrong class width flag ⌝ }
 {
     if class::is_accepted(class) {
-        if is_outside(1, MOST_WIDTH, width) {
+        if is_outside(1, limits::MOST_WIDTH, width) {
             return true;
         }
         return 1 < flag;
@@ -307,7 +268,7 @@ fn check_bases(
     flag: &[u32],
 ) -> Checked
     requires { ⌜ BaseHolds n (now class) (now width) (now before) (now after) (now flag) ⌝ }
-    ensures { λ r. ⌜ r ≡ verdict (each (baseFaults (basesOnly (now (class .entry)) (now (width .entry)) (now (before .entry)) (now (after .entry)) (now (flag .entry)))) (count 0 n)) ⌝ }
+    ensures { λ r. ⌜ r ≡ verdict (each (baseFaults (basesOnly (was class) (was width) (was before) (was after) (was flag))) (count 0 n)) ⌝ }
 {
     let mut i: usize = 0;
     while i < n {
@@ -333,7 +294,7 @@ fn check_reading(place: u32, class: u32, width: u32) -> Checked
 // The characters of one side's readings in turn; the first has the place `first`.
 fn check_readings(first: u32, n: usize, class: &[u32], width: &[u32]) -> Checked
     requires { ⌜ (first ≤ 3072) × ReadingHolds n (now class) (now width) ⌝ }
-    ensures { λ r. ⌜ r ≡ verdict (each (readingFaults first (now (class .entry)) (now (width .entry))) (count 0 n)) ⌝ }
+    ensures { λ r. ⌜ r ≡ verdict (each (readingFaults first (was class) (was width)) (count 0 n)) ⌝ }
 {
     let mut i: usize = 0;
     while i < n {
@@ -349,43 +310,43 @@ fn check_readings(first: u32, n: usize, class: &[u32], width: &[u32]) -> Checked
 fn is_known(kind: u32) -> bool
     ensures { λ r. ⌜ r ≡ known kind ⌝ }
 {
-    if kind == PLAIN {
+    if kind == limits::PLAIN {
         return true;
     }
-    if kind == MONO {
+    if kind == limits::MONO {
         return true;
     }
-    if kind == GROUP {
+    if kind == limits::GROUP {
         return true;
     }
-    kind == JUKUGO
+    kind == limits::JUKUGO
 }
 
 fn is_known_left(kind: u32) -> bool
     ensures { λ r. ⌜ r ≡ knownLeft kind ⌝ }
 {
-    if kind == LEFT_NONE {
+    if kind == limits::LEFT_NONE {
         return true;
     }
-    if kind == MONO {
+    if kind == limits::MONO {
         return true;
     }
-    if kind == GROUP {
+    if kind == limits::GROUP {
         return true;
     }
-    kind == JUKUGO
+    kind == limits::JUKUGO
 }
 
 pub fn form_of(kind: u32) -> word::Form
     ensures { λ r. ⌜ r ≡ formOf kind ⌝ }
 {
-    if kind == MONO {
+    if kind == limits::MONO {
         return word::Form::M;
     }
-    if kind == GROUP {
+    if kind == limits::GROUP {
         return word::Form::G;
     }
-    if kind == JUKUGO {
+    if kind == limits::JUKUGO {
         return word::Form::J;
     }
     word::Form::P
@@ -394,13 +355,13 @@ pub fn form_of(kind: u32) -> word::Form
 pub fn left_of(kind: u32) -> word::Left
     ensures { λ r. ⌜ r ≡ leftOf kind ⌝ }
 {
-    if kind == MONO {
+    if kind == limits::MONO {
         return word::Left::M;
     }
-    if kind == GROUP {
+    if kind == limits::GROUP {
         return word::Left::G;
     }
-    if kind == JUKUGO {
+    if kind == limits::JUKUGO {
         return word::Left::J;
     }
     word::Left::N
@@ -408,7 +369,7 @@ pub fn left_of(kind: u32) -> word::Left
 
 // "A J run past the end of its list reads as 0."
 fn run_at(i: usize, runs: &[u32]) -> u32
-    ensures { λ r. ⌜ r ≡ getD (now (runs .entry)) i 0 ⌝ }
+    ensures { λ r. ⌜ r ≡ getD (was runs) i 0 ⌝ }
 {
     if i < runs.len() { runs[i] } else { 0 }
 }
@@ -416,7 +377,7 @@ fn run_at(i: usize, runs: &[u32]) -> u32
 // The n runs of a J, or of a left reading, from the u-th on: each at least 1, at most 64 in all.
 fn runs_from(u: usize, n: usize, runs: &[u32]) -> Runs
     requires { ⌜ (u ≤ 1024) × (n ≤ 32) ⌝ }
-    ensures { λ r. ⌜ r ≡ runsFrom (now (runs .entry)) u n ⌝ }
+    ensures { λ r. ⌜ r ≡ runsFrom (was runs) u n ⌝ }
 {
     let mut taken: usize = 0;
     let mut j: usize = 0;
@@ -428,7 +389,7 @@ fn runs_from(u: usize, n: usize, runs: &[u32]) -> Runs
         taken += run as usize;
         j += 1;
     }
-    if (ELEMENT_RUBIES as usize) < taken {
+    if (limits::ELEMENT_RUBIES as usize) < taken {
         return Runs::Wrong;
     }
     Runs::Sum(taken)
@@ -457,7 +418,7 @@ fn piece_of(form: word::Form, bases: usize, rubies: usize, at: Taken) -> Piece
 fn count_mono(ruby: u32, at: Taken) -> Counted
     ensures { λ c. ⌜ c ≡ rightAs form.M 1 ruby [] at ⌝ }
 {
-    if is_outside(1, ELEMENT_RUBIES, ruby) {
+    if is_outside(1, limits::ELEMENT_RUBIES, ruby) {
         return Counted::Out;
     }
     Counted::Is(piece_of(word::Form::M, 1, ruby as usize, at))
@@ -466,10 +427,10 @@ fn count_mono(ruby: u32, at: Taken) -> Counted
 fn count_group(base: u32, ruby: u32, at: Taken) -> Counted
     ensures { λ c. ⌜ c ≡ rightAs form.G base ruby [] at ⌝ }
 {
-    if is_outside(1, ELEMENT_BASES, base) {
+    if is_outside(1, limits::ELEMENT_BASES, base) {
         return Counted::Out;
     }
-    if is_outside(1, ELEMENT_RUBIES, ruby) {
+    if is_outside(1, limits::ELEMENT_RUBIES, ruby) {
         return Counted::Out;
     }
     Counted::Is(piece_of(word::Form::G, base as usize, ruby as usize, at))
@@ -477,9 +438,9 @@ fn count_group(base: u32, ruby: u32, at: Taken) -> Counted
 
 fn count_jukugo(base: u32, at: Taken, runs: &[u32]) -> Counted
     requires { ⌜ at .run ≤ 1024 ⌝ }
-    ensures { λ c. ⌜ c ≡ rightAs form.J base 0 (now (runs .entry)) at ⌝ }
+    ensures { λ c. ⌜ c ≡ rightAs form.J base 0 (was runs) at ⌝ }
 {
-    if is_outside(1, ELEMENT_BASES, base) {
+    if is_outside(1, limits::ELEMENT_BASES, base) {
         return Counted::Out;
     }
     match runs_from(at.run, base as usize, runs) {
@@ -491,7 +452,7 @@ fn count_jukugo(base: u32, at: Taken, runs: &[u32]) -> Counted
 // Number 5 but for a left reading: an element by its kind and counts, behind what those before it have taken. Counts that its kind does not show are not read.
 pub fn count_right(kind: u32, base: u32, ruby: u32, at: Taken, runs: &[u32]) -> Counted
     requires { ⌜ at .run ≤ 1024 ⌝ }
-    ensures { λ c. ⌜ c ≡ rightBy kind base ruby (now (runs .entry)) at ⌝ }
+    ensures { λ c. ⌜ c ≡ rightBy kind base ruby (was runs) at ⌝ }
 {
     if !is_known(kind) {
         return Counted::Out;
@@ -570,7 +531,7 @@ fn with_left(p: Piece, gloss: word::Left, lefts: usize) -> Piece
 // Number 5 of an element's left reading, by its kind and counts, "as for right ones".
 fn count_left(p: Piece, kind: u32, left: u32, runs: &[u32]) -> Counted
     requires { ⌜ (p .leftrun ≤ 1024) × (p .bases ≤ 32) ⌝ }
-    ensures { λ c. ⌜ c ≡ glossedBy p kind left (now (runs .entry)) ⌝ }
+    ensures { λ c. ⌜ c ≡ glossedBy p kind left (was runs) ⌝ }
 {
     if !is_known_left(kind) {
         return Counted::Out;
@@ -584,7 +545,7 @@ fn count_left(p: Piece, kind: u32, left: u32, runs: &[u32]) -> Counted
         return Counted::Is(with_left(p, gloss, taken));
     }
     if left_by_count(form, gloss) {
-        if is_outside(1, ELEMENT_RUBIES, left) {
+        if is_outside(1, limits::ELEMENT_RUBIES, left) {
             return Counted::Out;
         }
         return Counted::Is(with_left(p, gloss, left as usize));
@@ -604,10 +565,10 @@ pub fn count_element(
     lruns: &[u32],
 ) -> Counted
     requires { ⌜ (at .run ≤ 1024) × (at .leftrun ≤ 1024) ⌝ }
-    ensures { λ c. ⌜ c ≡ countedBy kind base ruby lkind left (now (runs .entry)) (now (lruns .entry)) at ⌝ }
+    ensures { λ c. ⌜ c ≡ countedBy kind base ruby lkind left (was runs) (was lruns) at ⌝ }
 {
     let counted = count_right(kind, base, ruby, at, runs);
-    if lkind == LEFT_NONE {
+    if lkind == limits::LEFT_NONE {
         return counted;
     }
     let Counted::Is(p) = counted else {
@@ -719,20 +680,20 @@ pub fn base_count(
     after: &[u32],
     flag: &[u32],
 ) -> usize
-    ensures { λ n. ⌜ n ≡ min (length (now (class .entry))) (min (length (now (width .entry))) (min (length (now (before .entry))) (min (length (now (after .entry))) (length (now (flag .entry)))))) ⌝ }
+    ensures { λ n. ⌜ n ≡ min (length (was class)) (min (length (was width)) (min (length (was before)) (min (length (was after)) (length (was flag))))) ⌝ }
 {
     let blanks = fewer(before.len(), fewer(after.len(), flag.len()));
     fewer(class.len(), fewer(width.len(), blanks))
 }
 
 pub fn ruby_count(rclass: &[u32], rwidth: &[u32]) -> usize
-    ensures { λ n. ⌜ n ≡ min (length (now (rclass .entry))) (length (now (rwidth .entry))) ⌝ }
+    ensures { λ n. ⌜ n ≡ min (length (was rclass)) (length (was rwidth)) ⌝ }
 {
     fewer(rclass.len(), rwidth.len())
 }
 
 pub fn left_count(lclass: &[u32], lwidth: &[u32]) -> usize
-    ensures { λ n. ⌜ n ≡ min (length (now (lclass .entry))) (length (now (lwidth .entry))) ⌝ }
+    ensures { λ n. ⌜ n ≡ min (length (was lclass)) (length (was lwidth)) ⌝ }
 {
     fewer(lclass.len(), lwidth.len())
 }
@@ -744,7 +705,7 @@ pub fn element_count(
     lkind: &[u32],
     eleft: &[u32],
 ) -> usize
-    ensures { λ n. ⌜ n ≡ min (length (now (kind .entry))) (min (length (now (ebase .entry))) (min (length (now (eruby .entry))) (min (length (now (lkind .entry))) (length (now (eleft .entry)))))) ⌝ }
+    ensures { λ n. ⌜ n ≡ min (length (was kind)) (min (length (was ebase)) (min (length (was eruby)) (min (length (was lkind)) (length (was eleft))))) ⌝ }
 {
     let counts = fewer(eruby.len(), fewer(lkind.len(), eleft.len()));
     fewer(kind.len(), fewer(ebase.len(), counts))
@@ -776,7 +737,7 @@ pub fn check_characters(
     left: usize,
     lines: usize,
 ) -> Checked
-    ensures { λ c. let job = jobOf em measure ratios profile (now (class .entry)) (now (width .entry)) (now (before .entry)) (now (after .entry)) (now (flag .entry)) (now (rclass .entry)) (now (rwidth .entry)) (now (lclass .entry)) (now (lwidth .entry)) (now (kind .entry)) (now (ebase .entry)) (now (eruby .entry)) (now (lkind .entry)) (now (eleft .entry)) [] [] in ⌜ c ≡ verdict (ahead job base ruby left lines) ⌝ }
+    ensures { λ c. let job = jobOf em measure ratios profile (was class) (was width) (was before) (was after) (was flag) (was rclass) (was rwidth) (was lclass) (was lwidth) (was kind) (was ebase) (was eruby) (was lkind) (was eleft) [] [] in ⌜ c ≡ verdict (ahead job base ruby left lines) ⌝ }
 {
     let house = check_house(em, measure, ratios, profile);
     let Checked::Passed = house else {
@@ -794,9 +755,9 @@ pub fn check_characters(
     let Checked::Passed = characters else {
         return characters;
     };
-    let rights = check_readings(FIRST_RUBY, rubies, rclass, rwidth);
+    let rights = check_readings(limits::FIRST_RUBY, rubies, rclass, rwidth);
     let Checked::Passed = rights else {
         return rights;
     };
-    check_readings(FIRST_LEFT, lefts, lclass, lwidth)
+    check_readings(limits::FIRST_LEFT, lefts, lclass, lwidth)
 }

@@ -9,7 +9,7 @@ use native.Mathlib.Omega.{arith}
 use borrow.Author.Tests.{ltb-false, lt-ltb, le-ltb, eqb-true}
 use lib.Dec.{eqb, ltb, eqb·suc-zero}
 use lib.ListN.{length, getD, take, drop, length-append}
-use lib.Seq.{take-append-seam, drop-append-seam}
+use lib.Seq.{take-append-seam, drop-append-seam, getD-drop}
 use Rattle.basics.specs.Lists.{All}
 use Rattle.refusal.specs.declared.Refusal.the-variants.{Form, Count}
 use Rattle.text.specs.declared.Place.{Place}
@@ -32,7 +32,7 @@ use Rattle.elements.specs.declared.SheetForm.the-variants.{One, Two}
 use Rattle.elements.specs.declared.Line.{Line}
 use Rattle.elements.specs.declared.Line.the-variants.{Holds, Broken}
 use Rattle.elements.specs.declared.Elements.the-variants.{Read, Refused}
-use Rattle.elements.specs.Element.{bare, withLeft, onLine, plainAt, monoAt, groupAt, Got, nothing, held, jukugoAt, either, orRuns, rightAt, countsOf, countedAt, listedAt, leftBy, leftAt}
+use Rattle.elements.specs.Element.{bare, withLeft, onLine, plainAt, monoAt, groupAt, Got, nothing, held, jukugoAt, either, orRuns, rightAt, byteAt, countsOf, countedAt, listedAt, leftBy, leftAt}
 use Rattle.elements.specs.Element.{stopBy, endBy, Taken, wordAt, orWord, element}
 use Rattle.elements.specs.Elements.{Listed, broke, joined, lines, elements}
 use Rattle.elements.specs.Print.{Right, M, G, J, Left, none, mono, group, jukugo, Entry, P, word, rightText, leftText, elementText, RightFit, basesOf, LeftFit, Fit, rightOf, rightRuns, letterOf}
@@ -250,12 +250,14 @@ module _ (s : List ℕ) (at : ℕ) where
 
   left-is : (r : Right) → LeftIs r s at (leftAt (rightOf r) s at)
   unfolding leftAt
-  left-is r = let c = getD (drop at s) 0 0 in left-case r c (eqb c 71) (eqb c 77) (eqb c 78) (eqb c 74) refl refl refl refl
+  left-is r = let c = byteAt s at in left-case r c (eqb c 71) (eqb c 77) (eqb c 78) (eqb c 74) refl refl refl refl
 
 -- and its text is read as it
 module _ (s : List ℕ) (at next : ℕ) where
-  first-byte : (c : ℕ) (t : List ℕ) → Stands s at (c ∷ t) next → getD (drop at s) 0 0 ≡ c
-  first-byte c t x = rw (x .text)
+  first-byte : (c : ℕ) (t : List ℕ) → Stands s at (c ∷ t) next → byteAt s at ≡ c
+  first-byte c t x =
+      let head : getD (drop at s) 0 0 ≡ c = rw (x .text) in
+      ap (byteAt s) (sym (add-zero at)) ∙ sym (getD-drop at s 0 0) ∙ head
 
   counted-back : (c : ℕ) (e : Element) (n : ℕ) → n ≤ most → Stands s at ((c ∷ spaced (n ∷ [])) ++ (10 ∷ [])) next → countedAt c e s at ≡ Holds (withLeft e c n 0) next
   unfolding countedAt onPlace onNumber numbersText

@@ -3,6 +3,7 @@
 // the line that begins the section and for numbers stored, and on `refusal`.
 ghost use mathlib.Core.Path.{_≡_};
 ghost use lib.Seq.{sets};
+ghost use Rattle.basics.specs.Seen.{was};
 ghost use Rattle.rows.specs.Table.{strided};
 ghost use Rattle.elements.specs.Element.{plainAt, monoAt, groupAt, jukugoAt, either, rightAt, byteAt, isCounted, isListed, countsOf, countedAt, listedAt, leftAt, stopBy, wordAt, element, rowOf};
 ghost use Rattle.elements.specs.Elements.{lines, elements};
@@ -40,18 +41,18 @@ pub enum Elements {
 
 // `P`.
 fn plain_at(s: &[u8], at: usize) -> Line
-    ensures { λ r. ⌜ r ≡ plainAt (now (s .entry)) at ⌝ }
+    ensures { λ r. ⌜ r ≡ plainAt (was s) at ⌝ }
 {
     let text::Place::At(next) = text::read_word(s, at, b"P\n") else {
         return Line::Broken;
     };
     Line::Holds(
         Element {
-            kind: 80,
+            kind: limits::PLAIN,
             base: 0,
             ruby: 0,
             runs: 0,
-            left: 78,
+            left: limits::LEFT_NONE,
             count: 0,
             lruns: 0,
         },
@@ -61,7 +62,7 @@ fn plain_at(s: &[u8], at: usize) -> Line
 
 // `M r`, ended by the byte `stop`.
 fn mono_at(s: &[u8], at: usize, stop: u8) -> Line
-    ensures { λ r. ⌜ r ≡ monoAt stop (now (s .entry)) at ⌝ }
+    ensures { λ r. ⌜ r ≡ monoAt stop (was s) at ⌝ }
 {
     let text::Place::At(p) = text::read_word(s, at, b"M ") else {
         return Line::Broken;
@@ -71,11 +72,11 @@ fn mono_at(s: &[u8], at: usize, stop: u8) -> Line
     };
     Line::Holds(
         Element {
-            kind: 77,
+            kind: limits::MONO,
             base: 0,
             ruby: r,
             runs: 0,
-            left: 78,
+            left: limits::LEFT_NONE,
             count: 0,
             lruns: 0,
         },
@@ -85,12 +86,12 @@ fn mono_at(s: &[u8], at: usize, stop: u8) -> Line
 
 // `G b r`, ended by the byte `stop`.
 fn group_at(s: &[u8], at: usize, stop: u8) -> Line
-    ensures { λ r. ⌜ r ≡ groupAt stop (now (s .entry)) at ⌝ }
+    ensures { λ r. ⌜ r ≡ groupAt stop (was s) at ⌝ }
 {
     let text::Place::At(p) = text::read_word(s, at, b"G ") else {
         return Line::Broken;
     };
-    let text::Number::Is(b, q) = text::read_number(s, p, 32) else {
+    let text::Number::Is(b, q) = text::read_number(s, p, b' ') else {
         return Line::Broken;
     };
     let text::Number::Is(r, next) = text::read_number(s, q, stop) else {
@@ -98,11 +99,11 @@ fn group_at(s: &[u8], at: usize, stop: u8) -> Line
     };
     Line::Holds(
         Element {
-            kind: 71,
+            kind: limits::GROUP,
             base: b,
             ruby: r,
             runs: 0,
-            left: 78,
+            left: limits::LEFT_NONE,
             count: 0,
             lruns: 0,
         },
@@ -113,18 +114,18 @@ fn group_at(s: &[u8], at: usize, stop: u8) -> Line
 // `J b` and b run lengths, b from 1 to 32, the last ended by the byte `stop`; they go to `runs` from `used` on.
 fn jukugo_at(s: &[u8], at: usize, stop: u8, runs: &mut [u32], used: usize) -> Line
     requires { ⌜ RunsReady (now s) at used (now runs) ⌝ }
-    ensures { λ r. ⌜ (r ≡ jukugoAt stop (now (s .entry)) at .line) × (now (runs .exit) ≡ sets (now (runs .entry)) used (jukugoAt stop (now (s .entry)) at .runs)) ⌝ }
+    ensures { λ r. ⌜ (r ≡ jukugoAt stop (was s) at .line) × (now (runs .exit) ≡ sets (was runs) used (jukugoAt stop (was s) at .runs)) ⌝ }
 {
     let text::Place::At(p) = text::read_word(s, at, b"J ") else {
         return Line::Broken;
     };
-    let text::Number::Is(b, q) = text::read_number(s, p, 32) else {
+    let text::Number::Is(b, q) = text::read_number(s, p, b' ') else {
         return Line::Broken;
     };
     if b < 1 {
         return Line::Broken;
     }
-    if 32 < b {
+    if limits::ELEMENT_BASES < b {
         return Line::Broken;
     }
     let n = b as usize;
@@ -133,11 +134,11 @@ fn jukugo_at(s: &[u8], at: usize, stop: u8, runs: &mut [u32], used: usize) -> Li
     };
     Line::Holds(
         Element {
-            kind: 74,
+            kind: limits::JUKUGO,
             base: b,
             ruby: 0,
             runs: n,
-            left: 78,
+            left: limits::LEFT_NONE,
             count: 0,
             lruns: 0,
         },
@@ -158,7 +159,7 @@ fn either_of(a: Line, b: Line) -> Line
 // What an M, G or J line shows in both forms, ended by the byte `stop`; a J's runs go to `runs` from `used` on.
 fn right_at(s: &[u8], at: usize, stop: u8, runs: &mut [u32], used: usize) -> Line
     requires { ⌜ RunsReady (now s) at used (now runs) ⌝ }
-    ensures { λ r. ⌜ (r ≡ rightAt stop (now (s .entry)) at .line) × (now (runs .exit) ≡ sets (now (runs .entry)) used (rightAt stop (now (s .entry)) at .runs)) ⌝ }
+    ensures { λ r. ⌜ (r ≡ rightAt stop (was s) at .line) × (now (runs .exit) ≡ sets (was runs) used (rightAt stop (was s) at .runs)) ⌝ }
 {
     match either_of(mono_at(s, at, stop), group_at(s, at, stop)) {
         Line::Holds(e, next) => Line::Holds(e, next),
@@ -167,8 +168,8 @@ fn right_at(s: &[u8], at: usize, stop: u8, runs: &mut [u32], used: usize) -> Lin
 }
 
 // The byte at a place, 0 past the end.
-fn byte_at(s: &[u8], at: usize) -> u8
-    ensures { λ r. ⌜ r ≡ byteAt (now (s .entry)) at ⌝ }
+pub fn byte_at(s: &[u8], at: usize) -> u8
+    ensures { λ r. ⌜ r ≡ byteAt (was s) at ⌝ }
 {
     if s.len() <= at { 0 } else { s[at] }
 }
@@ -177,40 +178,48 @@ fn byte_at(s: &[u8], at: usize) -> u8
 fn is_counted(kind: u32, letter: u8) -> bool
     ensures { λ r. ⌜ r ≡ isCounted kind letter ⌝ }
 {
-    if letter == 71 {
+    if letter == b'G' {
         return true;
     }
-    if letter == 77 { kind == 77 } else { false }
+    if letter == b'M' {
+        kind == limits::MONO
+    } else {
+        false
+    }
 }
 
 // Whether its counts are left runs: those of M and J elsewhere; N has none.
 fn is_listed(letter: u8) -> bool
     ensures { λ r. ⌜ r ≡ isListed letter ⌝ }
 {
-    if letter == 78 {
+    if letter == b'N' {
         return true;
     }
-    if letter == 77 { true } else { letter == 74 }
+    if letter == b'M' { true } else { letter == b'J' }
 }
 
 // How many counts follow the letter then: none after N, else one for each base character of the element.
 fn counts_of(kind: u32, base: u32, letter: u8) -> usize
     ensures { λ r. ⌜ r ≡ countsOf kind base letter ⌝ }
 {
-    if letter == 78 {
+    if letter == b'N' {
         return 0;
     }
-    if kind == 77 { 1 } else { base as usize }
+    if kind == limits::MONO {
+        1
+    } else {
+        base as usize
+    }
 }
 
 // The left kind and its one count, the element's left count.
 fn counted_at(s: &[u8], e: Element, at: usize, letter: u8) -> Line
-    ensures { λ r. ⌜ r ≡ countedAt letter e (now (s .entry)) at ⌝ }
+    ensures { λ r. ⌜ r ≡ countedAt letter e (was s) at ⌝ }
 {
-    let text::Place::At(p) = text::read_word(s, at, &[letter, 32]) else {
+    let text::Place::At(p) = text::read_word(s, at, &[letter, b' ']) else {
         return Line::Broken;
     };
-    let text::Number::Is(n, next) = text::read_number(s, p, 10) else {
+    let text::Number::Is(n, next) = text::read_number(s, p, b'\n') else {
         return Line::Broken;
     };
     Line::Holds(
@@ -230,13 +239,13 @@ fn counted_at(s: &[u8], e: Element, at: usize, letter: u8) -> Line
 // The left kind and its counts, which go to `lruns` from `used` on.
 fn listed_at(s: &[u8], e: Element, at: usize, letter: u8, lruns: &mut [u32], used: usize) -> Line
     requires { ⌜ RunsReady (now s) at used (now lruns) ⌝ }
-    ensures { λ r. ⌜ (r ≡ listedAt letter e (now (s .entry)) at .line) × (now (lruns .exit) ≡ sets (now (lruns .entry)) used (listedAt letter e (now (s .entry)) at .runs)) ⌝ }
+    ensures { λ r. ⌜ (r ≡ listedAt letter e (was s) at .line) × (now (lruns .exit) ≡ sets (was lruns) used (listedAt letter e (was s) at .runs)) ⌝ }
 {
     let n = counts_of(e.kind, e.base, letter);
-    let text::Place::At(p) = text::read_word(s, at, &[letter, rows::stop_of(10, n)]) else {
+    let text::Place::At(p) = text::read_word(s, at, &[letter, rows::stop_of(b'\n', n)]) else {
         return Line::Broken;
     };
-    let text::Place::At(next) = rows::fields_at(s, p, 10, n, lruns, used, 1) else {
+    let text::Place::At(next) = rows::fields_at(s, p, b'\n', n, lruns, used, 1) else {
         return Line::Broken;
     };
     Line::Holds(
@@ -256,7 +265,7 @@ fn listed_at(s: &[u8], e: Element, at: usize, letter: u8, lruns: &mut [u32], use
 // The end of a line of form two: the letter of the left kind and its counts, after what was read as e.
 fn left_at(s: &[u8], e: Element, at: usize, lruns: &mut [u32], used: usize) -> Line
     requires { ⌜ RunsReady (now s) at used (now lruns) ⌝ }
-    ensures { λ r. ⌜ (r ≡ leftAt e (now (s .entry)) at .line) × (now (lruns .exit) ≡ sets (now (lruns .entry)) used (leftAt e (now (s .entry)) at .runs)) ⌝ }
+    ensures { λ r. ⌜ (r ≡ leftAt e (was s) at .line) × (now (lruns .exit) ≡ sets (was lruns) used (leftAt e (was s) at .runs)) ⌝ }
 {
     let letter = byte_at(s, at);
     if is_counted(e.kind, letter) {
@@ -273,8 +282,8 @@ fn stop_by(form: SheetForm) -> u8
     ensures { λ r. ⌜ r ≡ stopBy form ⌝ }
 {
     match form {
-        SheetForm::One => 10,
-        SheetForm::Two => 32,
+        SheetForm::One => b'\n',
+        SheetForm::Two => b' ',
     }
 }
 
@@ -289,7 +298,7 @@ fn word_at(
     lused: usize,
 ) -> Line
     requires { ⌜ LineReady (now s) at used lused (now runs) (now lruns) ⌝ }
-    ensures { λ r. ⌜ LineRead (wordAt form (now (s .entry)) at) used lused (now (runs .entry)) (now (lruns .entry)) r (now (runs .exit)) (now (lruns .exit)) ⌝ }
+    ensures { λ r. ⌜ LineRead (wordAt form (was s) at) used lused (was runs) (was lruns) r (now (runs .exit)) (now (lruns .exit)) ⌝ }
 {
     let Line::Holds(e, next) = right_at(s, at, stop_by(form), runs, used) else {
         return Line::Broken;
@@ -311,7 +320,7 @@ fn element_at(
     lused: usize,
 ) -> Line
     requires { ⌜ LineReady (now s) at used lused (now runs) (now lruns) ⌝ }
-    ensures { λ r. ⌜ LineRead (element form (now (s .entry)) at) used lused (now (runs .entry)) (now (lruns .entry)) r (now (runs .exit)) (now (lruns .exit)) ⌝ }
+    ensures { λ r. ⌜ LineRead (element form (was s) at) used lused (was runs) (was lruns) r (now (runs .exit)) (now (lruns .exit)) ⌝ }
 {
     match plain_at(s, at) {
         Line::Holds(e, next) => Line::Holds(e, next),
@@ -322,12 +331,12 @@ fn element_at(
 // The five numbers of element i into the columns of the table.
 fn put_element(e: Element, i: usize, table: &mut [u32])
     requires { ⌜ PutReady i (now table) ⌝ }
-    ensures { λ _. ⌜ now (table .exit) ≡ strided (now (table .entry)) i 1024 (rowOf e) ⌝ }
+    ensures { λ _. ⌜ now (table .exit) ≡ strided (was table) i 1024 (rowOf e) ⌝ }
 {
-    let base = i + 1024;
-    let ruby = base + 1024;
-    let left = ruby + 1024;
-    let count = left + 1024;
+    let base = i + limits::MOST_ELEMENTS;
+    let ruby = base + limits::MOST_ELEMENTS;
+    let left = ruby + limits::MOST_ELEMENTS;
+    let count = left + limits::MOST_ELEMENTS;
     table[i] = e.kind;
     table[base] = e.base;
     table[ruby] = e.ruby;
@@ -347,7 +356,7 @@ fn lines_at(
     lruns: &mut [u32],
 ) -> Elements
     requires { ⌜ LinesReady (now s) n first (now table) (now runs) (now lruns) ⌝ }
-    ensures { λ r. ⌜ ListRead (lines form n n (now (s .entry)) from first 0 0) (now (table .entry)) (now (runs .entry)) (now (lruns .entry)) r (now (table .exit)) (now (runs .exit)) (now (lruns .exit)) ⌝ }
+    ensures { λ r. ⌜ ListRead (lines form n n (was s) from first 0 0) (was table) (was runs) (was lruns) r (now (table .exit)) (now (runs .exit)) (now (lruns .exit)) ⌝ }
 {
     let mut at = from;
     let mut line = first;
@@ -378,7 +387,7 @@ pub fn elements_at(
     lruns: &mut [u32],
 ) -> Elements
     requires { ⌜ ElementsReady (now s) head (now table) (now runs) (now lruns) ⌝ }
-    ensures { λ r. ⌜ ListRead (elements form (now (s .entry)) head) (now (table .entry)) (now (runs .entry)) (now (lruns .entry)) r (now (table .exit)) (now (runs .exit)) (now (lruns .exit)) ⌝ }
+    ensures { λ r. ⌜ ListRead (elements form (was s) head) (was table) (was runs) (was lruns) r (now (table .exit)) (now (runs .exit)) (now (lruns .exit)) ⌝ }
 {
     match head {
         rows::Part::Refused(why) => Elements::Refused(why),

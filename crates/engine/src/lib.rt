@@ -3,9 +3,23 @@
 // written, so that a refusal leaves every result list as it was. It relies on `door`, `layout`, `filling` and `positions`, and on `job` for what the answer means.
 ghost use mathlib.Core.Path.{_≡_};
 ghost use lib.ListN.{length};
-ghost use Rattle.door.specs.Job.{jobOf, leftCount};
-ghost use Rattle.job.specs.Outcome.{Outcome, outcome};
-ghost use Rattle.engine.specs.Filled.{Room, Fills, Keeps};
+ghost use Rattle.basics.specs.Seen.{was};
+ghost use Rattle.engine.specs.Seen.{leaves};
+ghost use Rattle.door.specs.Seen.{jobNow, jobWas};
+ghost use Rattle.door.specs.Job.{leftCount};
+ghost use Rattle.job.specs.Outcome.{outcome};
+ghost use Rattle.engine.specs.Filled.{Room, Fills};
+
+// How many base characters a job has at most that is set by the small tables, and the sizes of these and of the large ones, in a job without left characters and in one with some.
+const FEW: usize = 128;
+
+const SMALL: usize = cells::HEAD + cells::ROW * FEW;
+
+const SMALL_LEFT: usize = SMALL + cells::LEFT * FEW;
+
+const LARGE: usize = cells::HEAD + cells::ROW * limits::MOST_BASES;
+
+pub const TABLE: usize = LARGE + cells::LEFT * limits::MOST_BASES;
 
 // The job's table, and the ends and extents of its lines, at the front of lent lists; or the first refusal of all. `base`, `ruby`, `left` and `lines` are the lengths
 // of the result lists.
@@ -38,8 +52,8 @@ pub fn fill_job(
     left: usize,
     lines: usize,
 ) -> filling::Lines
-    requires { let job = jobOf em measure ratios profile (now class) (now width) (now before) (now after) (now flag) (now rclass) (now rwidth) (now lclass) (now lwidth) (now kind) (now ebase) (now eruby) (now lkind) (now eleft) (now runs) (now lruns) in ⌜ Room job (now t) (now ends) (now extents) ⌝ }
-    ensures { λ a. let job = jobOf em measure ratios profile (now (class .entry)) (now (width .entry)) (now (before .entry)) (now (after .entry)) (now (flag .entry)) (now (rclass .entry)) (now (rwidth .entry)) (now (lclass .entry)) (now (lwidth .entry)) (now (kind .entry)) (now (ebase .entry)) (now (eruby .entry)) (now (lkind .entry)) (now (eleft .entry)) (now (runs .entry)) (now (lruns .entry)) in ⌜ Fills job base ruby left lines (now (extents .entry)) (now (t .exit)) (now (ends .exit)) (now (extents .exit)) a ⌝ }
+    requires { let job = jobNow em measure ratios profile class width before after flag rclass rwidth lclass lwidth kind ebase eruby lkind eleft runs lruns in ⌜ Room job (now t) (now ends) (now extents) ⌝ }
+    ensures { λ a. let job = jobWas em measure ratios profile class width before after flag rclass rwidth lclass lwidth kind ebase eruby lkind eleft runs lruns in ⌜ Fills job base ruby left lines (was ends) (was extents) (now (t .exit)) (now (ends .exit)) (now (extents .exit)) a ⌝ }
 {
     match door::check_characters(
         em,
@@ -97,8 +111,8 @@ pub fn fill_job(
     filling::fill_lines(t, n, ends, extents, em, 2 * measure)
 }
 
-// The job set by a table and lists of this size, which keep its rows, and the ends and extents of its lines.
-pub fn set_table(
+// The job set by a table and lists of this size, for its rows and the ends and extents of its lines.
+fn set_table(
     t: &mut [u32],
     ends: &mut [u32],
     extents: &mut [u32],
@@ -127,9 +141,8 @@ pub fn set_table(
     left: &mut [u32],
     lines: &mut [u32],
 ) -> job::Answer
-    requires { let job = jobOf em measure ratios profile (now class) (now width) (now before) (now after) (now flag) (now rclass) (now rwidth) (now lclass) (now lwidth) (now kind) (now ebase) (now eruby) (now lkind) (now eleft) (now runs) (now lruns) in ⌜ Room job (now t) (now ends) (now extents) ⌝ }
-    ensures { λ r. let job = jobOf em measure ratios profile (now (class .entry)) (now (width .entry)) (now (before .entry)) (now (after .entry)) (now (flag .entry)) (now (rclass .entry)) (now (rwidth .entry)) (now (lclass .entry)) (now (lwidth .entry)) (now (kind .entry)) (now (ebase .entry)) (now (eruby .entry)) (now (lkind .entry)) (now (eleft .entry)) (now (runs .entry)) (now (lruns .entry)) in ⌜ _≡_ {A = Outcome} (record { answer = r; base = now (base .exit); ruby = now (ruby .exit); left = now (left .exit); lines = now (lines .exit) }) (outcome job (now (base .entry)) (now (ruby .entry)) (now (left .entry)) (now (lines .entry))) ⌝ }
-    ensures { λ r. let job = jobOf em measure ratios profile (now (class .entry)) (now (width .entry)) (now (before .entry)) (now (after .entry)) (now (flag .entry)) (now (rclass .entry)) (now (rwidth .entry)) (now (lclass .entry)) (now (lwidth .entry)) (now (kind .entry)) (now (ebase .entry)) (now (eruby .entry)) (now (lkind .entry)) (now (eleft .entry)) (now (runs .entry)) (now (lruns .entry)) in ⌜ Keeps job (length (now (base .entry))) (length (now (ruby .entry))) (length (now (left .entry))) (length (now (lines .entry))) (now (extents .entry)) (now (t .exit)) (now (ends .exit)) (now (extents .exit)) r ⌝ }
+    requires { let job = jobNow em measure ratios profile class width before after flag rclass rwidth lclass lwidth kind ebase eruby lkind eleft runs lruns in ⌜ Room job (now t) (now ends) (now extents) ⌝ }
+    ensures { λ r. let job = jobWas em measure ratios profile class width before after flag rclass rwidth lclass lwidth kind ebase eruby lkind eleft runs lruns in ⌜ leaves r (base .exit) (ruby .exit) (left .exit) (lines .exit) ≡ outcome job (was base) (was ruby) (was left) (was lines) ⌝ }
 {
     match fill_job(
         t,
@@ -196,12 +209,12 @@ fn set_sides(
     left: &mut [u32],
     lines: &mut [u32],
 ) -> job::Answer
-    ensures { λ r. ⌜ _≡_ {A = Outcome} (record { answer = r; base = now (base .exit); ruby = now (ruby .exit); left = now (left .exit); lines = now (lines .exit) }) (outcome (jobOf em measure ratios profile (now (class .entry)) (now (width .entry)) (now (before .entry)) (now (after .entry)) (now (flag .entry)) (now (rclass .entry)) (now (rwidth .entry)) (now (lclass .entry)) (now (lwidth .entry)) (now (kind .entry)) (now (ebase .entry)) (now (eruby .entry)) (now (lkind .entry)) (now (eleft .entry)) (now (runs .entry)) (now (lruns .entry))) (now (base .entry)) (now (ruby .entry)) (now (left .entry)) (now (lines .entry))) ⌝ }
+    ensures { λ r. let job = jobWas em measure ratios profile class width before after flag rclass rwidth lclass lwidth kind ebase eruby lkind eleft runs lruns in ⌜ leaves r (base .exit) (ruby .exit) (left .exit) (lines .exit) ≡ outcome job (was base) (was ruby) (was left) (was lines) ⌝ }
 {
-    if door::base_count(class, width, before, after, flag) <= 128 {
-        let mut t = [0; 3463];
-        let mut ends = [0; 128];
-        let mut extents = [0; 128];
+    if door::base_count(class, width, before, after, flag) <= FEW {
+        let mut t = [0; SMALL_LEFT];
+        let mut ends = [0; FEW];
+        let mut extents = [0; FEW];
         return set_table(
             &mut t,
             &mut ends,
@@ -232,9 +245,9 @@ fn set_sides(
             lines,
         );
     }
-    let mut t = [0; 27655];
-    let mut ends = [0; 1024];
-    let mut extents = [0; 1024];
+    let mut t = [0; TABLE];
+    let mut ends = [0; limits::MOST_BASES];
+    let mut extents = [0; limits::MOST_BASES];
     set_table(
         &mut t,
         &mut ends,
@@ -293,13 +306,13 @@ fn set_right(
     left: &mut [u32],
     lines: &mut [u32],
 ) -> job::Answer
-    requires { let job = jobOf em measure ratios profile (now class) (now width) (now before) (now after) (now flag) (now rclass) (now rwidth) (now lclass) (now lwidth) (now kind) (now ebase) (now eruby) (now lkind) (now eleft) (now runs) (now lruns) in ⌜ leftCount job ≡ 0 ⌝ }
-    ensures { λ r. ⌜ _≡_ {A = Outcome} (record { answer = r; base = now (base .exit); ruby = now (ruby .exit); left = now (left .exit); lines = now (lines .exit) }) (outcome (jobOf em measure ratios profile (now (class .entry)) (now (width .entry)) (now (before .entry)) (now (after .entry)) (now (flag .entry)) (now (rclass .entry)) (now (rwidth .entry)) (now (lclass .entry)) (now (lwidth .entry)) (now (kind .entry)) (now (ebase .entry)) (now (eruby .entry)) (now (lkind .entry)) (now (eleft .entry)) (now (runs .entry)) (now (lruns .entry))) (now (base .entry)) (now (ruby .entry)) (now (left .entry)) (now (lines .entry))) ⌝ }
+    requires { let job = jobNow em measure ratios profile class width before after flag rclass rwidth lclass lwidth kind ebase eruby lkind eleft runs lruns in ⌜ leftCount job ≡ 0 ⌝ }
+    ensures { λ r. let job = jobWas em measure ratios profile class width before after flag rclass rwidth lclass lwidth kind ebase eruby lkind eleft runs lruns in ⌜ leaves r (base .exit) (ruby .exit) (left .exit) (lines .exit) ≡ outcome job (was base) (was ruby) (was left) (was lines) ⌝ }
 {
-    if door::base_count(class, width, before, after, flag) <= 128 {
-        let mut t = [0; 2439];
-        let mut ends = [0; 128];
-        let mut extents = [0; 128];
+    if door::base_count(class, width, before, after, flag) <= FEW {
+        let mut t = [0; SMALL];
+        let mut ends = [0; FEW];
+        let mut extents = [0; FEW];
         return set_table(
             &mut t,
             &mut ends,
@@ -330,9 +343,9 @@ fn set_right(
             lines,
         );
     }
-    let mut t = [0; 19463];
-    let mut ends = [0; 1024];
-    let mut extents = [0; 1024];
+    let mut t = [0; LARGE];
+    let mut ends = [0; limits::MOST_BASES];
+    let mut extents = [0; limits::MOST_BASES];
     set_table(
         &mut t,
         &mut ends,
@@ -395,7 +408,7 @@ pub fn set_job(
     left: &mut [u32],
     lines: &mut [u32],
 ) -> job::Answer
-    ensures { λ r. ⌜ _≡_ {A = Outcome} (record { answer = r; base = now (base .exit); ruby = now (ruby .exit); left = now (left .exit); lines = now (lines .exit) }) (outcome (jobOf em measure ratios profile (now (class .entry)) (now (width .entry)) (now (before .entry)) (now (after .entry)) (now (flag .entry)) (now (rclass .entry)) (now (rwidth .entry)) (now (lclass .entry)) (now (lwidth .entry)) (now (kind .entry)) (now (ebase .entry)) (now (eruby .entry)) (now (lkind .entry)) (now (eleft .entry)) (now (runs .entry)) (now (lruns .entry))) (now (base .entry)) (now (ruby .entry)) (now (left .entry)) (now (lines .entry))) ⌝ }
+    ensures { λ r. let job = jobWas em measure ratios profile class width before after flag rclass rwidth lclass lwidth kind ebase eruby lkind eleft runs lruns in ⌜ leaves r (base .exit) (ruby .exit) (left .exit) (lines .exit) ≡ outcome job (was base) (was ruby) (was left) (was lines) ⌝ }
 {
     if door::left_count(lclass, lwidth) == 0 {
         return set_right(

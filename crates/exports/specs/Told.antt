@@ -13,7 +13,7 @@ use Rattle.job.specs.Filled.{chain-few}
 use Rattle.job.specs.Demands.{lines-filled}
 use Rattle.result.specs.Set.{accepted, many, door}
 use Rattle.job_account.specs.Outcome.{Telling, telling}
-use Rattle.account_sheet.specs.Tell as tell
+use Rattle.job_account.specs.Outcome as account
 use Rattle.exports.specs.declared.Answer as exported
 
 -- number 0 and the number of lines, or a refusal's "number and a place"
@@ -74,4 +74,4 @@ module _ {job : Job} {rows counts wide : List ℕ} {o : Telling} (e : o ≡ tell
       }
 
 pub few-told : (job : Job) (rows counts wide : List ℕ) (o : Telling) → o ≡ telling job rows counts wide → Few (o .answer)
-few-told job rows counts wide o e = few (o .answer) (λ n is. tell.few-lines job rows counts wide e is)
+few-told job rows counts wide o e = few (o .answer) (λ n is. account.few-lines job rows counts wide (ap (λ (x : Telling). x .answer) (sym e) ∙ is))

@@ -2,11 +2,13 @@
 // answer becomes a struct of two numbers, and the tables of a sheet are lent to `setter` and `account_sheet`. It relies on these two, on `engine`, `job_account` and `refusal`.
 ghost use mathlib.Core.Path.{_≡_};
 ghost use mathlib.Core.List.{[], _∷_};
+ghost use Rattle.basics.specs.Seen.{was};
+ghost use Rattle.door.specs.Seen.{jobWas};
 ghost use Rattle.text.specs.Print.{Wrote};
-ghost use Rattle.door.specs.Job.{jobOf};
 ghost use Rattle.setter.specs.Answer.{answerText, Fits};
 ghost use Rattle.account_sheet.specs.Answer.{accountOfSheet};
-ghost use Rattle.exports.specs.Told.{told, Few, Left, Accounted};
+ghost use Rattle.exports.specs.Seen.{Leaves};
+ghost use Rattle.exports.specs.Told.{told, Few, Accounted};
 
 // Number 0 and the number of lines, or a refusal's number and its place.
 #[repr(C)]
@@ -61,7 +63,7 @@ pub extern "C" fn bv_set_job(
     left: &mut [u32],
     lines: &mut [u32],
 ) -> Answer
-    ensures { λ r. ⌜ Left (jobOf em measure (now (rratio .entry) ∷ now (bratio .entry) ∷ []) profile (now (class .entry)) (now (width .entry)) (now (before .entry)) (now (after .entry)) (now (flag .entry)) (now (rclass .entry)) (now (rwidth .entry)) (now (lclass .entry)) (now (lwidth .entry)) (now (kind .entry)) (now (ebase .entry)) (now (eruby .entry)) (now (lkind .entry)) (now (eleft .entry)) (now (runs .entry)) (now (lruns .entry))) (now (base .entry)) (now (ruby .entry)) (now (left .entry)) (now (lines .entry)) r (now (base .exit)) (now (ruby .exit)) (now (left .exit)) (now (lines .exit)) ⌝ }
+    ensures { λ r. ⌜ Leaves (jobWas em measure (was rratio ∷ was bratio ∷ []) profile class width before after flag rclass rwidth lclass lwidth kind ebase eruby lkind eleft runs lruns) (was base) (was ruby) (was left) (was lines) r (base .exit) (ruby .exit) (left .exit) (lines .exit) ⌝ }
 {
     let answer = engine::set_job(
         em,
@@ -94,21 +96,21 @@ pub extern "C" fn bv_set_job(
 
 // Sets a sheet; how many bytes at the front of `out` its answer has.
 #[no_mangle]
-pub extern "C" fn bv_set_sheet(sheet: &[u8], out: &mut [u8; 131072]) -> usize
-    ensures { λ r. ⌜ Wrote (now (out .entry)) 0 (answerText (now (sheet .entry))) r (now (out .exit)) ⌝ }
+pub extern "C" fn bv_set_sheet(sheet: &[u8], out: &mut [u8; limits::ANSWER]) -> usize
+    ensures { λ r. ⌜ Wrote (was out) 0 (answerText (was sheet)) r (now (out .exit)) ⌝ }
     ensures { λ r. ⌜ Fits r (now (out .exit)) ⌝ }
 {
-    let mut set = [0; 9];
-    let mut base = [0; 5120];
-    let mut ruby = [0; 4096];
-    let mut left = [0; 4096];
-    let mut elem = [0; 5120];
-    let mut runs = [0; 32768];
-    let mut lruns = [0; 32768];
-    let mut bases = [0; 1024];
-    let mut rubies = [0; 2048];
-    let mut lefts = [0; 2048];
-    let mut lines = [0; 1024];
+    let mut set = [0; limits::SET];
+    let mut base = [0; limits::BASE_TABLE];
+    let mut ruby = [0; limits::RUBY_TABLE];
+    let mut left = [0; limits::LEFT_TABLE];
+    let mut elem = [0; limits::ELEMENT_TABLE];
+    let mut runs = [0; limits::RUNS];
+    let mut lruns = [0; limits::RUNS];
+    let mut bases = [0; limits::MOST_BASES];
+    let mut rubies = [0; limits::MOST_RUBIES];
+    let mut lefts = [0; limits::MOST_LEFTS];
+    let mut lines = [0; limits::MOST_BASES];
     setter::set_sheet(
         sheet,
         &mut set,
@@ -154,7 +156,7 @@ pub extern "C" fn bv_account_job(
     told: &mut [u32],
     extents: &mut [u32],
 ) -> Answer
-    ensures { λ r. ⌜ Accounted (jobOf em measure (now (rratio .entry) ∷ now (bratio .entry) ∷ []) profile (now (class .entry)) (now (width .entry)) (now (before .entry)) (now (after .entry)) (now (flag .entry)) (now (rclass .entry)) (now (rwidth .entry)) (now (lclass .entry)) (now (lwidth .entry)) (now (kind .entry)) (now (ebase .entry)) (now (eruby .entry)) (now (lkind .entry)) (now (eleft .entry)) (now (runs .entry)) (now (lruns .entry))) (now (rows .entry)) (now (told .entry)) (now (extents .entry)) r (now (rows .exit)) (now (told .exit)) (now (extents .exit)) ⌝ }
+    ensures { λ r. ⌜ Accounted (jobWas em measure (was rratio ∷ was bratio ∷ []) profile class width before after flag rclass rwidth lclass lwidth kind ebase eruby lkind eleft runs lruns) (was rows) (was told) (was extents) r (now (rows .exit)) (now (told .exit)) (now (extents .exit)) ⌝ }
 {
     let answer = job_account::account_job(
         em,
@@ -186,20 +188,20 @@ pub extern "C" fn bv_account_job(
 
 // The account of a sheet; how many bytes at the front of `out` its text has.
 #[no_mangle]
-pub extern "C" fn bv_account_sheet(sheet: &[u8], out: &mut [u8; 131072]) -> usize
-    ensures { λ r. ⌜ Wrote (now (out .entry)) 0 (accountOfSheet (now (sheet .entry))) r (now (out .exit)) ⌝ }
+pub extern "C" fn bv_account_sheet(sheet: &[u8], out: &mut [u8; limits::ANSWER]) -> usize
+    ensures { λ r. ⌜ Wrote (was out) 0 (accountOfSheet (was sheet)) r (now (out .exit)) ⌝ }
     ensures { λ r. ⌜ Fits r (now (out .exit)) ⌝ }
 {
-    let mut set = [0; 9];
-    let mut base = [0; 5120];
-    let mut ruby = [0; 4096];
-    let mut left = [0; 4096];
-    let mut elem = [0; 5120];
-    let mut runs = [0; 32768];
-    let mut lruns = [0; 32768];
-    let mut rows = [0; 6144];
-    let mut told = [0; 1024];
-    let mut extents = [0; 1024];
+    let mut set = [0; limits::SET];
+    let mut base = [0; limits::BASE_TABLE];
+    let mut ruby = [0; limits::RUBY_TABLE];
+    let mut left = [0; limits::LEFT_TABLE];
+    let mut elem = [0; limits::ELEMENT_TABLE];
+    let mut runs = [0; limits::RUNS];
+    let mut lruns = [0; limits::RUNS];
+    let mut rows = [0; limits::ACCOUNT];
+    let mut told = [0; limits::MOST_BASES];
+    let mut extents = [0; limits::MOST_BASES];
     account_sheet::account_sheet(
         sheet,
         &mut set,

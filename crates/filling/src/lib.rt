@@ -7,6 +7,7 @@ ghost use mathlib.Core.Bool.{true, cond};
 ghost use Prim.Native.Nat.{_+_, _-_, _*_, _/_, _≤_, _<_, min};
 ghost use lib.Dec.{leb};
 ghost use lib.ListN.{length};
+ghost use Rattle.basics.specs.Seen.{was};
 ghost use Rattle.line.specs.Setting as setting;
 ghost use Rattle.cells.specs.Cells.{cellAt, linesOf};
 ghost use Rattle.cells.specs.Sound.{Sound};
@@ -52,7 +53,7 @@ fn within(
     limit: u32,
 ) -> Break
     requires { ⌜ (Stands em (now t) n i st) × (bases ≡ cellAt (now t) i .bases) × (cellAt (now t) i .cut ≡ true) ⌝ }
-    ensures { λ r. ⌜ r ≡ innerBreak em limit (now (t .entry)) st i last (bases - 1) ⌝ }
+    ensures { λ r. ⌜ r ≡ innerBreak em limit (was t) st i last (bases - 1) ⌝ }
 {
     let mut k = most_within(bases, st.end, em, limit);
     while 0 < k {
@@ -78,7 +79,7 @@ fn break_behind(
     limit: u32,
 ) -> Break
     requires { ⌜ Stands em (now t) n i st ⌝ }
-    ensures { λ r. ⌜ r ≡ behind em limit (now (t .entry)) i st last extent ⌝ }
+    ensures { λ r. ⌜ r ≡ behind em limit (was t) i st last extent ⌝ }
 {
     let a = cells::cell_at(t, i);
     let bases = a.bases as usize;
@@ -110,7 +111,7 @@ fn break_whole(ends: bool, c: usize, last: Break, extent: u32) -> Break
 // is not put into the loop lies in memory, and so would the state of every line.
 fn line_end(t: &[u32], n: usize, s: usize, em: u32, limit: u32) -> Break
     requires { ⌜ (Sound em (now t) n) × (s < n) ⌝ }
-    ensures { λ r. ⌜ r ≡ endBreak em limit (now (t .entry)) n s ⌝ }
+    ensures { λ r. ⌜ r ≡ endBreak em limit (was t) n s ⌝ }
 {
     let mut st = line::START;
     let mut i = s;
@@ -163,7 +164,7 @@ pub fn fill_lines(
     limit: u32,
 ) -> Lines
     requires { ⌜ (Sound em (now t) n) × (n ≤ length (now ends)) × (n ≤ length (now extents)) ⌝ }
-    ensures { λ a. let es = linesOf em limit (now (t .entry)) n in ⌜ (a ≡ toldOf n es) × (now (ends .exit) ≡ over es (now (ends .entry))) × (now (extents .exit) ≡ over (extentsOf em (now (t .entry)) 0 es) (now (extents .entry))) ⌝ }
+    ensures { λ a. let es = linesOf em limit (was t) n in ⌜ (a ≡ toldOf n es) × (now (ends .exit) ≡ over es (was ends)) × (now (extents .exit) ≡ over (extentsOf em (was t) 0 es) (was extents)) ⌝ }
 {
     let mut s: usize = 0;
     let mut k: usize = 0;

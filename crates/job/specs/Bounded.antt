@@ -86,7 +86,7 @@ each-many job passed s e (x ∷ xs) a =
     omega (arith, in-many job passed s e x (a .0), each-many job passed s e xs (a .1), ap sum (map-append many here later), sum-append (map many here) (map many later))
 
 -- "Elements take base and ruby characters in order", and all of them
-tiled-sum : (first count : Piece → ℕ) (b : ℕ) (xs : List Piece) (d : ℕ) → Tiled first count b xs d → b + sum (map count xs) ≡ d
+pub tiled-sum : (first count : Piece → ℕ) (b : ℕ) (xs : List Piece) (d : ℕ) → Tiled first count b xs d → b + sum (map count xs) ≡ d
 tiled-sum first count b [] d t = add-zero b ∙ t
 tiled-sum first count b (x ∷ xs) d t = sym (add-assoc b (count x) (sum (map count xs))) ∙ tiled-sum first count (b + count x) xs d (t .1)
 

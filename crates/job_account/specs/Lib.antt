@@ -10,3 +10,4 @@ pub mod Join
 pub mod Cases
 pub mod Accepted
 pub mod Outcome
+pub mod Seen

@@ -5,20 +5,24 @@ use mathlib.Core.Option.{Option, none, some}
 use Prim.Native.Nat.{ℕ, _*_, _/_, _≤_, min}
 use native.Mathlib.Omega.{arith}
 use lib.ListN.{length, take, drop, length-take, length-append}
-use lib.Seq.{sets}
+use lib.Seq.{sets, take-append-seam}
 use Rattle.refusal.specs.declared.Refusal.{Refusal}
 use Rattle.door.specs.Job.{Job, baseCount}
+use Rattle.door.specs.Refusals.{ownFaults}
+use Rattle.door.specs.Verdict.{append-none}
+use Rattle.door.specs.Passed.{passed}
 use Rattle.job.specs.declared.Answer.{Answer}
 use Rattle.job.specs.declared.Answer.the-variants.{Set, Refused}
 use Rattle.job.specs.Line.{ends}
-use Rattle.job.specs.Refusals.{faults, fault}
+use Rattle.job.specs.Refusals.{linesFaults, faults, fault}
+use Rattle.job.specs.Laws.{head-none}
 use Rattle.job.specs.Promise.{Chain, Filled}
 use Rattle.job.specs.Filled.{chain-few}
 use Rattle.job.specs.Declined.{filled}
 use Rattle.filling.specs.Lines.{extentsOf, length-extents}
 use Rattle.join.specs.Join.{sound}
 use Rattle.engine.specs.Fault as fault
-use Rattle.engine.specs.Filled.{Full}
+use Rattle.engine.specs.Filled.{Full, Stopped, no-fault, front-is}
 use Rattle.job_account.specs.First.{first-none}
 use Rattle.job_account.specs.Table.{first, rowsBy, countsBy}
 use Rattle.job_account.specs.Lines.{accounts, counts, extents, LinesTold}
@@ -34,6 +38,12 @@ pub record Telling : Type 0 where
 -- for how many base characters the lists have room: a piece takes six numbers, a line one and one, and each has a base character of its own
 abbrev pub room : List ℕ → List ℕ → List ℕ → ℕ
 room rows told wide = min (length rows / 6) (min (length told) (length wide))
+
+pub room-long : (rows told wide : List ℕ) (n : ℕ) → n ≤ room rows told wide → (6 * n ≤ length rows) × (n ≤ length told) × (n ≤ length wide)
+room-long rows told wide n h = many (length rows) (length told) (length wide) h
+  where
+    many : (a b c : ℕ) → n ≤ min (a / 6) (min b c) → (6 * n ≤ a) × (n ≤ b) × (n ≤ c)
+    many a b c h = (omega arith, omega arith, omega arith)
 
 -- "None of them is altered by a refusal"; on success entries past those used stay as they were
 unfoldable pub tellingBy : Job → List ℕ → List ℕ → List ℕ → Option Refusal → Telling
@@ -52,18 +62,15 @@ chained : (job : Job) (s : ℕ) (es : List ℕ) (d : ℕ) → Chain job s es d �
 chained job s [] d c = tt
 chained job s (e ∷ es) d c = let a = c .0 .at in (a .ahead, a .within, chained job e es d (c .1))
 
-take-front : (xs ys : List ℕ) → take (length xs) (xs ++ ys) ≡ xs
-take-front [] ys = refl
-take-front (x ∷ xs) ys = ap (λ (l : List ℕ). x ∷ l) (take-front xs ys)
-
 module _ (job : Job) (rows told wide : List ℕ) (m : ℕ) (is : m ≡ room rows told wide) where
   -- the first refusal of all
-  pub refused : {q : Refusal} → fault job 1024 2048 2048 m ≡ some q → _≡_ {A = Telling} (record { answer = Refused q; rows = rows; told = told; extents = wide }) (telling job rows told wide)
+  pub refused : {was wasFar t found far : List ℕ} {q : Refusal} → Stopped job 1024 2048 2048 m was wasFar t found far q →
+      _≡_ {A = Telling} (record { answer = Refused q; rows = rows; told = told; extents = wide }) (telling job rows told wide)
   unfolding telling tellingBy
-  refused e = rw (← is, e)
+  refused s = rw (← is, s .first)
 
   -- a table that holds the job, and its n lines
-  module _ (wasFar t found far : List ℕ) (n : ℕ) (full : Full job 1024 2048 2048 m wasFar t found far n) where
+  module _ (was wasFar t found far : List ℕ) (n : ℕ) (full : Full job 1024 2048 2048 m was wasFar t found far n) where
     all : Filled job (ends job)
     all = filled job (full .passed) (full .none)
 
@@ -72,21 +79,16 @@ module _ (job : Job) (rows told wide : List ℕ) (m : ℕ) (is : m ≡ room rows
 
     -- the lists have room
     long : (6 * baseCount job ≤ length rows) × (baseCount job ≤ length told) × (baseCount job ≤ length wide)
-    long =
-        let k = fault.long job 1024 2048 2048 m (full .own) .1 in
-        many (length rows) (length told) (length wide) (omega (arith, is, k))
-      where
-        many : (a b c : ℕ) → baseCount job ≤ min (a / 6) (min b c) → (6 * baseCount job ≤ a) × (baseCount job ≤ b) × (baseCount job ≤ c)
-        many a b c h = (omega arith, omega arith, omega arith)
+    long = room-long rows told wide (baseCount job) (omega (arith, is, fault.long job 1024 2048 2048 m (full .own) .1))
 
     pub ready : LinesReady (job .em) t n found rows told
     ready =
         record {
           m = baseCount job;
           sound = sound job (full .passed) t (full .holds);
-          held = omega (arith, full .many, ap length (full .is), length-take n found);
+          held = omega (arith, full .many, ap length (front-is full), length-take n found);
           few = omega (arith, few, full .passed .fewBase);
-          lines = rw (full .is) (chained job 0 (ends job) (baseCount job) all);
+          lines = rw (front-is full) (chained job 0 (ends job) (baseCount job) all);
           room = long .0;
           roomTold = omega (arith, few, long .1);
         }
@@ -106,7 +108,7 @@ module _ (job : Job) (rows told wide : List ℕ) (m : ℕ) (is : m ≡ room rows
     )
 
     front : take n far ≡ extentsOf (job .em) t 0 (ends job)
-    front = rw (many-lengths, full .told) (take-front lengths (drop (length lengths) wasFar))
+    front = rw (many-lengths, full .told) (take-append-seam lengths (drop (length lengths) wasFar))
 
     -- all is told as the job's meaning has it
     module _ (rows2 told2 wide2 : List ℕ)
@@ -118,16 +120,37 @@ module _ (job : Job) (rows told wide : List ℕ) (m : ℕ) (is : m ≡ room rows
           record {
             rows =
                 lines .0
-                ∙ ap (sets rows 0) (ap (rowsBy (job .em) t first 0) (full .is)
+                ∙ ap (sets rows 0) (ap (rowsBy (job .em) t first 0) (front-is full)
                 ∙ join.rows-join job (full .passed) t (full .holds) first 0 (ends job) (baseCount job) (first-none job (full .passed)) all);
-            counts = lines .1 ∙ ap (sets told 0) (ap (countsBy t first 0) (full .is) ∙ join.counts-join job (full .passed) t (full .holds) first 0 (ends job) (baseCount job) all);
+            counts = lines .1 ∙ ap (sets told 0) (ap (countsBy t first 0) (front-is full) ∙ join.counts-join job (full .passed) t (full .holds) first 0 (ends job) (baseCount job) all);
             extents = extent ∙ ap (sets wide 0) (front ∙ join.extents-join job (full .passed) t (full .holds) 0 (ends job) (baseCount job) all);
           }
 
-      no-fault : fault job 1024 2048 2048 m ≡ none
-      unfolding fault faults
-      no-fault = rw (full .own, full .none)
-
       pub tells : _≡_ {A = Telling} (record { answer = Set n; rows = rows2; told = told2; extents = wide2 }) (telling job rows told wide)
       unfolding telling tellingBy
-      tells = rw (← is, no-fault, full .many, lines-told .rows, lines-told .counts, lines-told .extents)
+      tells = rw (← is, no-fault full, full .many, lines-told .rows, lines-told .counts, lines-told .extents)
+
+-- a job that is accepted has no more lines than base characters
+module _ (job : Job) (rows told wide : List ℕ) {k : ℕ} (set : telling job rows told wide .answer ≡ Set k) where
+  abbrev given : Option Refusal
+  given = fault job 1024 2048 2048 (room rows told wide)
+
+  abbrev own : List Refusal
+  own = ownFaults job 1024 2048 2048 (room rows told wide)
+
+  clear : (given ≡ none) × (k ≡ length (ends job))
+  unfolding telling tellingBy
+  clear = go given set
+    where
+      go : (f : Option Refusal) → tellingBy job rows told wide f .answer ≡ Set k → (f ≡ none) × (k ≡ length (ends job))
+      go none e = let h : length (ends job) ≡ k = cc in (refl, sym h)
+      go (some q) e = absurd (let z : _≡_ {A = ℕ} 0 1 = cc in omega arith)
+
+  no-faults : (own ≡ []) × (linesFaults job ≡ [])
+  unfolding fault faults
+  no-faults = append-none own (linesFaults job) (head-none (own ++ linesFaults job) (clear .0))
+
+  pub few-lines : k ≤ 1024
+  few-lines =
+      let door = passed job 1024 2048 2048 (room rows told wide) (no-faults .0) in
+      omega (arith, clear .1, chain-few job 0 (baseCount job) (ends job) (filled job door (no-faults .1)), door .fewBase)

@@ -7,14 +7,16 @@ ghost use mathlib.Core.Bool.{cond};
 ghost use lib.Dec.{leb};
 ghost use lib.ListN.{length, take};
 ghost use lib.Seq.{sets};
-ghost use Rattle.door.specs.Job.{jobOf};
+ghost use Rattle.basics.specs.Seen.{was};
+ghost use Rattle.job_account.specs.Seen.{leaves};
+ghost use Rattle.door.specs.Seen.{jobWas};
 ghost use Rattle.cells.specs.Cells.{Advances};
 ghost use Rattle.account.specs.Claims.{Earlier};
 ghost use Rattle.job_account.specs.Rows.{indexAt, otherBy, row, RowReady};
 ghost use Rattle.job_account.specs.Table.{toldAt, lineRows, behind, first, rowsBy, countsBy};
 ghost use Rattle.job_account.specs.Line.{LineReady};
 ghost use Rattle.job_account.specs.Walk.{LinesReady};
-ghost use Rattle.job_account.specs.Outcome.{Telling, telling};
+ghost use Rattle.job_account.specs.Outcome.{telling};
 
 // The account of a piece and where its block starts, with the line's state and what stands once it is set.
 pub struct Told {
@@ -35,7 +37,7 @@ pub fn tell_piece(
     b: account::Before,
 ) -> Told
     requires { ⌜ Advances em (now t) st i c ⌝ }
-    ensures { λ r. ⌜ r ≡ toldAt em (now (t .entry)) i c st j b ⌝ }
+    ensures { λ r. ⌜ r ≡ toldAt em (was t) i c st j b ⌝ }
 {
     let a = cells::cell_at(t, i);
     let step = cells::advance(t, i, c, em, st);
@@ -57,7 +59,7 @@ pub fn tell_piece(
 // The element's index in row `first` + j of a list of rows.
 fn index_at(first: usize, j: u32, rows: &[u32]) -> u32
     requires { ⌜ (first ≤ 1024) × (j ≤ 1024) × (6 * (first + j) < length (now rows)) ⌝ }
-    ensures { λ n. ⌜ n ≡ indexAt (now (rows .entry)) first j ⌝ }
+    ensures { λ n. ⌜ n ≡ indexAt (was rows) first j ⌝ }
 {
     rows[6 * (first + j as usize)]
 }
@@ -65,7 +67,7 @@ fn index_at(first: usize, j: u32, rows: &[u32]) -> u32
 // The other element's index in the job, 0 where there is none, for piece j of a line whose rows begin at row `first` of the list: the row of each earlier piece has its own.
 fn other_index(first: usize, j: u32, r: account::Reason, rows: &[u32]) -> u32
     requires { ⌜ (first ≤ 1024) × (j ≤ 1024) × (6 * (first + j) ≤ length (now rows)) × Earlier j r ⌝ }
-    ensures { λ n. ⌜ n ≡ otherBy (indexAt (now (rows .entry)) first) r ⌝ }
+    ensures { λ n. ⌜ n ≡ otherBy (indexAt (was rows) first) r ⌝ }
 {
     match r {
         account::Reason::Start => 0,
@@ -82,7 +84,7 @@ fn other_index(first: usize, j: u32, r: account::Reason, rows: &[u32]) -> u32
 // The line's rows begin at row `first` of the list.
 fn put_row(a: account::Account, first: usize, j: u32, k: u32, start: u64, out: &mut [u32])
     requires { ⌜ RowReady a first j start (now out) ⌝ }
-    ensures { λ _. let was = now (out .entry) in ⌜ now (out .exit) ≡ sets was (6 * (first + j)) (row (indexAt was first) k start a) ⌝ }
+    ensures { λ _. let was = was out in ⌜ now (out .exit) ≡ sets was (6 * (first + j)) (row (indexAt was first) k start a) ⌝ }
 {
     let r = a.reason;
     let other = other_index(first, j, r, out);
@@ -116,7 +118,7 @@ fn next_index(k: u32, more: bool, end: usize, e: usize) -> u32
 // The accounts of the line from s up to e, a row for each piece from row `from.q` of the list on; the answer is where the walk stands behind it.
 pub fn tell_line(t: &[u32], s: usize, e: usize, em: u32, from: Place, out: &mut [u32]) -> Place
     requires { ⌜ LineReady em (now t) s e from (now out) ⌝ }
-    ensures { λ r. let u = now (t .entry) in ⌜ (r ≡ behind u s e from) × (now (out .exit) ≡ sets (now (out .entry)) (6 * from .q) (lineRows em u (from .k) s e)) ⌝ }
+    ensures { λ r. let u = was t in ⌜ (r ≡ behind u s e from) × (now (out .exit) ≡ sets (was out) (6 * from .q) (lineRows em u (from .k) s e)) ⌝ }
 {
     let mut i = s;
     let mut st = line::START;
@@ -144,7 +146,7 @@ pub fn tell_line(t: &[u32], s: usize, e: usize, em: u32, from: Place, out: &mut 
 // that are not used stay as they were.
 pub fn tell_lines(t: &[u32], n: usize, ends: &[u32], em: u32, rows: &mut [u32], told: &mut [u32])
     requires { ⌜ LinesReady em (now t) n (now ends) (now rows) (now told) ⌝ }
-    ensures { λ _. let u = now (t .entry) in let es = take n (now (ends .entry)) in ⌜ (now (rows .exit) ≡ sets (now (rows .entry)) 0 (rowsBy em u first 0 es)) × (now (told .exit) ≡ sets (now (told .entry)) 0 (countsBy u first 0 es)) ⌝ }
+    ensures { λ _. let u = was t in let es = take n (was ends) in ⌜ (now (rows .exit) ≡ sets (was rows) 0 (rowsBy em u first 0 es)) × (now (told .exit) ≡ sets (was told) 0 (countsBy u first 0 es)) ⌝ }
 {
     let mut at = Place { k: 0, q: 0 };
     let mut s: usize = 0;
@@ -159,9 +161,9 @@ pub fn tell_lines(t: &[u32], n: usize, ends: &[u32], em: u32, rows: &mut [u32], 
 }
 
 // The extents of n lines, from the front of `found`.
-fn put_extents(n: usize, found: &[u32], extents: &mut [u32])
+pub fn put_extents(n: usize, found: &[u32], extents: &mut [u32])
     requires { ⌜ (n ≤ 1024) × (n ≤ length (now found)) × (n ≤ length (now extents)) ⌝ }
-    ensures { λ _. ⌜ now (extents .exit) ≡ sets (now (extents .entry)) 0 (take n (now (found .entry))) ⌝ }
+    ensures { λ _. ⌜ now (extents .exit) ≡ sets (was extents) 0 (take n (was found)) ⌝ }
 {
     let mut l: usize = 0;
     while l < n {
@@ -205,12 +207,12 @@ pub fn account_job(
     told: &mut [u32],
     extents: &mut [u32],
 ) -> job::Answer
-    ensures { λ r. ⌜ _≡_ {A = Telling} (record { answer = r; rows = now (rows .exit); told = now (told .exit); extents = now (extents .exit) }) (telling (jobOf em measure ratios profile (now (class .entry)) (now (width .entry)) (now (before .entry)) (now (after .entry)) (now (flag .entry)) (now (rclass .entry)) (now (rwidth .entry)) (now (lclass .entry)) (now (lwidth .entry)) (now (kind .entry)) (now (ebase .entry)) (now (eruby .entry)) (now (lkind .entry)) (now (eleft .entry)) (now (runs .entry)) (now (lruns .entry))) (now (rows .entry)) (now (told .entry)) (now (extents .entry))) ⌝ }
+    ensures { λ r. let job = jobWas em measure ratios profile class width before after flag rclass rwidth lclass lwidth kind ebase eruby lkind eleft runs lruns in ⌜ leaves r (rows .exit) (told .exit) (extents .exit) ≡ telling job (was rows) (was told) (was extents) ⌝ }
 {
     let room = room_of(rows.len(), told.len(), extents.len());
-    let mut t = [0; 27655];
-    let mut ends = [0; 1024];
-    let mut found = [0; 1024];
+    let mut t = [0; engine::TABLE];
+    let mut ends = [0; limits::MOST_BASES];
+    let mut found = [0; limits::MOST_BASES];
     match engine::fill_job(
         &mut t,
         &mut ends,
@@ -235,9 +237,9 @@ pub fn account_job(
         eleft,
         runs,
         lruns,
-        1024,
-        2048,
-        2048,
+        limits::MOST_BASES,
+        limits::MOST_RUBIES,
+        limits::MOST_LEFTS,
         room,
     ) {
         filling::Lines::Refused(why) => job::Answer::Refused(why),

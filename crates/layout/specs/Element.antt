@@ -1,19 +1,17 @@
 -- One element of the walk: refused by the first of its rows, or laid.
 use mathlib.Core.Path.{_≡_, refl, sym, ap, ap₂, _∙_, subst}
 use mathlib.Core.Bool.{Bool, true, false, cond, _&&_, _||_, true≢false, false≢true}
-use mathlib.Core.Logic.{_⊎_, inl, inr}
 use mathlib.Core.List.{List, [], _∷_, map}
 use Prim.Native.Nat.{ℕ, zero, suc, _+_, _-_, _≤_, _<_, _^_}
 use native.Mathlib.Nat.{add-zero}
 use native.Mathlib.Omega.{arith}
-use borrow.Author.Tests.{ltb-false, eqb-true, ne-eqb, not-false}
-use lib.Dec.{eqb, ltb}
+use borrow.Author.Tests.{eqb-true, not-false}
+use lib.Dec.{eqb}
 use lib.ListN.{length, getD}
-use Rattle.basics.specs.Lists.{sum, count, any, All}
+use Rattle.basics.specs.Lists.{sum, count, All}
 use Rattle.basics.specs.Laws.{or-none}
-use Rattle.class.specs.Class.{western}
 use Rattle.refusal.specs.declared.Refusal.{Refusal}
-use Rattle.refusal.specs.declared.Refusal.the-variants.{LeftKind, Supply, BlankInside, JukugoBase, Mixed, WesternOver}
+use Rattle.refusal.specs.declared.Refusal.the-variants.{Element, LeftKind, Supply}
 use Rattle.word.specs.declared.Form.{Form}
 use Rattle.word.specs.declared.Form.the-variants.{P, M, G, J}
 use Rattle.word.specs.declared.Left.{Left}
@@ -22,34 +20,36 @@ use Rattle.word.specs.declared.Word.{Word}
 use Rattle.word.specs.declared.Answer.{Answer}
 use Rattle.word.specs.declared.Answer.the-variants as answered
 use Rattle.word.specs.Given.{Given, hasRuby, isG, isJ}
-use Rattle.word.specs.Answer.{blankInside, jukugoBase, mixedIn, westernOver, answer}
+use Rattle.word.specs.Answer.{mixedIn, westernOver, answer}
 use Rattle.word.specs.Word as one
 use Rattle.word.specs.Promise.{one-reading}
 use Rattle.word.specs.Both.{Gloss, hasLeft, takes, apart}
 use Rattle.word.specs.Sides as sides
-use Rattle.word.specs.Answered.{mixedBoth, westernBoth, answerBoth}
+use Rattle.word.specs.Answered.{answerBoth}
 use Rattle.word.specs.Answered as both
 use Rattle.word.specs.Sized.{Small}
 use Rattle.word.specs.Sized as size
-use Rattle.line.specs.declared.Side.{Side}
-use Rattle.line.specs.declared.Side.the-variants.{Right, Left as LeftSide}
+use Rattle.line.specs.declared.Side.the-variants.{Left as LeftSide}
 use Rattle.cells.specs.Cells.{beside, cellAt}
 use Rattle.door.specs.declared.Piece.{Piece}
 use Rattle.door.specs.declared.Taken.{Taken}
-use Rattle.door.specs.declared.Counted.the-variants.{Is}
+use Rattle.door.specs.declared.Counted.the-variants.{Is, Out}
 use Rattle.door.specs.declared.Step.{Step}
 use Rattle.door.specs.declared.Step.the-variants.{Next, Stop}
-use Rattle.door.specs.Job.{Job, baseCount, rubyCount, leftCount, entries, known, knownLeft, formOf, leftOf, leftByRuns, takesBase, takesRuns, takesLeftRuns, element, given, glossOf}
-use Rattle.door.specs.Refusals.{countsOut, leftOut, countsWrong, runOut}
+use Rattle.door.specs.Job.{Job, baseCount, rubyCount, leftCount, entries, known, knownLeft, formOf, leftOf, leftByRuns, takesBase, element, given, glossOf}
+use Rattle.door.specs.Refusals.{countsWrong, runOut}
 use Rattle.door.specs.Elements.{Reads}
 use Rattle.door.specs.Passed.{Few, FewLeft, supplied}
 use Rattle.door.specs.Walk as walk
 use Rattle.job.specs.Line.{part, wordsIn, cuts, wordOf, onP}
 use Rattle.join.specs.Rows.{isCut, none, rowBy, leftRowBy, endsBehind, rowOf, HasRows}
-use Rattle.layout.specs.Table.{from-none, clear-upto, LeftRoom, Filled, Written, bareRow, BareReady, Bared, over-bared}
-use Rattle.layout.specs.Runs.{bothOnly, wordsOnly, runsOnly, leftsOnly, Runs, HasRuns, jukugoRow}
-use Rattle.layout.specs.Lay.{wordRow, word-row, jukugo-row, aloneRow, flagged, WordReady, JukugoReady, AloneReady, Judged, Standing, Laid, Stepped}
-use Rattle.layout.specs.Left.{runs-all, ownRow, characterRow, bothRow, BothReady}
+use Rattle.word_rows.specs.Table.{Filled}
+use Rattle.word_rows.specs.Runs.{bothOnly, wordsOnly, runsOnly, Runs, HasRuns, jukugoRow}
+use Rattle.word_rows.specs.Word.{wordRow, word-row, jukugo-row, flagged, WordReady, Judged}
+use Rattle.one_reading.specs.Lay.{aloneRow, AloneReady, FilledBy}
+use Rattle.two_readings.specs.Written.{from-none, clear-upto, LeftRoom, Written, bareRow, BareReady, Bared, over-bared}
+use Rattle.two_readings.specs.Left.{leftsOnly, runs-all, ownRow, characterRow, bothRow, BothReady, WrittenBy}
+use Rattle.layout.specs.Step.{Standing, Laid, Stepped}
 
 -- no step both stops and goes on
 stop-next : {q : Refusal} {p : Piece} → Stop q ≡ Next p → ⊥
@@ -167,7 +167,7 @@ part-mono : (job : Job) (x : Piece) (j : ℕ) → (part job x j 1 .base ≡ x .b
 unfolding part
 part-mono job x j = (refl, refl, refl)
 
-module _ (job : Job) (k : ℕ) (at : Taken) (was : List ℕ) (h : Standing job k at was) where
+module _ {job : Job} {k : ℕ} {at : Taken} {was : List ℕ} (h : Standing job k at was) where
   abbrev x : Piece
   x = element job k at
 
@@ -175,13 +175,16 @@ module _ (job : Job) (k : ℕ) (at : Taken) (was : List ℕ) (h : Standing job k
   unfolding element
   its-place = (refl, refl, refl, refl)
 
-  pub stopped : {q : Refusal} → Stop q ≡ walk.elementStep job k at → Stepped job k at was was (Stop q)
+  stopped : {q : Refusal} → Stop q ≡ walk.elementStep job k at → Stepped job k at was was (Stop q)
   stopped e = record { long = refl; step = e; laid = λ p f. absurd (stop-next f) }
+
+  pub count-stops : walk.counting job k at ≡ Out → Stepped job k at was was (Stop (Element k))
+  count-stops e = stopped (walk.out-stops job k at e)
 
   stopped-at : {q : Refusal} (t : List ℕ) → length t ≡ length was → Stop q ≡ walk.elementStep job k at → Stepped job k at was t (Stop q)
   stopped-at t l e = record { long = l; step = e; laid = λ p f. absurd (stop-next f) }
 
-  module _ (p : Piece) (is : walk.counting job k at ≡ Is p) where
+  module _ {p : Piece} (is : walk.counting job k at ≡ Is p) where
     pub same : p ≡ x
     same = walk.passes-five job k at is .1
 
@@ -398,10 +401,10 @@ module _ (job : Job) (k : ℕ) (at : Taken) (was : List ℕ) (h : Standing job k
           alone-ready mid b = subst (λ z. AloneReady (wordsOf job) z mid) (sym same) (alone-ready-x mid (b .long))
 
           pub alone-judged : {mid t : List ℕ} {s : Step} → Bare p mid →
-              Judged (answer (p .form) k (given (wordsOf job) p)) (λ w. Filled (aloneRow (wordsOf job) p w (flagged (wordsOf job) p)) (p .base) (p .base + p .bases) mid t) p mid t s → Stepped job k at was t s
+              FilledBy (answer (p .form) k (given (wordsOf job) p)) (λ w. aloneRow (wordsOf job) p w (flagged (wordsOf job) p)) p mid t s → Stepped job k at was t s
           alone-judged {mid} {t} {s} b j =
               steps (b .long) answer-x (alone-laid mid t (subst (λ z. Bare z mid) same b))
-              (subst (λ z. Judged (answer (z .form) k (given job z)) (λ w. Filled (aloneRow (wordsOf job) z w (flagged job z)) (z .base) (z .base + z .bases) mid t) z mid t s) same j)
+              (subst (λ z. FilledBy (answer (z .form) k (given job z)) (λ w. aloneRow (wordsOf job) z w (flagged job z)) z mid t s) same j)
 
         -- with left characters it has one
         module _ (some : 0 < p .lefts) where
@@ -458,7 +461,8 @@ module _ (job : Job) (k : ℕ) (at : Taken) (was : List ℕ) (h : Standing job k
           pub both-ready : BothReady (bothOf job) p was
           both-ready = subst (λ z. BothReady (bothOf job) z was) (sym same) both-ready-x
 
-          both-laid : (t : List ℕ) (w : Word) → answerBoth (x .form) k (given job x) (glossOf job x) ≡ answered.Set w → Written (bothRow (bothOf job) x w) (x .base) (x .base + x .bases) was t → Laid job x was t
+          both-laid : (t : List ℕ) (w : Word) → answerBoth (x .form) k (given job x) (glossOf job x) ≡ answered.Set w → Written (bothRow (bothOf job) x w) (x .base) (x .base + x .bases) was t →
+              Laid job x was t
           unfolding cuts part
           both-laid t w e q = record { long = q .long; head = q .head; lefts = q .lefts; rows = go (apart (x .form) (x .gloss)) refl (q .here); other = q .other }
             where
@@ -477,7 +481,7 @@ module _ (job : Job) (k : ℕ) (at : Taken) (was : List ℕ) (h : Standing job k
                   one-word job x t a (λ i l m. f i l m ∙ ap (λ z. ownRow job x w z i) (sym (ends-flagged job x (its-place .3))) ∙ row-is job x w i ruby set)
 
           pub both-judged : {t : List ℕ} {s : Step} →
-              Judged (answerBoth (p .form) k (given (bothOf job) p) (glossOf (bothOf job) p)) (λ w. Written (bothRow (bothOf job) p w) (p .base) (p .base + p .bases) was t) p was t s → Stepped job k at was t s
+              WrittenBy (answerBoth (p .form) k (given (bothOf job) p) (glossOf (bothOf job) p)) (bothRow (bothOf job) p) p was t s → Stepped job k at was t s
           both-judged {t} {s} j =
               steps refl refl (both-laid t)
-              (subst (λ z. Judged (answerBoth (z .form) k (given job z) (glossOf job z)) (λ w. Written (bothRow (bothOf job) z w) (z .base) (z .base + z .bases) was t) z was t s) same j)
+              (subst (λ z. WrittenBy (answerBoth (z .form) k (given job z) (glossOf job z)) (bothRow (bothOf job) z) z was t s) same j)

@@ -1,7 +1,4 @@
-pub mod Table
-pub mod Runs
-pub mod Lay
-pub mod Left
+pub mod Step
 pub mod Element
 pub mod Walk
 pub mod Measure

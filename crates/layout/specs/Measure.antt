@@ -4,10 +4,10 @@ use mathlib.Core.List.{List, [], _∷_}
 use Prim.Native.Nat.{ℕ}
 use Rattle.basics.specs.Lists.{each, All}
 use Rattle.door.specs.declared.Piece.{Piece}
-use Rattle.door.specs.Job.{Job, withMeasure, baseCount, elements}
+use Rattle.door.specs.Job.{Job, withMeasure, baseCount}
 use Rattle.door.specs.Loop.{partFaults}
 use Rattle.door.specs.Measure as door
-use Rattle.job.specs.Line.{part, wordsIn, words, cuts}
+use Rattle.job.specs.Line.{part, wordsIn, words}
 use Rattle.join.specs.Rows.{rowOf, HasRows, Holds}
 
 -- the job without its measure

@@ -1,30 +1,27 @@
 -- All elements in turn: those so far have their rows, and what is left decides.
-use mathlib.Core.Path.{_≡_, refl, sym, ap, ap₂, _∙_, subst}
-use mathlib.Core.Bool.{Bool, true, false, cond, _||_}
-use mathlib.Core.Logic.{_⊎_, inl, inr}
+use mathlib.Core.Path.{_≡_, refl, sym, ap, _∙_, subst}
+use mathlib.Core.Logic.{inl}
 use mathlib.Core.List.{List, [], _∷_, _++_}
-use Prim.Native.Nat.{ℕ, zero, suc, _+_, _-_, _*_, _≤_, _<_, zero-le}
+use Prim.Native.Nat.{ℕ, suc, _+_, _-_, _≤_, _<_}
 use native.Mathlib.Numerals.{add-one}
 use native.Mathlib.Nat.{add-zero}
 use native.Mathlib.Omega.{arith}
-use lib.Dec.{eqb, ltb}
 use lib.ListN.{length, getD, take, drop}
 use lib.Seq.{take-all, take-add}
-use Rattle.basics.specs.Lists.{sum, each, All}
+use Rattle.basics.specs.Lists.{each, All}
 use Rattle.basics.specs.Laws.{all-map}
-use Rattle.class.specs.Class.{depthsBy}
-use Rattle.spread.specs.Ratio.{Ratios, Housed}
+use Rattle.spread.specs.Ratio.{Housed}
 use Rattle.word.specs.declared.Form.the-variants.{P}
 use Rattle.word.specs.Word as word
 use Rattle.word.specs.Sides as sides
 use Rattle.cells.specs.declared.Cell.{Cell}
-use Rattle.cells.specs.Cells.{size, leftSize, ratiosAt, leftsAt, beside, cellAt}
+use Rattle.cells.specs.Cells.{size, leftSize, ratiosAt, leftsAt, beside}
 use Rattle.cells.specs.Put.{headed, length-headed, head-written, Puts}
 use Rattle.door.specs.declared.Piece.{Piece}
 use Rattle.door.specs.declared.Taken.{Taken}
-use Rattle.door.specs.Job.{Job, baseCount, rubyCount, leftCount, elementCount, entries, nothing, past, element, elementsFrom, elements}
+use Rattle.door.specs.Job.{Job, baseCount, rubyCount, leftCount, elementCount, nothing, past, element, elementsFrom, elements}
 use Rattle.door.specs.Elements.{alone}
-use Rattle.door.specs.Walk.{Clean, Within, Stands}
+use Rattle.door.specs.Walk.{Clean, Stands}
 use Rattle.door.specs.Loop as loop
 use Rattle.door.specs.Loop.{Along, pastPlain}
 use Rattle.door.specs.Whole.{base-within}
@@ -33,10 +30,12 @@ use Rattle.job.specs.Laws.{all-append, all-each, each-append}
 use Rattle.job.specs.Apart.{by-apart}
 use Rattle.job.specs.Pieces.{tiled-ends}
 use Rattle.job.specs.Walk.{At, at-first, at-next, length-elements}
-use Rattle.join.specs.Rows.{rowBy, rowOf, HasRows, Holds}
-use Rattle.layout.specs.Table.{leftFrom, Clear, from-none, from-some, clear-upto, filled-one, bareRow, BareReady, Bared, over-bared}
+use Rattle.join.specs.Rows.{rowOf, HasRows, Holds}
+use Rattle.word_rows.specs.Table.{Clear, filled-one}
+use Rattle.one_reading.specs.Lay.{PlainReady, plainRow}
+use Rattle.two_readings.specs.Written.{leftFrom, from-none, from-some, clear-upto, bareRow, BareReady, Bared, over-bared}
+use Rattle.layout.specs.Step.{Standing, Laid}
 use Rattle.layout.specs.Element.{all-counted}
-use Rattle.layout.specs.Lay.{PlainReady, plainRow, Standing, Laid}
 
 -- What the walk asks for: characters that their checks leave, and a table with room, for left rows too where the job has left characters.
 pub record Ready (job : Job) (t : List ℕ) : Type 0 where
@@ -121,8 +120,8 @@ words-within job x =
     (λ _. (omega arith, tt))
 
 -- rows that are written stay
-stays : (job : Job) (x : Piece) (was t : List ℕ) → Laid job x was t → ((n : ℕ) → n ≤ x .base → Clear was n) → (ys : List Piece) → All (HasRows job was) ys → All (λ y. y .base + y .bases ≤ x .base) ys →
-    All (HasRows job t) ys
+stays : (job : Job) (x : Piece) (was t : List ℕ) → Laid job x was t → ((n : ℕ) → n ≤ x .base → Clear was n) → (ys : List Piece) →
+    All (HasRows job was) ys → All (λ y. y .base + y .bases ≤ x .base) ys → All (HasRows job t) ys
 stays job x was t l c [] a b = tt
 stays job x was t l c (y ∷ ys) a b = (λ i h g. l .other i (inl (omega (arith, b .0))) (c (i + 1) (omega (arith, b .0))) ∙ a .0 i h g, stays job x was t l c ys (a .1) (b .1))
 

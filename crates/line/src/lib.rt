@@ -93,15 +93,14 @@ fn reach_with(reach: u32, x: u32, r: Reading) -> u32
 }
 
 // The least origin of e after st for one side, whose rubies reach up to `reach` so far and on which e has the reading r: the largest
-// of four lower bounds, two on the block and two on the ruby. Two numbers are taken away one after the other, so that no sum has to
-// fit.
+// of four lower bounds, two on the block and two on the ruby.
 fn asked_by(st: State, e: Element, reach: u32, r: Reading) -> u32
     requires { ⌜ e .front + e .len ≤ 4294967295 ⌝ }
     ensures { λ n. ⌜ n ≡ asks st e reach r ⌝ }
 {
     let from = ruby_from(e, r);
-    let block = basics::larger(less(st.end, e.front), less(less(reach, e.front), e.before));
-    let ruby = basics::larger(less(reach, from), less(less(st.end, from), st.room));
+    let block = less(basics::larger(st.end, less(reach, e.before)), e.front);
+    let ruby = less(basics::larger(reach, less(st.end, st.room)), from);
     basics::larger(block, ruby)
 }
 

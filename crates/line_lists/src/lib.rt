@@ -5,6 +5,7 @@ ghost use mathlib.Core.Path.{_≡_};
 ghost use Prim.Native.Nat.{_<_, min};
 ghost use lib.ListN.{length, drop};
 ghost use mathlib.Core.List.{_++_};
+ghost use Rattle.basics.specs.Seen.{was};
 ghost use Rattle.line.specs.Setting.{start, run, settle};
 ghost use Rattle.line_lists.specs.Promise.{lists, shortest, readingAt, elementAt, line, AllWithin, Promise};
 ghost use Rattle.line_lists.specs.Passes.{Tells, Has, Judged, Ready, tried};
@@ -34,9 +35,6 @@ pub enum Why {
     Long,
 }
 
-// How many elements a line of a job has at most.
-const MOST_ELEMENTS: usize = 1024;
-
 fn fewer(a: usize, b: usize) -> usize
     ensures { λ r. ⌜ r ≡ min a b ⌝ }
 {
@@ -57,7 +55,7 @@ fn shortest_of(
     after: &[u32],
 ) -> usize
     ensures { λ r. ⌜ r ≡ shortest
-        (lists (now (front .entry)) (now (len .entry)) (now (right .entry)) (now (rfrom .entry)) (now (rupto .entry)) (now (left .entry)) (now (lfrom .entry)) (now (lupto .entry)) (now (before .entry)) (now (after .entry))) ⌝ }
+        (lists (was front) (was len) (was right) (was rfrom) (was rupto) (was left) (was lfrom) (was lupto) (was before) (was after)) ⌝ }
 {
     let block = fewer(front.len(), len.len());
     let depths = fewer(before.len(), after.len());
@@ -69,7 +67,7 @@ fn shortest_of(
 // Reading i of one side.
 fn reading_at(i: usize, there: &[u32], from: &[u32], upto: &[u32]) -> Reading
     requires { ⌜ (i < length (now there)) × (i < length (now from)) × (i < length (now upto)) ⌝ }
-    ensures { λ r. ⌜ r ≡ readingAt (now (there .entry)) (now (from .entry)) (now (upto .entry)) i ⌝ }
+    ensures { λ r. ⌜ r ≡ readingAt (was there) (was from) (was upto) i ⌝ }
 {
     Reading {
         there: there[i] == 1,
@@ -94,7 +92,7 @@ fn element_at(
 ) -> Element
     requires { ⌜ Has i (lists (now front) (now len) (now right) (now rfrom) (now rupto) (now left) (now lfrom) (now lupto) (now before) (now after)) ⌝ }
     ensures { λ r. ⌜ r ≡ elementAt
-        (lists (now (front .entry)) (now (len .entry)) (now (right .entry)) (now (rfrom .entry)) (now (rupto .entry)) (now (left .entry)) (now (lfrom .entry)) (now (lupto .entry)) (now (before .entry)) (now (after .entry))) i ⌝ }
+        (lists (was front) (was len) (was right) (was rfrom) (was rupto) (was left) (was lfrom) (was lupto) (was before) (was after)) i ⌝ }
 {
     let r = reading_at(i, right, rfrom, rupto);
     let l = reading_at(i, left, lfrom, lupto);
@@ -124,9 +122,9 @@ fn all_within(
 ) -> bool
     requires { ⌜ count ≡ shortest (lists (now front) (now len) (now right) (now rfrom) (now rupto) (now left) (now lfrom) (now lupto) (now before) (now after)) ⌝ }
     ensures { λ r. ⌜ Tells r (AllWithin
-        (lists (now (front .entry)) (now (len .entry)) (now (right .entry)) (now (rfrom .entry)) (now (rupto .entry)) (now (left .entry)) (now (lfrom .entry)) (now (lupto .entry)) (now (before .entry)) (now (after .entry)))) ⌝ }
+        (lists (was front) (was len) (was right) (was rfrom) (was rupto) (was left) (was lfrom) (was lupto) (was before) (was after))) ⌝ }
 {
-    if MOST_ELEMENTS < count {
+    if limits::MOST_ELEMENTS < count {
         return false;
     }
     let mut i: usize = 0;
@@ -170,7 +168,7 @@ fn try_line(
 ) -> Answer
     requires { ⌜ Judged count (lists (now front) (now len) (now right) (now rfrom) (now rupto) (now left) (now lfrom) (now lupto) (now before) (now after)) ⌝ }
     ensures { λ r. ⌜ r ≡ tried measure (run start (line
-        (lists (now (front .entry)) (now (len .entry)) (now (right .entry)) (now (rfrom .entry)) (now (rupto .entry)) (now (left .entry)) (now (lfrom .entry)) (now (lupto .entry)) (now (before .entry)) (now (after .entry))))) ⌝ }
+        (lists (was front) (was len) (was right) (was rfrom) (was rupto) (was left) (was lfrom) (was lupto) (was before) (was after)))) ⌝ }
 {
     let mut st = START;
     let mut i: usize = 0;
@@ -216,8 +214,8 @@ fn write_line(
 )
     requires { ⌜ Ready count (lists (now front) (now len) (now right) (now rfrom) (now rupto) (now left) (now lfrom) (now lupto) (now before) (now after)) (now out) ⌝ }
     ensures { λ _. ⌜ now (out .exit) ≡ settle (line
-        (lists (now (front .entry)) (now (len .entry)) (now (right .entry)) (now (rfrom .entry)) (now (rupto .entry)) (now (left .entry)) (now (lfrom .entry)) (now (lupto .entry)) (now (before .entry)) (now (after .entry))))
-        ++ drop count (now (out .entry)) ⌝ }
+        (lists (was front) (was len) (was right) (was rfrom) (was rupto) (was left) (was lfrom) (was lupto) (was before) (was after)))
+        ++ drop count (was out) ⌝ }
 {
     let mut st = START;
     let mut i: usize = 0;
@@ -260,8 +258,8 @@ pub fn set_line(
     out: &mut [u32],
 ) -> Answer
     ensures { λ r. ⌜ Promise measure
-        (lists (now (front .entry)) (now (len .entry)) (now (right .entry)) (now (rfrom .entry)) (now (rupto .entry)) (now (left .entry)) (now (lfrom .entry)) (now (lupto .entry)) (now (before .entry)) (now (after .entry)))
-        (now (out .entry)) (now (out .exit)) r ⌝ }
+        (lists (was front) (was len) (was right) (was rfrom) (was rupto) (was left) (was lfrom) (was lupto) (was before) (was after))
+        (was out) (now (out .exit)) r ⌝ }
 {
     let count = shortest_of(
         front,

@@ -9,17 +9,18 @@ use lib.Dec.{eqb, ltb}
 use lib.ListN.{length, getD, drop, length-map, drop-of-length-le}
 use lib.Seq.{take-all}
 use Rattle.text.specs.Places.{drop-at}
-use Rattle.basics.specs.Lists.{All, any, other}
+use Rattle.basics.specs.Lists.{any, other}
 use Rattle.rows.specs.Table.{laid, column, length-laid}
 use Rattle.rows.specs.Columns.{column-part}
 use Rattle.elements.specs.declared.SheetForm.{SheetForm}
 use Rattle.elements.specs.declared.SheetForm.the-variants.{One, Two}
-use Rattle.elements.specs.Element.{rowOf}
-use Rattle.elements.specs.Print.{Entry, P, word, none, mono, group, jukugo, elementOf, rowsOf}
+use Rattle.elements.specs.Print.{Entry, P, word, none, mono, group, jukugo, elementOf, rowsOf, rows-many, rows-wide}
 use Rattle.sheet.specs.declared.Counts.{Counts}
 use Rattle.sheet.specs.declared.Reading.the-variants.{Sound}
 use Rattle.sheet.specs.Sheet.{Sheet, plain, singles, reading, Tables, Into}
 use Rattle.sheet.specs.Form.{Written, Shown, sheetOf, writtenOf}
+use Rattle.sheet.specs.Reads.{single-wide}
+use Rattle.sheet.specs.Exact.{column-singles}
 use Rattle.other_form.specs.Other.{unlike, firstOr, leftLine, hasLeft, faults, faultLine}
 use Rattle.other_form.specs.Parts.{part}
 use Rattle.other_form.specs.Ready.{FaultReady}
@@ -99,23 +100,6 @@ letters-any (word r (mono counts) ∷ es) = refl
 letters-any (word r (group count) ∷ es) = refl
 letters-any (word r (jukugo counts) ∷ es) = refl
 
-rows-wide : (es : List Entry) → All (λ (r : List ℕ). length r ≡ 5) (rowsOf es)
-unfolding rowsOf
-rows-wide [] = tt
-rows-wide (e ∷ es) = (refl, rows-wide es)
-
-rows-many : (es : List Entry) → length (rowsOf es) ≡ length es
-unfolding rowsOf
-rows-many es = length-map es (λ e. rowOf (elementOf e))
-
-singles-wide : (vs : List ℕ) → All (λ (r : List ℕ). length r ≡ 1) (singles vs)
-singles-wide [] = tt
-singles-wide (v ∷ vs) = (refl, singles-wide vs)
-
-column-singles : (vs : List ℕ) → column 0 (singles vs) ≡ vs
-column-singles [] = refl
-column-singles (v ∷ vs) = ap {B = List ℕ} (λ l. v ∷ l) (column-singles vs)
-
 -- seven numbers stand behind em and measure in both forms
 pub house-seven : (f : SheetForm) (r : Written) → Shown f r → length (r .house) ≡ 7
 unfolding Shown
@@ -146,7 +130,7 @@ module _ {s : List ℕ} {was t : Tables} {n : Counts} (into : Into s was (Sound 
       let vs = r .em ∷ r .measure ∷ r .house in
       let l = laid (was .set) 0 9 (singles vs) in
       let h : length l ≤ 9 = omega (arith, length-laid (was .set) 0 9 (singles vs)) in
-      let c = column-part 1 9 0 9 (singles vs) (was .set) (omega arith) (length-map vs (λ v. v ∷ []) ∙ ap (λ (m : ℕ). suc (suc m)) seven) (omega arith) (singles-wide vs) (omega arith) 0 9 refl refl in
+      let c = column-part 1 9 0 9 (singles vs) (was .set) (omega arith) (length-map vs (λ v. v ∷ []) ∙ ap (λ (m : ℕ). suc (suc m)) seven) (omega arith) (single-wide vs) (omega arith) 0 9 refl refl in
       into .setHolds ∙ ap (laid (was .set) 0 9) set-is ∙ sym (take-all 9 l h) ∙ c ∙ column-singles vs
 
   letters-hold : part 3072 (3072 + n .elements) (t .elem) ≡ column 3 (rowsOf (r .elem))

@@ -5,7 +5,8 @@ ghost use mathlib.Core.Path.{_≡_};
 ghost use mathlib.Core.Bool.{cond};
 ghost use Prim.Native.Nat.{_+_, _-_, _≤_, _<_};
 ghost use lib.Dec.{eqb};
-ghost use lib.ListN.{length, getD, drop};
+ghost use lib.ListN.{length, drop};
+ghost use Rattle.basics.specs.Seen.{was};
 ghost use Rattle.text.specs.Print.{Wrote};
 ghost use Rattle.elements.specs.declared.SheetForm.the-variants.{One, Two};
 ghost use Rattle.sheet.specs.Sheet.{plain};
@@ -20,13 +21,13 @@ fn fewer(k: usize, b: u8) -> usize
     requires { ⌜ 0 < k ⌝ }
     ensures { λ r. ⌜ r ≡ cond (eqb b 10) (k - 1) k ⌝ }
 {
-    if b == 10 { k - 1 } else { k }
+    if b == b'\n' { k - 1 } else { k }
 }
 
 // The place past n lines from a place on.
 fn lines_past(s: &[u8], from: usize, n: usize) -> usize
     requires { ⌜ from ≤ length (now s) ⌝ }
-    ensures { λ r. ⌜ r ≡ pastLines n (drop from (now (s .entry))) from ⌝ }
+    ensures { λ r. ⌜ r ≡ pastLines n (drop from (was s)) from ⌝ }
 {
     let mut at = from;
     let mut k = n;
@@ -43,13 +44,13 @@ fn lines_past(s: &[u8], from: usize, n: usize) -> usize
 // A byte of a line of `elem` after the byte `last`, in form two: the letter N goes before the LF.
 fn put_on(out: &mut [u8], at: usize, last: u8, b: u8) -> usize
     requires { ⌜ at + length (onBy last b) ≤ length (now out) ⌝ }
-    ensures { λ r. ⌜ Wrote (now (out .entry)) at (onBy last b) r (now (out .exit)) ⌝ }
+    ensures { λ r. ⌜ Wrote (was out) at (onBy last b) r (now (out .exit)) ⌝ }
 {
-    if b != 10 {
+    if b != b'\n' {
         return text::print::put_byte(out, at, b);
     }
-    if last == 80 {
-        return text::print::put_byte(out, at, 10);
+    if last == b'P' {
+        return text::print::put_byte(out, at, b'\n');
     }
     text::print::put_word(out, at, b" N\n")
 }
@@ -57,11 +58,11 @@ fn put_on(out: &mut [u8], at: usize, last: u8, b: u8) -> usize
 // "each M, G and J line ends in a letter for the left kind": N on the lines from a place on.
 fn letters_on(s: &[u8], from: usize, out: &mut [u8], to: usize) -> usize
     requires { ⌜ LettersReady (lettersOn 10 (drop from (now s))) (now s) from (now out) to ⌝ }
-    ensures { λ r. ⌜ Wrote (now (out .entry)) to (lettersOn 10 (drop from (now (s .entry)))) r (now (out .exit)) ⌝ }
+    ensures { λ r. ⌜ Wrote (was out) to (lettersOn 10 (drop from (was s))) r (now (out .exit)) ⌝ }
 {
     let mut at = from;
     let mut p = to;
-    let mut last: u8 = 10;
+    let mut last: u8 = b'\n';
     while at < s.len() {
         let b = s[at];
         p = put_on(out, p, last, b);
@@ -71,40 +72,33 @@ fn letters_on(s: &[u8], from: usize, out: &mut [u8], to: usize) -> usize
     p
 }
 
-// The byte at a place, 0 past the end.
-fn byte_at(s: &[u8], at: usize) -> u8
-    ensures { λ r. ⌜ r ≡ getD (now (s .entry)) at 0 ⌝ }
-{
-    if s.len() <= at { 0 } else { s[at] }
-}
-
 // A byte of a line of `elem` before the byte `next`, in form one: N goes, and the space before it.
 fn put_off(out: &mut [u8], at: usize, b: u8, next: u8) -> usize
     requires { ⌜ at + length (offBy b next) ≤ length (now out) ⌝ }
-    ensures { λ r. ⌜ Wrote (now (out .entry)) at (offBy b next) r (now (out .exit)) ⌝ }
+    ensures { λ r. ⌜ Wrote (was out) at (offBy b next) r (now (out .exit)) ⌝ }
 {
-    if b == 78 {
+    if b == b'N' {
         return at;
     }
-    if b != 32 {
+    if b != b' ' {
         return text::print::put_byte(out, at, b);
     }
-    if next == 78 {
+    if next == b'N' {
         return at;
     }
-    text::print::put_byte(out, at, 32)
+    text::print::put_byte(out, at, b' ')
 }
 
 // The lines from a place on without the letter N.
 fn letters_off(s: &[u8], from: usize, out: &mut [u8], to: usize) -> usize
     requires { ⌜ LettersReady (lettersOff (drop from (now s))) (now s) from (now out) to ⌝ }
-    ensures { λ r. ⌜ Wrote (now (out .entry)) to (lettersOff (drop from (now (s .entry)))) r (now (out .exit)) ⌝ }
+    ensures { λ r. ⌜ Wrote (was out) to (lettersOff (drop from (was s))) r (now (out .exit)) ⌝ }
 {
     let mut at = from;
     let mut p = to;
     while at < s.len() {
         let next = at + 1;
-        p = put_off(out, p, s[at], byte_at(s, next));
+        p = put_off(out, p, s[at], elements::byte_at(s, next));
         at = next;
     }
     p
@@ -122,7 +116,7 @@ struct Cuts {
 // These places, where x bytes stand before `base` and y before `elem` that form one does not have.
 fn cuts_of(s: &[u8], n: sheet::Counts, x: usize, y: usize) -> Cuts
     requires { ⌜ CutsReady (now s) n x y ⌝ }
-    ensures { λ r. ⌜ r ≡ cutsOf (now (s .entry)) n x y ⌝ }
+    ensures { λ r. ⌜ r ≡ cutsOf (was s) n x y ⌝ }
 {
     let k = n.bases + n.rubies + 2;
     let a = lines_past(s, 6, 2);
@@ -136,7 +130,7 @@ fn cuts_of(s: &[u8], n: sheet::Counts, x: usize, y: usize) -> Cuts
 // The bytes of a sheet from one place up to another.
 fn put_part(out: &mut [u8], at: usize, s: &[u8], from: usize, upto: usize) -> usize
     requires { ⌜ PartReady (now s) from upto (now out) at ⌝ }
-    ensures { λ r. ⌜ Wrote (now (out .entry)) at (part from upto (now (s .entry))) r (now (out .exit)) ⌝ }
+    ensures { λ r. ⌜ Wrote (was out) at (part from upto (was s)) r (now (out .exit)) ⌝ }
 {
     text::print::put_word(out, at, &s[from..upto])
 }
@@ -144,7 +138,7 @@ fn put_part(out: &mut [u8], at: usize, s: &[u8], from: usize, upto: usize) -> us
 // The three parts that both forms have, each behind a word: the first line, the seven numbers, the line `left`.
 fn put_parts(s: &[u8], cuts: Cuts, first: &[u8], house: &[u8], left: &[u8], out: &mut [u8]) -> usize
     requires { ⌜ PartsReady cuts (now s) (now first) (now house) (now left) (now out) ⌝ }
-    ensures { λ r. ⌜ Wrote (now (out .entry)) 0 (partsText cuts (now (s .entry)) (now (first .entry)) (now (house .entry)) (now (left .entry))) r (now (out .exit)) ⌝ }
+    ensures { λ r. ⌜ Wrote (was out) 0 (partsText cuts (was s) (was first) (was house) (was left)) r (now (out .exit)) ⌝ }
 {
     let p1 = text::print::put_word(out, 0, first);
     let p2 = put_part(out, p1, s, 6, cuts.a);
@@ -157,7 +151,7 @@ fn put_parts(s: &[u8], cuts: Cuts, first: &[u8], house: &[u8], left: &[u8], out:
 // A form one sheet in form two: "both ratios .. 1:2:1 and the profile .. 0", and no left reading.
 fn to_two(s: &[u8], n: sheet::Counts, out: &mut [u8]) -> usize
     requires { ⌜ SheetReady One (now s) n (now out) ⌝ }
-    ensures { λ r. ⌜ Wrote (now (out .entry)) 0 (otherText (now (s .entry))) r (now (out .exit)) ⌝ }
+    ensures { λ r. ⌜ Wrote (was out) 0 (otherText (was s)) r (now (out .exit)) ⌝ }
 {
     let cuts = cuts_of(s, n, 0, 0);
     let p = put_parts(
@@ -174,7 +168,7 @@ fn to_two(s: &[u8], n: sheet::Counts, out: &mut [u8]) -> usize
 // A form two sheet that form one can hold, in form one.
 fn to_one(s: &[u8], n: sheet::Counts, out: &mut [u8]) -> usize
     requires { ⌜ SheetReady Two (now s) n (now out) ⌝ }
-    ensures { λ r. ⌜ Wrote (now (out .entry)) 0 (otherText (now (s .entry))) r (now (out .exit)) ⌝ }
+    ensures { λ r. ⌜ Wrote (was out) 0 (otherText (was s)) r (now (out .exit)) ⌝ }
 {
     let cuts = cuts_of(s, n, 14, 7);
     let p = put_parts(s, cuts, b"set 2\n", &s[0..0], &s[0..0], out);
@@ -184,9 +178,9 @@ fn to_one(s: &[u8], n: sheet::Counts, out: &mut [u8]) -> usize
 // Writes a sound sheet in the other form; the answer is how many bytes it has. Form two begins with `set 9`.
 pub fn write_other(s: &[u8], n: sheet::Counts, out: &mut [u8]) -> usize
     requires { ⌜ OtherReady (now s) n (now out) ⌝ }
-    ensures { λ r. ⌜ Wrote (now (out .entry)) 0 (otherText (now (s .entry))) r (now (out .exit)) ⌝ }
+    ensures { λ r. ⌜ Wrote (was out) 0 (otherText (was s)) r (now (out .exit)) ⌝ }
 {
-    if byte_at(s, 4) == 57 {
+    if elements::byte_at(s, 4) == b'9' {
         to_one(s, n, out)
     } else {
         to_two(s, n, out)
@@ -199,7 +193,7 @@ const PLAIN: [u32; 7] = [1, 2, 1, 1, 2, 1, 0];
 // The first line of a ratio or of the profile that form one can't hold, 0 if it can: line 4 has the first of these numbers.
 fn number_line(set: &[u32]) -> u32
     requires { ⌜ length (now set) ≡ 9 ⌝ }
-    ensures { λ r. ⌜ r ≡ firstOr 0 (unlike 4 (drop 2 (now (set .entry))) plain) ⌝ }
+    ensures { λ r. ⌜ r ≡ firstOr 0 (unlike 4 (drop 2 (was set)) plain) ⌝ }
 {
     let plain = PLAIN;
     let mut line: u32 = 4;
@@ -226,7 +220,7 @@ fn left_line(n: sheet::Counts) -> u32
 // "17, a form two sheet that form one can't hold, .. place the first line at fault": its number by the tables that a sound sheet was read to, 0 if form one can hold it.
 pub fn fault_line(n: sheet::Counts, set: &[u32], elem: &[u32]) -> u32
     requires { ⌜ FaultReady n (now set) (now elem) ⌝ }
-    ensures { λ r. ⌜ r ≡ lineBy n (now (set .entry)) (now (elem .entry)) ⌝ }
+    ensures { λ r. ⌜ r ≡ lineBy n (was set) (was elem) ⌝ }
 {
     let line = number_line(set);
     if line != 0 {
@@ -235,8 +229,8 @@ pub fn fault_line(n: sheet::Counts, set: &[u32], elem: &[u32]) -> u32
     if 0 < n.lefts {
         return left_line(n);
     }
-    let e = 3072 + n.elements;
-    if basics::any_but(78, &elem[3072..e]) {
+    let e = limits::ELEMENT_LEFT_KIND + n.elements;
+    if basics::any_but(limits::LEFT_NONE, &elem[limits::ELEMENT_LEFT_KIND..e]) {
         return left_line(n);
     }
     0

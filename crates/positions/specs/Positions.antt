@@ -118,3 +118,7 @@ leftOf = sideOf Left
 abbrev pub byLine : (ℕ → ℕ → List ℕ) → ℕ → List ℕ → List ℕ
 byLine f s [] = []
 byLine f s (e ∷ es) = f s e ++ byLine f e es
+
+-- all of them, written over the front of a list
+abbrev pub linesOver : (ℕ → ℕ → List ℕ) → List ℕ → List ℕ → List ℕ
+linesOver f es was = over (byLine f 0 es) was

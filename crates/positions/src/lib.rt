@@ -6,11 +6,12 @@ ghost use mathlib.Core.Path.{_≡_};
 ghost use Prim.Native.Nat.{_+_, _-_, _*_, _≤_, _<_, min};
 ghost use lib.ListN.{length, take};
 ghost use lib.Seq.{sets};
+ghost use Rattle.basics.specs.Seen.{was};
 ghost use Rattle.spread.specs.Gap.{starts};
 ghost use Rattle.word.specs.Word.{baseStarts};
 ghost use Rattle.line.specs.declared.Side.the-variants.{Right, Left};
 ghost use Rattle.cells.specs.Cells.{size};
-ghost use Rattle.positions.specs.Positions.{sheet, lent, over, first, readingEnd, runsPut, readingBy, baseOf, rubyOf, leftOf, byLine};
+ghost use Rattle.positions.specs.Positions.{sheet, lent, over, first, readingEnd, runsPut, readingBy, baseOf, rubyOf, leftOf, linesOver};
 ghost use Rattle.positions.specs.Ready.{StringReady, LineReady, LinesReady};
 ghost use Rattle.positions.specs.Runs.{RunsReady};
 ghost use Rattle.positions.specs.Piece.{ReadingReady};
@@ -18,7 +19,7 @@ ghost use Rattle.positions.specs.Piece.{ReadingReady};
 // The starts of the characters a up to e, the first of them at `at`, with `within` half units of space within the string.
 fn put_string(at: u32, within: u32, a: usize, e: usize, ws: &[u32], out: &mut [u32])
     requires { ⌜ StringReady at within a e (now ws) (now out) ⌝ }
-    ensures { λ _. ⌜ now (out .exit) ≡ sets (now (out .entry)) a (starts within at (lent (now (ws .entry)) a e)) ⌝ }
+    ensures { λ _. ⌜ now (out .exit) ≡ sets (was out) a (starts within at (lent (was ws) a e)) ⌝ }
 {
     spread::put_starts(&ws[a..e], at, within, &mut out[a..e]);
 }
@@ -26,7 +27,7 @@ fn put_string(at: u32, within: u32, a: usize, e: usize, ws: &[u32], out: &mut [u
 // The base characters i up to c, the origin of their word w at `at`.
 fn put_base(w: word::Word, at: u32, i: usize, c: usize, width: &[u32], base: &mut [u32])
     requires { ⌜ StringReady (at + w .front) (w .inbase) i c (now width) (now base) ⌝ }
-    ensures { λ _. ⌜ now (base .exit) ≡ sets (now (base .entry)) i (baseStarts w at (lent (now (width .entry)) i c)) ⌝ }
+    ensures { λ _. ⌜ now (base .exit) ≡ sets (was base) i (baseStarts w at (lent (was width) i c)) ⌝ }
 {
     put_string(at + w.front, w.inbase, i, c, width, base);
 }
@@ -43,7 +44,7 @@ fn put_runs(
     out: &mut [u32],
 )
     requires { ⌜ RunsReady side em (now t) i c at (now ws) (now out) ⌝ }
-    ensures { λ _. let u = now (t .entry) in ⌜ now (out .exit) ≡ sets (now (out .entry)) (first side u i) (runsPut side em u (now (ws .entry)) (c - i) i at) ⌝ }
+    ensures { λ _. let u = was t in ⌜ now (out .exit) ≡ sets (was out) (first side u i) (runsPut side em u (was ws) (c - i) i at) ⌝ }
 {
     let mut x = at;
     let mut k = i;
@@ -60,7 +61,7 @@ fn put_runs(
 // Where the characters of one side of the piece from i up to c end.
 pub fn reading_upto(t: &[u32], i: usize, c: usize, side: line::Side) -> usize
     requires { ⌜ (i < c) × (c ≤ 1024) × (size c ≤ length (now t)) ⌝ }
-    ensures { λ r. ⌜ r ≡ readingEnd side (now (t .entry)) i c ⌝ }
+    ensures { λ r. ⌜ r ≡ readingEnd side (was t) i c ⌝ }
 {
     let a = cells::cell_at(t, i);
     if a.cut {
@@ -84,7 +85,7 @@ fn put_reading(
     out: &mut [u32],
 )
     requires { ⌜ ReadingReady side em (now t) i c v at (now ws) (now out) ⌝ }
-    ensures { λ _. let u = now (t .entry) in ⌜ now (out .exit) ≡ sets (now (out .entry)) (first side u i) (readingBy side em u (now (ws .entry)) v i c at) ⌝ }
+    ensures { λ _. let u = was t in ⌜ now (out .exit) ≡ sets (was out) (first side u i) (readingBy side em u (was ws) v i c at) ⌝ }
 {
     if v.there {
         if v.runs {
@@ -118,7 +119,7 @@ fn put_line(
     left: &mut [u32],
 )
     requires { ⌜ LineReady (sheet em (now t) (now width) (now rwidth) (now lwidth)) s e (now base) (now ruby) (now left) ⌝ }
-    ensures { λ _. let u = now (t .entry) in let g = sheet em u (now (width .entry)) (now (rwidth .entry)) (now (lwidth .entry)) in ⌜ (now (base .exit) ≡ sets (now (base .entry)) s (baseOf g s e)) × (now (ruby .exit) ≡ sets (now (ruby .entry)) (first Right u s) (rubyOf g s e)) × (now (left .exit) ≡ sets (now (left .entry)) (first Left u s) (leftOf g s e)) ⌝ }
+    ensures { λ _. let u = was t in let g = sheet em u (was width) (was rwidth) (was lwidth) in ⌜ (now (base .exit) ≡ sets (was base) s (baseOf g s e)) × (now (ruby .exit) ≡ sets (was ruby) (first Right u s) (rubyOf g s e)) × (now (left .exit) ≡ sets (was left) (first Left u s) (leftOf g s e)) ⌝ }
 {
     let mut i = s;
     let mut st = line::START;
@@ -156,7 +157,7 @@ pub fn put_lines(
     left: &mut [u32],
 )
     requires { ⌜ LinesReady (sheet em (now t) (now width) (now rwidth) (now lwidth)) n (now ends) (now base) (now ruby) (now left) ⌝ }
-    ensures { λ _. let g = sheet em (now (t .entry)) (now (width .entry)) (now (rwidth .entry)) (now (lwidth .entry)) in let es = take n (now (ends .entry)) in ⌜ (now (base .exit) ≡ over (byLine (baseOf g) 0 es) (now (base .entry))) × (now (ruby .exit) ≡ over (byLine (rubyOf g) 0 es) (now (ruby .entry))) × (now (left .exit) ≡ over (byLine (leftOf g) 0 es) (now (left .entry))) ⌝ }
+    ensures { λ _. let g = sheet em (was t) (was width) (was rwidth) (was lwidth) in let es = take n (was ends) in ⌜ (now (base .exit) ≡ linesOver (baseOf g) es (was base)) × (now (ruby .exit) ≡ linesOver (rubyOf g) es (was ruby)) × (now (left .exit) ≡ linesOver (leftOf g) es (was left)) ⌝ }
 {
     let mut s: usize = 0;
     let mut l: usize = 0;
@@ -171,7 +172,7 @@ pub fn put_lines(
 // The ends of n lines: "for each line the count of base characters up to its end".
 pub fn put_ends(n: usize, ends: &[u32], lines: &mut [u32])
     requires { ⌜ (n ≤ 1024) × (n ≤ length (now ends)) × (n ≤ length (now lines)) ⌝ }
-    ensures { λ _. ⌜ now (lines .exit) ≡ over (take n (now (ends .entry))) (now (lines .entry)) ⌝ }
+    ensures { λ _. ⌜ now (lines .exit) ≡ over (take n (was ends)) (was lines) ⌝ }
 {
     let mut l: usize = 0;
     while l < n {

@@ -7,6 +7,7 @@ use mathlib.Core.List.{List, [], _∷_, _++_}
 use Prim.Native.Nat.{ℕ, _≤_, _<_}
 use native.Mathlib.Omega.{arith}
 use lib.ListN.{length, take, drop}
+use lib.Seq.{take-append-seam}
 use Rattle.line.specs.Setting.{furthest}
 use Rattle.cells.specs.Cells.{stateAt}
 use Rattle.door.specs.Job.{Job, baseCount, rubyCount, leftCount}
@@ -27,10 +28,6 @@ use Rattle.result.specs.Lines.{TextReady}
 use Rattle.result.specs.Shown.{line-shown}
 use Rattle.result.specs.Short.{longest, result-short}
 
-take-front : (xs ys : List ℕ) → take (length xs) (xs ++ ys) ≡ xs
-take-front [] ys = refl
-take-front (x ∷ xs) ys = ap (λ (l : List ℕ). x ∷ l) (take-front xs ys)
-
 module _ (job : Job) (passed : Passed job) (t : List ℕ) (table : Holds job t) (base ruby left : List ℕ) where
   line-text : (s e : ℕ) → Begins job s → s < e → e ≤ baseCount job → permitted job e ≡ true → lineText t base ruby left (furthest (stateAt (job .em) t s e)) s e ≡ ofLine job base ruby left s e
   unfolding lineText ofLine
@@ -48,7 +45,7 @@ module _ (job : Job) (passed : Passed job) (t : List ℕ) (table : Holds job t) 
     extents-are : take n far ≡ extentsOf (job .em) t 0 (ends job)
     extents-are =
         let xs = extentsOf (job .em) t 0 (ends job) in
-        ap₂ take (many ∙ sym (length-extents (job .em) t 0 (ends job))) told ∙ take-front xs (drop (length xs) wasFar)
+        ap₂ take (many ∙ sym (length-extents (job .em) t 0 (ends job))) told ∙ take-append-seam xs (drop (length xs) wasFar)
 
     -- what is printed is the job's text
     pub rows-text : rowsText t n found far base ruby left ≡ resultText job base ruby left

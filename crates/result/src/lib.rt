@@ -4,6 +4,7 @@
 ghost use mathlib.Core.Path.{_≡_};
 ghost use Prim.Native.Nat.{_+_, _-_, _≤_, _<_};
 ghost use lib.ListN.{length};
+ghost use Rattle.basics.specs.Seen.{was};
 ghost use Rattle.text.specs.Print.{Wrote};
 ghost use Rattle.cells.specs.Cells.{size, stop};
 ghost use Rattle.result.specs.Text.{lineOne, lineTwo, rows, refusalText};
@@ -16,7 +17,7 @@ ghost use Rattle.result.specs.Lines.{TextReady};
 // A word and its number, on a line.
 fn put_one(out: &mut [u8], from: usize, word: &[u8], n: u32) -> usize
     requires { ⌜ from + length (lineOne (now word) n) ≤ length (now out) ⌝ }
-    ensures { λ r. ⌜ Wrote (now (out .entry)) from (lineOne (now (word .entry)) n) r (now (out .exit)) ⌝ }
+    ensures { λ r. ⌜ Wrote (was out) from (lineOne (was word) n) r (now (out .exit)) ⌝ }
 {
     let a = text::print::put_word(out, from, word);
     let b = text::print::put_byte(out, a, 32);
@@ -27,7 +28,7 @@ fn put_one(out: &mut [u8], from: usize, word: &[u8], n: u32) -> usize
 // A word and its two numbers, on a line.
 fn put_two(out: &mut [u8], from: usize, word: &[u8], i: u32, p: u32) -> usize
     requires { ⌜ from + length (lineTwo (now word) i p) ≤ length (now out) ⌝ }
-    ensures { λ r. ⌜ Wrote (now (out .entry)) from (lineTwo (now (word .entry)) i p) r (now (out .exit)) ⌝ }
+    ensures { λ r. ⌜ Wrote (was out) from (lineTwo (was word) i p) r (now (out .exit)) ⌝ }
 {
     let a = text::print::put_word(out, from, word);
     let b = text::print::put_byte(out, a, 32);
@@ -47,7 +48,7 @@ fn put_rows(
     positions: &[u32],
 ) -> usize
     requires { ⌜ RowsReady (now out) from (now word) i n (now positions) ⌝ }
-    ensures { λ r. ⌜ Wrote (now (out .entry)) from (rows (now (word .entry)) (now (positions .entry)) i n) r (now (out .exit)) ⌝ }
+    ensures { λ r. ⌜ Wrote (was out) from (rows (was word) (was positions) i n) r (now (out .exit)) ⌝ }
 {
     let end = i + n;
     let mut at = from;
@@ -62,7 +63,7 @@ fn put_rows(
 // Where the element of row i goes on behind the piece there, or e where it does not.
 fn behind(t: &[u32], i: usize, e: usize) -> usize
     requires { ⌜ (i ≤ 1024) × (size (i + 1) ≤ length (now t)) ⌝ }
-    ensures { λ r. ⌜ r ≡ behind (now (t .entry)) i e ⌝ }
+    ensures { λ r. ⌜ r ≡ behind (was t) i e ⌝ }
 {
     let a = cells::cell_at(t, i);
     if a.more { i + a.bases as usize } else { e }
@@ -71,7 +72,7 @@ fn behind(t: &[u32], i: usize, e: usize) -> usize
 // Where the last piece begins that the element of row i has in the line up to e. Only a J with a mono left reading has more than one.
 fn last_piece(t: &[u32], i: usize, e: usize) -> usize
     requires { ⌜ (i < e) × (Table (now t) e) ⌝ }
-    ensures { λ r. ⌜ r ≡ lastPiece (now (t .entry)) i e ⌝ }
+    ensures { λ r. ⌜ r ≡ lastPiece (was t) i e ⌝ }
 {
     let mut z = i;
     let mut next = behind(t, i, e);
@@ -85,7 +86,7 @@ fn last_piece(t: &[u32], i: usize, e: usize) -> usize
 // Where the piece from i ends in the line up to e.
 fn piece_end(t: &[u32], i: usize, e: usize) -> usize
     requires { ⌜ (i ≤ 1024) × (size (i + 1) ≤ length (now t)) ⌝ }
-    ensures { λ r. ⌜ r ≡ stop (now (t .entry)) i e ⌝ }
+    ensures { λ r. ⌜ r ≡ stop (was t) i e ⌝ }
 {
     let a = cells::cell_at(t, i);
     door::fewer(e, i + a.bases as usize)
@@ -103,7 +104,7 @@ fn put_side(
     from: usize,
 ) -> usize
     requires { ⌜ SideReady side (now t) i z c (now positions) (now out) from ⌝ }
-    ensures { λ r. ⌜ Wrote (now (out .entry)) from (sideRows side (now (t .entry)) (now (positions .entry)) i z c) r (now (out .exit)) ⌝ }
+    ensures { λ r. ⌜ Wrote (was out) from (sideRows side (was t) (was positions) i z c) r (now (out .exit)) ⌝ }
 {
     let own = cells::share_at(t, i, side);
     if z == i && own.many == 0 {
@@ -129,7 +130,7 @@ fn put_line(
     from: usize,
 ) -> usize
     requires { ⌜ LineReady (now t) s e (now base) (now ruby) (now left) (now out) from ⌝ }
-    ensures { λ r. let u = now (t .entry) in ⌜ Wrote (now (out .entry)) from (elementsText u (now (base .entry)) (now (ruby .entry)) (now (left .entry)) (e - s) s e) r (now (out .exit)) ⌝ }
+    ensures { λ r. let u = was t in ⌜ Wrote (was out) from (elementsText u (was base) (was ruby) (was left) (e - s) s e) r (now (out .exit)) ⌝ }
 {
     let mut at = from;
     let mut i = s;
@@ -157,7 +158,7 @@ pub fn write_result(
     out: &mut [u8],
 ) -> usize
     requires { ⌜ TextReady (now t) n (now ends) (now extents) (now base) (now ruby) (now left) (now out) ⌝ }
-    ensures { λ r. ⌜ Wrote (now (out .entry)) 0 (rowsText (now (t .entry)) n (now (ends .entry)) (now (extents .entry)) (now (base .entry)) (now (ruby .entry)) (now (left .entry))) r (now (out .exit)) ⌝ }
+    ensures { λ r. ⌜ Wrote (was out) 0 (rowsText (was t) n (was ends) (was extents) (was base) (was ruby) (was left)) r (now (out .exit)) ⌝ }
 {
     let mut at = put_one(out, 0, b"lines", n as u32);
     let mut s: usize = 0;
@@ -175,7 +176,7 @@ pub fn write_result(
 // A refusal, by the paper's number and place. The answer is the text's length.
 pub fn write_refusal(why: refusal::Refusal, out: &mut [u8]) -> usize
     requires { ⌜ length (refusalText why) ≤ length (now out) ⌝ }
-    ensures { λ r. ⌜ Wrote (now (out .entry)) 0 (refusalText why) r (now (out .exit)) ⌝ }
+    ensures { λ r. ⌜ Wrote (was out) 0 (refusalText why) r (now (out .exit)) ⌝ }
 {
     put_two(
         out,

@@ -5,7 +5,7 @@ use Prim.Native.Nat.{ℕ, suc, _+_, _*_, _^_, _≤_, _<_}
 use native.Mathlib.Nat.{add-zero}
 use native.Mathlib.Numerals.{add-one}
 use native.Mathlib.Omega.{arith}
-use lib.ListN.{length, set, getD, length-set}
+use lib.ListN.{length, set, getD, length-set, length-map}
 use lib.Seq.{sets}
 use Rattle.rows.specs.declared.Part.{Part}
 use Rattle.rows.specs.Section.{countOf, lineOf}
@@ -23,6 +23,10 @@ laid t i step (r ∷ rows) = laid (strided t i step r) (i + 1) step rows
 -- number j of each line
 abbrev pub column : ℕ → List (List ℕ) → List ℕ
 column j rows = map (λ (r : List ℕ). getD r j 0) rows
+
+-- a column is as long as its section
+pub length-column : (j : ℕ) (rows : List (List ℕ)) → length (column j rows) ≡ length rows
+length-column j rows = length-map rows (λ (r : List ℕ). getD r j 0)
 
 -- the table has a place for each of k numbers from `to` on, as far as the sheet can hold them: a number takes two bytes at least
 pub record FieldsReady (s : List ℕ) (from k to step : ℕ) (out : List ℕ) : Type 0 where

@@ -3,6 +3,7 @@
 // so that a field of all lines is one part of the table. It relies on `text` for numbers and words and on `refusal` for what is wrong with a sheet.
 ghost use mathlib.Core.Path.{_≡_};
 ghost use Prim.Native.Nat.{_+_, _<_, _^_};
+ghost use Rattle.basics.specs.Seen.{was};
 ghost use Rattle.text.specs.Text.{stopOf};
 ghost use Rattle.rows.specs.Table.{FieldsReady, RowsReady, SectionReady};
 ghost use Rattle.rows.specs.Section.{headOf, lineOf};
@@ -18,7 +19,7 @@ pub enum Part {
 pub fn stop_of(last: u8, left: usize) -> u8
     ensures { λ r. ⌜ r ≡ stopOf last left ⌝ }
 {
-    if left == 0 { last } else { 32 }
+    if left == 0 { last } else { b' ' }
 }
 
 // k numbers, the last ended by the byte `last`; the i-th goes to `to + i * step`.
@@ -32,7 +33,7 @@ pub fn fields_at(
     step: usize,
 ) -> text::Place
     requires { ⌜ FieldsReady (now s) from k to step (now out) ⌝ }
-    ensures { λ r. ⌜ FieldsRead last k (now (s .entry)) from to step (now (out .entry)) r (now (out .exit)) ⌝ }
+    ensures { λ r. ⌜ FieldsRead last k (was s) from to step (was out) r (now (out .exit)) ⌝ }
 {
     let mut at = from;
     let mut p = to;
@@ -52,7 +53,7 @@ pub fn fields_at(
 // The lines under a section's first line, into the columns of its table.
 pub fn rows_at(s: &[u8], head: Part, k: usize, most: usize, out: &mut [u32]) -> Part
     requires { ⌜ RowsReady k most head (now out) ⌝ }
-    ensures { λ r. ⌜ RowsRead k most (now (s .entry)) head (now (out .entry)) r (now (out .exit)) ⌝ }
+    ensures { λ r. ⌜ RowsRead k most (was s) head (was out) r (now (out .exit)) ⌝ }
 {
     let Part::Read(n, from, first) = head else {
         return head;
@@ -61,7 +62,7 @@ pub fn rows_at(s: &[u8], head: Part, k: usize, most: usize, out: &mut [u32]) -> 
     let mut line = first;
     let mut i: usize = 0;
     while i < n {
-        let text::Place::At(next) = fields_at(s, at, 10, k, out, i, most) else {
+        let text::Place::At(next) = fields_at(s, at, b'\n', k, out, i, most) else {
             return Part::Refused(refusal::Refusal::Form(line));
         };
         at = next;
@@ -74,7 +75,7 @@ pub fn rows_at(s: &[u8], head: Part, k: usize, most: usize, out: &mut [u32]) -> 
 // The line that begins a section, after the part before: its word, its count and LF. "Within a line form comes before count."
 pub fn head_at(s: &[u8], last: Part, w: &[u8], most: u32, which: u32) -> Part
     requires { ⌜ lineOf last + 1 < 2 ^ 32 ⌝ }
-    ensures { λ r. ⌜ r ≡ headOf (now (w .entry)) most which (now (s .entry)) last ⌝ }
+    ensures { λ r. ⌜ r ≡ headOf (was w) most which (was s) last ⌝ }
 {
     let Part::Read(_, at, line) = last else {
         return last;
@@ -82,7 +83,7 @@ pub fn head_at(s: &[u8], last: Part, w: &[u8], most: u32, which: u32) -> Part
     let text::Place::At(p) = text::read_word(s, at, w) else {
         return Part::Refused(refusal::Refusal::Form(line));
     };
-    let text::Number::Is(n, next) = text::read_number(s, p, 10) else {
+    let text::Number::Is(n, next) = text::read_number(s, p, b'\n') else {
         return Part::Refused(refusal::Refusal::Form(line));
     };
     if most < n {
@@ -102,7 +103,7 @@ pub fn section_at(
     out: &mut [u32],
 ) -> Part
     requires { ⌜ SectionReady k most last (now out) ⌝ }
-    ensures { λ r. ⌜ SectionRead (now (w .entry)) k most which (now (s .entry)) last (now (out .entry)) r (now (out .exit)) ⌝ }
+    ensures { λ r. ⌜ SectionRead (was w) k most which (was s) last (was out) r (now (out .exit)) ⌝ }
 {
     rows_at(s, head_at(s, last, w, most, which), k, most as usize, out)
 }

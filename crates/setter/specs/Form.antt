@@ -21,7 +21,8 @@ use Rattle.job.specs.Refusals.{fault}
 use Rattle.job.specs.Order.{given-first}
 use Rattle.result.specs.Text.{lineTwo, refusalText}
 use Rattle.result.specs.Refused.{refused-is, no-refusal}
-use Rattle.setter.specs.Answer.{setText, textBy, jobText, sheetJob, answerBy, answerText}
+use Rattle.sheet_job.specs.Tables.{sheetJob}
+use Rattle.setter.specs.Answer.{setText, textBy, jobText, answerBy, answerText}
 use Rattle.setter.specs.Given.{Given, by-sheet, by-job, thirteen-by, two-by, twelve-by}
 
 set-other : (job : Job) (n p : ℕ) → setText job ≡ lineTwo (bytes "refused") n p → ⊥

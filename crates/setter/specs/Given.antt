@@ -23,7 +23,7 @@ use Rattle.sheet.specs.Place.{over-most}
 use Rattle.door.specs.Job.{Job}
 use Rattle.job.specs.Table.{First}
 use Rattle.result.specs.Text.{lineTwo, refusalText}
-use Rattle.setter.specs.Answer.{sheetJob}
+use Rattle.sheet_job.specs.Tables.{sheetJob}
 use Rattle.setter.specs.Sheet.{no-count, no-short}
 
 -- why a sheet gets the number n and a place that is written as p is

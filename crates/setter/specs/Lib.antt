@@ -1,4 +1,5 @@
 pub mod Answer
+pub mod Seen
 pub mod Over
 pub mod Tell
 pub mod Printed

@@ -10,7 +10,7 @@ use Rattle.elements.specs.Print.{Right, M, G, J, none, Entry, P, word, Fit, let
 use Rattle.sheet.specs.Form.{Written, InForm, Shown, sheetOf}
 use Rattle.spread.specs.Ratio.{usualLists}
 use Rattle.door.specs.Job.{jobOf}
-use Rattle.setter.specs.Answer.{sheetJob}
+use Rattle.sheet_job.specs.Tables.{sheetJob}
 
 uncounted : (r : Right) → leftCount r none ≡ 0
 unfolding leftCount

@@ -9,10 +9,10 @@ use native.Mathlib.Nat.{le-trans, min-le-left}
 use native.Mathlib.Omega.{arith}
 use borrow.Author.Tests.{ltb-true}
 use lib.Dec.{ltb}
-use lib.ListN.{length, getD, length-map}
+use lib.ListN.{length}
 use Rattle.refusal.specs.declared.Refusal.{Refusal}
 use Rattle.refusal.specs.declared.Refusal.the-variants.{Count, Short, Form}
-use Rattle.rows.specs.Table.{column}
+use Rattle.rows.specs.Table.{length-column}
 use Rattle.elements.specs.declared.SheetForm.{SheetForm}
 use Rattle.sheet.specs.declared.Counts.{Counts}
 use Rattle.sheet.specs.declared.Reading.the-variants.{Sound}
@@ -26,17 +26,14 @@ use Rattle.job.specs.Table.{Row}
 use Rattle.job.specs.Outcome.{Outcome, outcome}
 use Rattle.job.specs.Demands.{refused-exactly}
 use Rattle.result.specs.Text.{resultText, refusalText}
-use Rattle.setter.specs.Answer.{jobText, sheetJob, answerBy, answerText}
+use Rattle.sheet_job.specs.Tables.{sheetJob}
+use Rattle.setter.specs.Answer.{jobText, answerBy, answerText}
 use Rattle.setter.specs.Tell.{refused-text, set-text}
 
 -- what is written of the sheet of some numbers is the text of their job
 pub sheet-answered : (f : SheetForm) (r : Written) → InForm f r → answerText (sheetText f r) ≡ jobText (sheetJob (sheetOf f r)) 1024 2048 2048 1024
 unfolding answerText answerBy sheetOf
 sheet-answered f r form = ap (λ (t : Sheet). answerBy t (t .end)) (sheet-reads (sheetText f r) f r form refl)
-
--- a column is as long as its section
-long : (j : ℕ) (rows : List (List ℕ)) → length (column j rows) ≡ length rows
-long j rows = length-map rows (λ (r : List ℕ). getD r j 0)
 
 module _ (s : List ℕ) (c : Counts) (is : reading s .end ≡ Sound c) where
   abbrev job : Job
@@ -45,19 +42,19 @@ module _ (s : List ℕ) (c : Counts) (is : reading s .end ≡ Sound c) where
   -- the counts of the sheet's job are within their maxima
   pub bases-few : baseCount job ≤ 1024
   unfolding baseCount sheetJob
-  bases-few = le-trans (min-le-left _ _) (omega (arith, long 0 (reading s .base), sound s c is .base .count, sound s c is .base .few))
+  bases-few = le-trans (min-le-left _ _) (omega (arith, length-column 0 (reading s .base), sound s c is .base .count, sound s c is .base .few))
 
   pub rubies-few : rubyCount job ≤ 2048
   unfolding rubyCount sheetJob
-  rubies-few = le-trans (min-le-left _ _) (omega (arith, long 0 (reading s .ruby), sound s c is .ruby .count, sound s c is .ruby .few))
+  rubies-few = le-trans (min-le-left _ _) (omega (arith, length-column 0 (reading s .ruby), sound s c is .ruby .count, sound s c is .ruby .few))
 
   pub elements-few : elementCount job ≤ 1024
   unfolding elementCount sheetJob
-  elements-few = le-trans (min-le-left _ _) (omega (arith, long 0 (reading s .elem), sound s c is .elem .count, sound s c is .elem .few))
+  elements-few = le-trans (min-le-left _ _) (omega (arith, length-column 0 (reading s .elem), sound s c is .elem .count, sound s c is .elem .few))
 
   pub lefts-few : leftCount job ≤ 2048
   unfolding leftCount sheetJob
-  lefts-few = le-trans (min-le-left _ _) (omega (arith, long 0 (reading s .left), sound s c is .left .count, sound s c is .left .few))
+  lefts-few = le-trans (min-le-left _ _) (omega (arith, length-column 0 (reading s .left), sound s c is .left .count, sound s c is .left .few))
 
   -- so the refusal list gives it no 2, and no 12 where the result lists have the maximum lengths; 13 is the sheet's own
   module _ (base ruby left lines : ℕ) where

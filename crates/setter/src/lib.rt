@@ -1,149 +1,22 @@
 // A job sheet in, its answer out (document 01, "The job sheet": "reads a sheet .. and writes `refused N P`, or a result"; document 02, R-6, for its second form): bytes to bytes, and nothing is asked
-// of the caller. The tables are lent, so that a program says once how large they are; what each holds afterwards is part of the contract. It relies on `sheet` for the reading, on `engine` for
-// the job and on `result` for the text.
+// of the caller. The tables are lent, so that a program says once how large they are; what each holds afterwards is part of the contract. It relies on `sheet` for the reading, on `sheet_job`
+// for the job's lines, on `positions` for what stands in them and on `result` for the text.
 ghost use Prim.Native.Nat.{_≤_};
 ghost use lib.ListN.{length};
-ghost use Rattle.door.specs.Job.{jobOf};
+ghost use Rattle.basics.specs.Seen.{was};
+ghost use Rattle.sheet.specs.Seen.{tablesNow, tablesWas};
+ghost use Rattle.setter.specs.Seen.{listsNow, listsWas, Answers};
 ghost use Rattle.sheet.specs.Sheet.{tables};
 ghost use Rattle.result.specs.Short.{longest};
-ghost use Rattle.setter.specs.Answer.{lists, Told, ElementsLong, TablesLong, elementsJob, tablesJob, Fits, Answered};
+ghost use Rattle.sheet_job.specs.Tables.{TablesLong, tablesJob};
+ghost use Rattle.setter.specs.Answer.{ListsLong, Told, Fits};
 
-// Sets a job in lists and writes its text.
-fn set_lists(
-    em: u32,
-    measure: u32,
-    ratios: [[u32; 3]; 2],
-    profile: u32,
-    class: &[u32],
-    width: &[u32],
-    before: &[u32],
-    after: &[u32],
-    flag: &[u32],
-    rclass: &[u32],
-    rwidth: &[u32],
-    lclass: &[u32],
-    lwidth: &[u32],
-    kind: &[u32],
-    ebase: &[u32],
-    eruby: &[u32],
-    lkind: &[u32],
-    eleft: &[u32],
-    runs: &[u32],
-    lruns: &[u32],
-    base: &mut [u32],
-    ruby: &mut [u32],
-    left: &mut [u32],
-    lines: &mut [u32],
-    out: &mut [u8],
-) -> usize
-    requires { ⌜ longest ≤ length (now out) ⌝ }
-    ensures { λ r. let job = jobOf em measure ratios profile (now (class .entry)) (now (width .entry)) (now (before .entry)) (now (after .entry)) (now (flag .entry)) (now (rclass .entry)) (now (rwidth .entry)) (now (lclass .entry)) (now (lwidth .entry)) (now (kind .entry)) (now (ebase .entry)) (now (eruby .entry)) (now (lkind .entry)) (now (eleft .entry)) (now (runs .entry)) (now (lruns .entry)) in ⌜ Told job (lists (now (base .entry)) (now (ruby .entry)) (now (left .entry)) (now (lines .entry))) (now (out .entry)) r (lists (now (base .exit)) (now (ruby .exit)) (now (left .exit)) (now (lines .exit))) (now (out .exit)) ⌝ }
-{
-    let mut t = [0; 27655];
-    let mut ends = [0; 1024];
-    let mut extents = [0; 1024];
-    match engine::set_table(
-        &mut t,
-        &mut ends,
-        &mut extents,
-        em,
-        measure,
-        ratios,
-        profile,
-        class,
-        width,
-        before,
-        after,
-        flag,
-        rclass,
-        rwidth,
-        lclass,
-        lwidth,
-        kind,
-        ebase,
-        eruby,
-        lkind,
-        eleft,
-        runs,
-        lruns,
-        base,
-        ruby,
-        left,
-        lines,
-    ) {
-        job::Answer::Refused(why) => result::write_refusal(why, out),
-        job::Answer::Set(n) => result::write_result(&t, n, &ends, &extents, base, ruby, left, out),
-    }
-}
-
-// The same, where left characters, elements and runs stand in tables: class and width of left characters 2,048 apart; kind, base count, ruby count, left kind and left count of elements 1,024 apart.
-fn set_elements(
-    em: u32,
-    measure: u32,
-    ratios: [[u32; 3]; 2],
-    profile: u32,
-    class: &[u32],
-    width: &[u32],
-    before: &[u32],
-    after: &[u32],
-    flag: &[u32],
-    rclass: &[u32],
-    rwidth: &[u32],
-    n: sheet::Counts,
-    left: &[u32],
-    elem: &[u32],
-    runs: &[u32],
-    lruns: &[u32],
-    bases: &mut [u32],
-    rubies: &mut [u32],
-    lefts: &mut [u32],
-    lines: &mut [u32],
-    out: &mut [u8],
-) -> usize
-    requires { ⌜ ElementsLong n (now left) (now elem) (now runs) (now lruns) ⌝ }
-    requires { ⌜ longest ≤ length (now out) ⌝ }
-    ensures { λ r. let job = elementsJob em measure ratios profile (now (class .entry)) (now (width .entry)) (now (before .entry)) (now (after .entry)) (now (flag .entry)) (now (rclass .entry)) (now (rwidth .entry)) n (now (left .entry)) (now (elem .entry)) (now (runs .entry)) (now (lruns .entry)) in ⌜ Told job (lists (now (bases .entry)) (now (rubies .entry)) (now (lefts .entry)) (now (lines .entry))) (now (out .entry)) r (lists (now (bases .exit)) (now (rubies .exit)) (now (lefts .exit)) (now (lines .exit))) (now (out .exit)) ⌝ }
-{
-    let l = n.lefts;
-    let l1 = 2048 + l;
-    let e = n.elements;
-    let e1 = 1024 + e;
-    let e2 = 2048 + e;
-    let e3 = 3072 + e;
-    let e4 = 4096 + e;
-    let u = n.runs;
-    let v = n.lruns;
-    set_lists(
-        em,
-        measure,
-        ratios,
-        profile,
-        class,
-        width,
-        before,
-        after,
-        flag,
-        rclass,
-        rwidth,
-        &left[0..l],
-        &left[2048..l1],
-        &elem[0..e],
-        &elem[1024..e1],
-        &elem[2048..e2],
-        &elem[3072..e3],
-        &elem[4096..e4],
-        &runs[0..u],
-        &lruns[0..v],
-        bases,
-        rubies,
-        lefts,
-        lines,
-        out,
-    )
-}
-
-// The job that the tables hold, column by column (`sheet::read_sheet`).
-pub fn set_tables(
+// Sets the job that the tables hold, column by column (`sheet::read_sheet`), and writes its text: `refused N P`, or the positions that it puts into the result lists. The first three lists are scratch:
+// the job's rows, and the ends and extents of its lines.
+fn set_tables(
+    t: &mut [u32; engine::TABLE],
+    ends: &mut [u32; limits::MOST_BASES],
+    extents: &mut [u32; limits::MOST_BASES],
     n: sheet::Counts,
     set: &[u32],
     base: &[u32],
@@ -158,77 +31,91 @@ pub fn set_tables(
     lines: &mut [u32],
     out: &mut [u8],
 ) -> usize
-    requires { ⌜ TablesLong n (tables (now set) (now base) (now ruby) (now left) (now elem) (now runs) (now lruns)) ⌝ }
+    requires { ⌜ TablesLong n (tablesNow set base ruby left elem runs lruns) ⌝ }
+    requires { ⌜ ListsLong (listsNow bases rubies lefts lines) ⌝ }
     requires { ⌜ longest ≤ length (now out) ⌝ }
-    ensures { λ r. let job = tablesJob n (tables (now (set .entry)) (now (base .entry)) (now (ruby .entry)) (now (left .entry)) (now (elem .entry)) (now (runs .entry)) (now (lruns .entry))) in ⌜ Told job (lists (now (bases .entry)) (now (rubies .entry)) (now (lefts .entry)) (now (lines .entry))) (now (out .entry)) r (lists (now (bases .exit)) (now (rubies .exit)) (now (lefts .exit)) (now (lines .exit))) (now (out .exit)) ⌝ }
+    ensures { λ r. let job = tablesJob n (tablesWas set base ruby left elem runs lruns) in ⌜ Told job (listsWas bases rubies lefts lines) (was out) r (listsNow (bases .exit) (rubies .exit) (lefts .exit) (lines .exit)) (now (out .exit)) ⌝ }
 {
-    let b = n.bases;
-    let b1 = 1024 + b;
-    let b2 = 2048 + b;
-    let b3 = 3072 + b;
-    let b4 = 4096 + b;
-    let r = n.rubies;
-    let r1 = 2048 + r;
-    set_elements(
-        set[0],
-        set[1],
-        [[set[2], set[3], set[4]], [set[5], set[6], set[7]]],
-        set[8],
-        &base[0..b],
-        &base[1024..b1],
-        &base[2048..b2],
-        &base[3072..b3],
-        &base[4096..b4],
-        &ruby[0..r],
-        &ruby[2048..r1],
+    let em = set[0];
+    let b = limits::BASE_WIDTH + n.bases;
+    let r = limits::RUBY_WIDTH + n.rubies;
+    let l = limits::LEFT_WIDTH + n.lefts;
+    match sheet_job::fill_tables(
+        t,
+        ends,
+        extents,
         n,
+        set,
+        base,
+        ruby,
         left,
         elem,
         runs,
         lruns,
-        bases,
-        rubies,
-        lefts,
-        lines,
-        out,
-    )
+    ) {
+        filling::Lines::Refused(why) => result::write_refusal(why, out),
+        filling::Lines::Filled(k) => {
+            positions::put_lines(
+                t,
+                k,
+                ends,
+                em,
+                &base[limits::BASE_WIDTH..b],
+                &ruby[limits::RUBY_WIDTH..r],
+                &left[limits::LEFT_WIDTH..l],
+                bases,
+                rubies,
+                lefts,
+            );
+            positions::put_ends(k, ends, lines);
+            result::write_result(t, k, ends, extents, bases, rubies, lefts, out)
+        }
+    }
 }
 
 // Sets a sheet of either form. The answer is how many bytes of `out` its text has: `refused N P`, or the result.
 pub fn set_sheet(
     s: &[u8],
-    set: &mut [u32; 9],
-    base: &mut [u32; 5120],
-    ruby: &mut [u32; 4096],
-    left: &mut [u32; 4096],
-    elem: &mut [u32; 5120],
-    runs: &mut [u32; 32768],
-    lruns: &mut [u32; 32768],
-    bases: &mut [u32; 1024],
-    rubies: &mut [u32; 2048],
-    lefts: &mut [u32; 2048],
-    lines: &mut [u32; 1024],
-    out: &mut [u8; 131072],
+    set: &mut [u32; limits::SET],
+    base: &mut [u32; limits::BASE_TABLE],
+    ruby: &mut [u32; limits::RUBY_TABLE],
+    left: &mut [u32; limits::LEFT_TABLE],
+    elem: &mut [u32; limits::ELEMENT_TABLE],
+    runs: &mut [u32; limits::RUNS],
+    lruns: &mut [u32; limits::RUNS],
+    bases: &mut [u32; limits::MOST_BASES],
+    rubies: &mut [u32; limits::MOST_RUBIES],
+    lefts: &mut [u32; limits::MOST_LEFTS],
+    lines: &mut [u32; limits::MOST_BASES],
+    out: &mut [u8; limits::ANSWER],
 ) -> usize
-    ensures { λ r. ⌜ Answered (now (s .entry)) (tables (now (set .entry)) (now (base .entry)) (now (ruby .entry)) (now (left .entry)) (now (elem .entry)) (now (runs .entry)) (now (lruns .entry))) (lists (now (bases .entry)) (now (rubies .entry)) (now (lefts .entry)) (now (lines .entry))) (now (out .entry)) r (tables (now (set .exit)) (now (base .exit)) (now (ruby .exit)) (now (left .exit)) (now (elem .exit)) (now (runs .exit)) (now (lruns .exit))) (lists (now (bases .exit)) (now (rubies .exit)) (now (lefts .exit)) (now (lines .exit))) (now (out .exit)) ⌝ }
+    ensures { λ r. ⌜ Answers s (tablesWas set base ruby left elem runs lruns) (listsWas bases rubies lefts lines) out r (tablesNow (set .exit) (base .exit) (ruby .exit) (left .exit) (elem .exit) (runs .exit) (lruns .exit)) (listsNow (bases .exit) (rubies .exit) (lefts .exit) (lines .exit)) ⌝ }
     ensures { λ r. ⌜ Fits r (now (out .exit)) ⌝ }
 {
     match sheet::read_sheet(s, set, base, ruby, left, elem, runs, lruns) {
         sheet::Reading::Refused(why) => result::write_refusal(why, out),
-        sheet::Reading::Sound(n) => set_tables(
-            n,
-            set,
-            base,
-            ruby,
-            left,
-            elem,
-            runs,
-            lruns,
-            bases,
-            rubies,
-            lefts,
-            lines,
-            out,
-        ),
+        sheet::Reading::Sound(n) => {
+            let mut t = [0; engine::TABLE];
+            let mut ends = [0; limits::MOST_BASES];
+            let mut extents = [0; limits::MOST_BASES];
+            set_tables(
+                &mut t,
+                &mut ends,
+                &mut extents,
+                n,
+                set,
+                base,
+                ruby,
+                left,
+                elem,
+                runs,
+                lruns,
+                bases,
+                rubies,
+                lefts,
+                lines,
+                out,
+            )
+        }
     }
 }

@@ -21,7 +21,7 @@ use Rattle.sheet.specs.Breaks.{Breaks}
 use Rattle.sheet.specs.Reads.{SheetIs, broken, over, stands, sheet-is, sheet-reads, over-reads, breaks-reads}
 use Rattle.sheet.specs.Cases.{example, exampleTwo}
 
-column-singles : (vs : List ℕ) → column 0 (singles vs) ≡ vs
+pub column-singles : (vs : List ℕ) → column 0 (singles vs) ≡ vs
 column-singles [] = refl
 column-singles (v ∷ vs) = ap {B = List ℕ} (λ l. v ∷ l) (column-singles vs)
 

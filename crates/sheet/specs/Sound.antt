@@ -1,7 +1,7 @@
 -- A sound sheet: its counts are those of the lines that were read, each within its maximum, and every line has all its numbers. So it is said once for both forms: a sound sheet is the text of numbers
 -- in form, and what is read of it are these.
-use mathlib.Core.List.{List, [], _∷_, _++_}
-use mathlib.Core.Path.{_≡_, refl, _∙_, ap, sym}
+use mathlib.Core.List.{List, _∷_, _++_}
+use mathlib.Core.Path.{_≡_, _∙_, ap, sym}
 use Prim.Native.Nat.{ℕ, suc, _≤_}
 use native.Mathlib.Omega.{arith}
 use lib.ListN.{length, length-append}
@@ -10,7 +10,7 @@ use Rattle.rows.specs.Print.{headText}
 use Rattle.rows.specs.Chain.{chainText}
 use Rattle.elements.specs.declared.SheetForm.{SheetForm}
 use Rattle.elements.specs.declared.SheetForm.the-variants.{One, Two}
-use Rattle.elements.specs.Print.{Entry, elementsText, elemText, rowsOf, allRuns, allLeft}
+use Rattle.elements.specs.Print.{elementsText, elemText, rows-many, rows-wide, allRuns, allLeft}
 use Rattle.elements.specs.Printed.{elements-long}
 use Rattle.sheet.specs.declared.Counts.{Counts}
 use Rattle.sheet.specs.declared.Reading.the-variants.{Sound}
@@ -47,11 +47,6 @@ unfolding Shown
 few-left One r h = rw (h .1) (omega arith, tt)
 few-left Two r h = (h .2 .few, h .2 .wide)
 
-five-wide : (es : List Entry) → (length (rowsOf es) ≡ length es) × All (λ (r : List ℕ). length r ≡ 5) (rowsOf es)
-unfolding rowsOf
-five-wide [] = (refl, tt)
-five-wide (e ∷ es) = (ap suc (five-wide es .0), (refl, five-wide es .1))
-
 -- a run takes two bytes of the sheet at least
 few-runs : (f : SheetForm) (r : Written) → InForm f r → (length (allRuns (r .elem)) ≤ 32768) × (length (allLeft (r .elem)) ≤ 32768)
 unfolding sheetText elemText
@@ -75,14 +70,13 @@ sound-of f r form c e =
     let runs : c .runs ≡ length (allRuns (r .elem)) = cc in
     let lruns : c .lruns ≡ length (allLeft (r .elem)) = cc in
     let l = few-left f r (form .shown) in
-    let w = five-wide (r .elem) in
     let u = few-runs f r form in
     record {
       set = record { count = single-count (r .em ∷ (r .measure ∷ r .house)) ∙ nine-numbers f r (form .shown); few = omega arith; wide = single-wide (r .em ∷ (r .measure ∷ r .house)) };
       base = record { count = sym bases; few = omega (arith, form .base .few); wide = form .base .wide };
       ruby = record { count = sym rubies; few = omega (arith, form .ruby .few); wide = form .ruby .wide };
       left = record { count = sym lefts; few = omega (arith, l .0); wide = l .1 };
-      elem = record { count = w .0 ∙ sym elements; few = omega (arith, form .elem .few); wide = w .1 };
+      elem = record { count = rows-many (r .elem) ∙ sym elements; few = omega (arith, form .elem .few); wide = rows-wide (r .elem) };
       runs = sym runs;
       fewRuns = omega (arith, u .0);
       lruns = sym lruns;

@@ -2,9 +2,20 @@
 // reading ended. "The sheet is read top to bottom and the first fault met .. is given"; a table holds what was read before it. The tables are the same for both forms, so that those above need
 // not know the form. Nothing is asked of the caller. It relies on `rows` for the sections of numbers, on `elements` for the section `elem`, on `text` for words and on `refusal`.
 ghost use mathlib.Core.Path.{_≡_};
+ghost use Rattle.basics.specs.Seen.{was};
+ghost use Rattle.sheet.specs.Seen.{tablesNow, tablesWas};
 ghost use Rattle.rows.specs.Section.{countOf};
 ghost use Rattle.rows.specs.Table.{laid};
-ghost use Rattle.sheet.specs.Sheet.{opening, formBy, house, leftHead, LineFits, endOf, tables, Into};
+ghost use Rattle.sheet.specs.Sheet.{opening, formBy, house, leftHead, LineFits, endOf, Into};
+
+// The most rows of a section, as its head counts them.
+const MOST_BASES: u32 = limits::MOST_BASES as u32;
+
+const MOST_RUBIES: u32 = limits::MOST_RUBIES as u32;
+
+const MOST_LEFTS: u32 = limits::MOST_LEFTS as u32;
+
+const MOST_ELEMENTS: u32 = limits::MOST_ELEMENTS as u32;
 
 // How many base characters, ruby characters, left characters, elements, runs and left runs a sheet has.
 pub struct Counts {
@@ -24,9 +35,9 @@ pub enum Reading {
 
 // "Over-length comes before both"; then the fixed text `set 2`, or "Form two begins with `set 9`".
 fn opening_of(s: &[u8]) -> rows::Part
-    ensures { λ r. ⌜ r ≡ opening (now (s .entry)) ⌝ }
+    ensures { λ r. ⌜ r ≡ opening (was s) ⌝ }
 {
-    if 65535 < s.len() {
+    if limits::SHEET < s.len() {
         return rows::Part::Refused(refusal::Refusal::Form(0));
     }
     let text::Place::At(p) = text::read_word(s, 0, b"set 2\n") else {
@@ -59,8 +70,8 @@ fn form_of(set: rows::Part) -> elements::SheetForm
 }
 
 // What form one does not show behind em and measure: both ratios 1:2:1, and profile 0.
-fn put_house(set: rows::Part, numbers: &mut [u32; 9])
-    ensures { λ _. ⌜ now (numbers .exit) ≡ laid (now (numbers .entry)) 2 9 (house set) ⌝ }
+fn put_house(set: rows::Part, numbers: &mut [u32; limits::SET])
+    ensures { λ _. ⌜ now (numbers .exit) ≡ laid (was numbers) 2 9 (house set) ⌝ }
 {
     if count_of(set) == 2 {
         numbers[2] = 1;
@@ -76,10 +87,10 @@ fn put_house(set: rows::Part, numbers: &mut [u32; 9])
 // The first line of the section `left`; form one has none, and no left characters.
 fn left_head(s: &[u8], form: elements::SheetForm, last: rows::Part) -> rows::Part
     requires { ⌜ LineFits last ⌝ }
-    ensures { λ r. ⌜ r ≡ leftHead form (now (s .entry)) last ⌝ }
+    ensures { λ r. ⌜ r ≡ leftHead form (was s) last ⌝ }
 {
     match form {
-        elements::SheetForm::Two => rows::head_at(s, last, b"left ", 2048, 3),
+        elements::SheetForm::Two => rows::head_at(s, last, b"left ", MOST_LEFTS, 3),
         elements::SheetForm::One => match last {
             rows::Part::Read(_, at, line) => rows::Part::Read(0, at, line),
             rows::Part::Refused(why) => rows::Part::Refused(why),
@@ -95,7 +106,7 @@ fn ending(
     left: rows::Part,
     elem: elements::Elements,
 ) -> Reading
-    ensures { λ r. ⌜ r ≡ endOf (now (s .entry)) base ruby left elem ⌝ }
+    ensures { λ r. ⌜ r ≡ endOf (was s) base ruby left elem ⌝ }
 {
     match elem {
         elements::Elements::Refused(why) => Reading::Refused(why),
@@ -121,25 +132,25 @@ fn ending(
 // 4096 + i of `elem`. `runs` holds the runs of all J elements in order, `lruns` the left runs.
 pub fn read_sheet(
     s: &[u8],
-    set: &mut [u32; 9],
-    base: &mut [u32; 5120],
-    ruby: &mut [u32; 4096],
-    left: &mut [u32; 4096],
-    elem: &mut [u32; 5120],
-    runs: &mut [u32; 32768],
-    lruns: &mut [u32; 32768],
+    set: &mut [u32; limits::SET],
+    base: &mut [u32; limits::BASE_TABLE],
+    ruby: &mut [u32; limits::RUBY_TABLE],
+    left: &mut [u32; limits::LEFT_TABLE],
+    elem: &mut [u32; limits::ELEMENT_TABLE],
+    runs: &mut [u32; limits::RUNS],
+    lruns: &mut [u32; limits::RUNS],
 ) -> Reading
-    ensures { λ r. ⌜ Into (now (s .entry)) (tables (now (set .entry)) (now (base .entry)) (now (ruby .entry)) (now (left .entry)) (now (elem .entry)) (now (runs .entry)) (now (lruns .entry))) r (tables (now (set .exit)) (now (base .exit)) (now (ruby .exit)) (now (left .exit)) (now (elem .exit)) (now (runs .exit)) (now (lruns .exit))) ⌝ }
+    ensures { λ r. ⌜ Into (was s) (tablesWas set base ruby left elem runs lruns) r (tablesNow (set .exit) (base .exit) (ruby .exit) (left .exit) (elem .exit) (runs .exit) (lruns .exit)) ⌝ }
 {
     let o = opening_of(s);
     let form = form_of(o);
-    let a = rows::rows_at(s, o, 1, 9, set);
+    let a = rows::rows_at(s, o, 1, limits::SET, set);
     put_house(a, set);
-    let b = rows::section_at(s, a, b"base ", 5, 1024, 0, base);
-    let c = rows::section_at(s, b, b"ruby ", 2, 2048, 1, ruby);
+    let b = rows::section_at(s, a, b"base ", 5, MOST_BASES, 0, base);
+    let c = rows::section_at(s, b, b"ruby ", 2, MOST_RUBIES, 1, ruby);
     let g = left_head(s, form, c);
-    let l = rows::rows_at(s, g, 2, 2048, left);
-    let h = rows::head_at(s, l, b"elem ", 1024, 2);
+    let l = rows::rows_at(s, g, 2, limits::MOST_LEFTS, left);
+    let h = rows::head_at(s, l, b"elem ", MOST_ELEMENTS, 2);
     let d = elements::elements_at(s, form, h, elem, runs, lruns);
     ending(s, b, c, l, d)
 }

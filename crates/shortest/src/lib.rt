@@ -5,6 +5,7 @@
 ghost use mathlib.Core.Path.{_≡_};
 ghost use mathlib.Core.Bool.{true};
 ghost use Prim.Native.Nat.{_-_, _<_, min};
+ghost use Rattle.basics.specs.Seen.{was};
 ghost use Rattle.line.specs.Setting as setting;
 ghost use Rattle.cells.specs.Cells.{cellAt};
 ghost use Rattle.cells.specs.Sound.{Sound};
@@ -25,7 +26,7 @@ fn lesser(st: line::State, least: u32) -> u32
 // The least extent once each inner break of the J from i on is tried, after a line of the state st: a line may end "between any two base characters of a J".
 fn within(t: &[u32], n: usize, i: usize, bases: usize, st: line::State, least: u32, em: u32) -> u32
     requires { ⌜ (Stands em (now t) n i st) × (bases ≡ cellAt (now t) i .bases) × (cellAt (now t) i .cut ≡ true) ⌝ }
-    ensures { λ r. ⌜ r ≡ innerLeast em (now (t .entry)) st i least (bases - 1) ⌝ }
+    ensures { λ r. ⌜ r ≡ innerLeast em (was t) st i least (bases - 1) ⌝ }
 {
     let mut k: usize = 1;
     let mut found = least;
@@ -49,7 +50,7 @@ fn least_behind(
     em: u32,
 ) -> u32
     requires { ⌜ Stands em (now t) n i st ⌝ }
-    ensures { λ r. ⌜ r ≡ behind em (now (t .entry)) n i st next least ⌝ }
+    ensures { λ r. ⌜ r ≡ behind em (was t) n i st next least ⌝ }
 {
     let a = cells::cell_at(t, i);
     let bases = a.bases as usize;
@@ -69,7 +70,7 @@ fn least_behind(
 // The extent that the shortest permitted line from base character s has, of a table of n rows.
 pub fn needed_extent(t: &[u32], n: usize, s: usize, em: u32) -> u32
     requires { ⌜ (Sound em (now t) n) × (s < n) ⌝ }
-    ensures { λ r. ⌜ r ≡ neededOf em (now (t .entry)) n s ⌝ }
+    ensures { λ r. ⌜ r ≡ neededOf em (was t) n s ⌝ }
 {
     let mut st = line::START;
     let mut i = s;

@@ -3,6 +3,7 @@
 // loop then writes the starts of any string. It relies on `basics` alone and knows nothing of kinds, elements or lines.
 ghost use mathlib.Core.Path.{_≡_};
 ghost use Prim.Native.Nat.{_-_, _*_, _/_, _≤_, _<_};
+ghost use Rattle.basics.specs.Seen.{was};
 ghost use Rattle.spread.specs.Worded.{whole, held};
 ghost use Rattle.spread.specs.Ratio.{ratioFor, ratiosOf, Sound, Housed};
 ghost use Rattle.spread.specs.Gap.{gapsBy, gaps, starts};
@@ -142,7 +143,7 @@ pub fn gaps_of(which: Which, way: Way, ratios: [[u32; 3]; 2], em: u32, d: u32, n
 // unit more (specs/Carried.antt). One loop serves solid and spread.
 pub fn put_starts(ws: &[u32], at: u32, within: u32, out: &mut [u32])
     requires { ⌜ Ready within at (now ws) (now out) ⌝ }
-    ensures { λ _. ⌜ now (out .exit) ≡ starts within at (now (ws .entry)) ⌝ }
+    ensures { λ _. ⌜ now (out .exit) ≡ starts within at (was ws) ⌝ }
 {
     let n = ws.len();
     if n == 0 {

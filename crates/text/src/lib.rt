@@ -6,6 +6,7 @@ pub mod print;
 ghost use mathlib.Core.Path.{_≡_};
 ghost use Prim.Native.Nat.{_≤_};
 ghost use lib.ListN.{length, drop};
+ghost use Rattle.basics.specs.Seen.{was};
 ghost use Rattle.text.specs.Determined.{Opened};
 ghost use Rattle.text.specs.Text.{number as numberIn, more as moreIn, alone as aloneIn, word as wordIn};
 
@@ -36,7 +37,7 @@ fn wide32(b: u8) -> u32
 // More digits of a number, after some that say `first`, up to the byte `stop`.
 fn more(s: &[u8], from: usize, first: u32, stop: u8) -> Number
     requires { ⌜ from ≤ length (now s) ⌝ }
-    ensures { λ r. ⌜ r ≡ moreIn (drop from (now (s .entry))) stop first from ⌝ }
+    ensures { λ r. ⌜ r ≡ moreIn (drop from (was s)) stop first from ⌝ }
 {
     let mut at = from;
     let mut v = first as u64;
@@ -63,7 +64,7 @@ fn more(s: &[u8], from: usize, first: u32, stop: u8) -> Number
 
 // The byte `stop` after a 0: no digit may follow it.
 fn alone(s: &[u8], at: usize, stop: u8) -> Number
-    ensures { λ r. ⌜ r ≡ aloneIn (drop at (now (s .entry))) stop at ⌝ }
+    ensures { λ r. ⌜ r ≡ aloneIn (drop at (was s)) stop at ⌝ }
 {
     if s.len() <= at {
         return Number::Fault;
@@ -77,7 +78,7 @@ fn alone(s: &[u8], at: usize, stop: u8) -> Number
 
 // The number at a place, ended by the byte `stop`.
 fn number_at(s: &[u8], at: usize, stop: u8) -> Number
-    ensures { λ r. ⌜ r ≡ numberIn (drop at (now (s .entry))) stop at ⌝ }
+    ensures { λ r. ⌜ r ≡ numberIn (drop at (was s)) stop at ⌝ }
 {
     if s.len() <= at {
         return Number::Fault;
@@ -97,7 +98,7 @@ fn number_at(s: &[u8], at: usize, stop: u8) -> Number
 
 // The place past a word whose bytes stand at a place.
 fn word_at(s: &[u8], from: usize, w: &[u8]) -> Place
-    ensures { λ r. ⌜ r ≡ wordIn (now (w .entry)) (drop from (now (s .entry))) from ⌝ }
+    ensures { λ r. ⌜ r ≡ wordIn (was w) (drop from (was s)) from ⌝ }
 {
     let mut at = from;
     let mut i = 0;
@@ -134,7 +135,7 @@ impl<'a> Reader<'a> {
     }
 
     pub fn word(self, w: &[u8]) -> Place
-        ensures { λ p. ⌜ p ≡ wordIn (now (w .entry)) (drop (self .entry .at) (now (self .entry .sheet))) (self .entry .at) ⌝ }
+        ensures { λ p. ⌜ p ≡ wordIn (was w) (drop (self .entry .at) (now (self .entry .sheet))) (self .entry .at) ⌝ }
     {
         word_at(self.sheet, self.at, w)
     }
@@ -142,14 +143,14 @@ impl<'a> Reader<'a> {
 
 // A number of a sheet, by way of a reader.
 pub fn read_number(s: &[u8], at: usize, stop: u8) -> Number
-    ensures { λ r. ⌜ r ≡ numberIn (drop at (now (s .entry))) stop at ⌝ }
+    ensures { λ r. ⌜ r ≡ numberIn (drop at (was s)) stop at ⌝ }
 {
     Reader::open(s, at).number(stop)
 }
 
 // The bytes of a word at a place of a sheet, by way of a reader.
 pub fn read_word(s: &[u8], from: usize, w: &[u8]) -> Place
-    ensures { λ r. ⌜ r ≡ wordIn (now (w .entry)) (drop from (now (s .entry))) from ⌝ }
+    ensures { λ r. ⌜ r ≡ wordIn (was w) (drop from (was s)) from ⌝ }
 {
     Reader::open(s, from).word(w)
 }

@@ -3,6 +3,7 @@ ghost use mathlib.Core.Path.{_≡_};
 ghost use mathlib.Core.List.{[], _∷_};
 ghost use Prim.Native.Nat.{_+_, _/_, _%_, _^_, _≤_, _<_};
 ghost use lib.ListN.{length};
+ghost use Rattle.basics.specs.Seen.{was};
 ghost use Rattle.text.specs.Print.{width, decimal, Wrote};
 
 // How many digits n takes.
@@ -52,7 +53,7 @@ fn digit(n: u32, k: usize) -> u8
 // n in decimal.
 pub fn put_number(out: &mut [u8], from: usize, n: u32) -> usize
     requires { ⌜ from + length (decimal n) ≤ length (now out) ⌝ }
-    ensures { λ r. ⌜ Wrote (now (out .entry)) from (decimal n) r (now (out .exit)) ⌝ }
+    ensures { λ r. ⌜ Wrote (was out) from (decimal n) r (now (out .exit)) ⌝ }
 {
     let mut k = width_of(n);
     let mut at = from;
@@ -67,7 +68,7 @@ pub fn put_number(out: &mut [u8], from: usize, n: u32) -> usize
 // One byte.
 pub fn put_byte(out: &mut [u8], at: usize, b: u8) -> usize
     requires { ⌜ at < length (now out) ⌝ }
-    ensures { λ r. ⌜ Wrote (now (out .entry)) at (b ∷ []) r (now (out .exit)) ⌝ }
+    ensures { λ r. ⌜ Wrote (was out) at (b ∷ []) r (now (out .exit)) ⌝ }
 {
     out[at] = b;
     at + 1
@@ -76,7 +77,7 @@ pub fn put_byte(out: &mut [u8], at: usize, b: u8) -> usize
 // The bytes of a word.
 pub fn put_word(out: &mut [u8], from: usize, w: &[u8]) -> usize
     requires { ⌜ from + length (now w) ≤ length (now out) ⌝ }
-    ensures { λ r. ⌜ Wrote (now (out .entry)) from (now (w .entry)) r (now (out .exit)) ⌝ }
+    ensures { λ r. ⌜ Wrote (was out) from (was w) r (now (out .exit)) ⌝ }
 {
     let mut at = from;
     let mut i: usize = 0;

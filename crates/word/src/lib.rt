@@ -7,6 +7,7 @@ ghost use mathlib.Core.Bool.{true, false, not, _&&_, _||_};
 ghost use Prim.Native.Nat.{ℕ, _+_, _-_, _^_, _≤_, _<_};
 ghost use lib.ListN.{length, getD};
 ghost use mathlib.Core.List.{[], map};
+ghost use Rattle.basics.specs.Seen.{was};
 ghost use Rattle.basics.specs.Lists.{sum, any, other};
 ghost use Rattle.spread.specs.declared.Way.the-variants.{Solid};
 ghost use Rattle.spread.specs.Ratio.{Ratios, ratiosOf, Housed};
@@ -148,7 +149,7 @@ fn with_kind(m: Mix, k: class::Kind) -> Mix
 
 // Every character is kana-like.
 fn all_kana(cs: &[u32]) -> bool
-    ensures { λ r. ⌜ not r ≡ any (λ c. not (kanaLike c)) (now (cs .entry)) ⌝ }
+    ensures { λ r. ⌜ not r ≡ any (λ c. not (kanaLike c)) (was cs) ⌝ }
 {
     let mut i: usize = 0;
     while i < cs.len() {
@@ -162,7 +163,7 @@ fn all_kana(cs: &[u32]) -> bool
 
 // The kinds of a string's characters, one by one.
 fn mix_by_kinds(cs: &[u32]) -> Mix
-    ensures { λ r. ⌜ r ≡ mixOf (now (cs .entry)) ⌝ }
+    ensures { λ r. ⌜ r ≡ mixOf (was cs) ⌝ }
 {
     let mut m = Mix {
         kana: false,
@@ -180,7 +181,7 @@ fn mix_by_kinds(cs: &[u32]) -> Mix
 
 // The kinds of a string's characters. Most strings are kana-like throughout.
 fn mix_of(cs: &[u32]) -> Mix
-    ensures { λ r. ⌜ r ≡ mixOf (now (cs .entry)) ⌝ }
+    ensures { λ r. ⌜ r ≡ mixOf (was cs) ⌝ }
 {
     if all_kana(cs) {
         return Mix {
@@ -365,7 +366,7 @@ fn word_by(
     rs: &[u32],
 ) -> Word
     requires { ⌜ (Small (now bs) (now rs)) × (Housed (ratiosOf ratios)) ⌝ }
-    ensures { λ r. ⌜ r ≡ wordBy ruby base (ratiosOf ratios) em (now (bs .entry)) (now (rs .entry)) ⌝ }
+    ensures { λ r. ⌜ r ≡ wordBy ruby base (ratiosOf ratios) em (was bs) (was rs) ⌝ }
 {
     let b = basics::sum_of(bs);
     let r = basics::sum_of(rs);
@@ -376,7 +377,7 @@ fn word_by(
 
 fn group_of(r: Script, b: Script, ratios: [[u32; 3]; 2], em: u32, bs: &[u32], rs: &[u32]) -> Word
     requires { ⌜ (Small (now bs) (now rs)) × (Housed (ratiosOf ratios)) ⌝ }
-    ensures { λ w. ⌜ w ≡ groupWord r b (ratiosOf ratios) em (now (bs .entry)) (now (rs .entry)) ⌝ }
+    ensures { λ w. ⌜ w ≡ groupWord r b (ratiosOf ratios) em (was bs) (was rs) ⌝ }
 {
     let ruby = ruby_way(r, b);
     let base = base_way(r, b);
@@ -386,7 +387,7 @@ fn group_of(r: Script, b: Script, ratios: [[u32; 3]; 2], em: u32, bs: &[u32], rs
 // A J's runs against one em.
 fn runs_in(em: u32, runs: &[u32], ws: &[u32]) -> Runs
     requires { ⌜ (sum (now runs) ≤ length (now ws)) × (sum (now ws) < 2 ^ 32) ⌝ }
-    ensures { λ r. ⌜ r ≡ runsOf em (now (runs .entry)) (now (ws .entry)) ⌝ }
+    ensures { λ r. ⌜ r ≡ runsOf em (was runs) (was ws) ⌝ }
 {
     let mut last: u32 = 0;
     let mut a: usize = 0;
@@ -406,7 +407,7 @@ fn runs_in(em: u32, runs: &[u32], ws: &[u32]) -> Runs
 // The length of a J's first run.
 fn first_run(runs: &[u32], ws: &[u32]) -> u32
     requires { ⌜ (sum (now runs) ≤ length (now ws)) × (sum (now ws) < 2 ^ 32) ⌝ }
-    ensures { λ r. ⌜ r ≡ getD (map sum (split (now (runs .entry)) (now (ws .entry)))) 0 0 ⌝ }
+    ensures { λ r. ⌜ r ≡ getD (map sum (split (was runs) (was ws))) 0 0 ⌝ }
 {
     if runs.len() == 0 {
         return 0;
@@ -424,7 +425,7 @@ fn jukugo_of(
     rs: &[u32],
 ) -> Word
     requires { ⌜ (Small (now bs) (now rs)) × (sum (now runs) ≤ length (now rs)) × (em ≤ sum (now bs)) × (Housed (ratiosOf ratios)) ⌝ }
-    ensures { λ w. ⌜ w ≡ jukugoWord r (ratiosOf ratios) em (now (bs .entry)) (now (runs .entry)) (now (rs .entry)) ⌝ }
+    ensures { λ w. ⌜ w ≡ jukugoWord r (ratiosOf ratios) em (was bs) (was runs) (was rs) ⌝ }
 {
     let b = basics::sum_of(bs);
     match runs_in(em, runs, rs) {
@@ -444,7 +445,7 @@ fn jukugo_of(
 
 // Number 7 of an element with ruby.
 fn blank_inside(before: &[u32], after: &[u32]) -> bool
-    ensures { λ r. ⌜ r ≡ (any (other 0) (now (before .entry)) || any (other 0) (now (after .entry))) ⌝ }
+    ensures { λ r. ⌜ r ≡ (any (other 0) (was before) || any (other 0) (was after)) ⌝ }
 {
     if basics::any_but(0, before) {
         return true;
@@ -479,7 +480,7 @@ pub fn mono_answer(
     rs: &[u32],
 ) -> Answer
     requires { ⌜ (Small (now bs) (now rs)) × (Housed (ratiosOf ratios)) ⌝ }
-    ensures { λ a. ⌜ a ≡ answer Form.M place (record { em = em; ratios = ratiosOf ratios; class = []; width = now (bs .entry); before = now (before .entry); after = now (after .entry); rubyClass = []; rubyWidth = now (rs .entry); run = [] }) ⌝ }
+    ensures { λ a. ⌜ a ≡ answer Form.M place (record { em = em; ratios = ratiosOf ratios; class = []; width = was bs; before = was before; after = was after; rubyClass = []; rubyWidth = was rs; run = [] }) ⌝ }
 {
     if blank_inside(before, after) {
         return Answer::Refused(refusal::Refusal::BlankInside(place));
@@ -502,7 +503,7 @@ pub fn group_answer(
     rs: &[u32],
 ) -> Answer
     requires { ⌜ (Small (now bs) (now rs)) × (Housed (ratiosOf ratios)) ⌝ }
-    ensures { λ a. ⌜ a ≡ answer Form.G place (record { em = em; ratios = ratiosOf ratios; class = now (bc .entry); width = now (bs .entry); before = now (before .entry); after = now (after .entry); rubyClass = now (rc .entry); rubyWidth = now (rs .entry); run = [] }) ⌝ }
+    ensures { λ a. ⌜ a ≡ answer Form.G place (record { em = em; ratios = ratiosOf ratios; class = was bc; width = was bs; before = was before; after = was after; rubyClass = was rc; rubyWidth = was rs; run = [] }) ⌝ }
 {
     if blank_inside(before, after) {
         return Answer::Refused(refusal::Refusal::BlankInside(place));
@@ -535,7 +536,7 @@ pub fn jukugo_answer(
     runs: &[u32],
 ) -> Answer
     requires { ⌜ (Small (now bs) (now rs)) × (sum (now runs) ≤ length (now rs)) × (Housed (ratiosOf ratios)) ⌝ }
-    ensures { λ a. ⌜ a ≡ answer Form.J place (record { em = em; ratios = ratiosOf ratios; class = now (bc .entry); width = now (bs .entry); before = now (before .entry); after = now (after .entry); rubyClass = now (rc .entry); rubyWidth = now (rs .entry); run = now (runs .entry) }) ⌝ }
+    ensures { λ a. ⌜ a ≡ answer Form.J place (record { em = em; ratios = ratiosOf ratios; class = was bc; width = was bs; before = was before; after = was after; rubyClass = was rc; rubyWidth = was rs; run = was runs }) ⌝ }
 {
     if blank_inside(before, after) {
         return Answer::Refused(refusal::Refusal::BlankInside(place));

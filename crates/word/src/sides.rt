@@ -6,6 +6,7 @@ ghost use Prim.Native.Nat.{_+_, _*_, _^_, _≤_, _<_, max};
 ghost use lib.Dec.{leb};
 ghost use lib.ListN.{length};
 ghost use mathlib.Core.List.{[]};
+ghost use Rattle.basics.specs.Seen.{was};
 ghost use Rattle.basics.specs.Lists.{sum, any, other};
 ghost use Rattle.word.specs.Given.{isG, isJ, hasRuby};
 ghost use Rattle.word.specs.Sized.{Small, Sized};
@@ -145,7 +146,7 @@ pub fn runs_reading(em: u32, base: u32, first: u32, last: u32) -> Reading
 // A string by its list.
 fn str_of(ws: &[u32]) -> Str
     requires { ⌜ (length (now ws) ≤ 64) × (sum (now ws) < 2 ^ 32) ⌝ }
-    ensures { λ s. ⌜ s ≡ strOf (now (ws .entry)) ⌝ }
+    ensures { λ s. ⌜ s ≡ strOf (was ws) ⌝ }
 {
     Str {
         width: basics::sum_of(ws),
@@ -167,7 +168,7 @@ fn is_group(left: Left) -> bool
 // The runs of one side of a J over their own characters, the base `base` units wide, where none is longer than one em.
 fn over_runs(em: u32, base: u32, runs: &[u32], ws: &[u32]) -> Fits
     requires { ⌜ (sum (now runs) ≤ length (now ws)) × (sum (now ws) < 2 ^ 32) × (em ≤ base) × (base ≤ 131072) ⌝ }
-    ensures { λ f. ⌜ f ≡ fitsOf em base (now (runs .entry)) (now (ws .entry)) ⌝ }
+    ensures { λ f. ⌜ f ≡ fitsOf em base (was runs) (was ws) ⌝ }
 {
     match super::runs_in(em, runs, ws) {
         Runs::Longer => Fits::Longer,
@@ -192,7 +193,7 @@ fn jukugos_of(
     ls: &[u32],
 ) -> Word
     requires { ⌜ (JukugoSized left em (now bs) (now runs) (now rs) (now lruns) (now ls)) × (Housed (ratiosOf ratios)) ⌝ }
-    ensures { λ w. ⌜ w ≡ jukugosBy left r l (ratiosOf ratios) em (now (bs .entry)) (now (runs .entry)) (now (rs .entry)) (now (lruns .entry)) (now (ls .entry)) ⌝ }
+    ensures { λ w. ⌜ w ≡ jukugosBy left r l (ratiosOf ratios) em (was bs) (was runs) (was rs) (was lruns) (was ls) ⌝ }
 {
     let b = str_of(bs);
     let right = str_of(rs);
@@ -218,7 +219,7 @@ fn jukugos_of(
 
 // Number 8, by the kinds of the base.
 fn base_wrong(form: Form, em: u32, b: Mix, bs: &[u32]) -> bool
-    ensures { λ r. ⌜ r ≡ (isJ form && (notKanaBy b || any (other em) (now (bs .entry)))) ⌝ }
+    ensures { λ r. ⌜ r ≡ (isJ form && (notKanaBy b || any (other em) (was bs))) ⌝ }
 {
     match form {
         Form::P => false,
@@ -287,7 +288,7 @@ fn row_of(
     lc: &[u32],
 ) -> Row
     requires { ⌜ hasRuby form ≡ true ⌝ }
-    ensures { λ r. ⌜ r ≡ rowBy form place em (now (bc .entry)) (now (bs .entry)) (now (before .entry)) (now (after .entry)) (now (rc .entry)) (now (lc .entry)) ⌝ }
+    ensures { λ r. ⌜ r ≡ rowBy form place em (was bc) (was bs) (was before) (was after) (was rc) (was lc) ⌝ }
 {
     if super::blank_inside(before, after) {
         return Row::Holds(Refusal::BlankInside(place));
@@ -323,7 +324,7 @@ fn two_of(
     ls: &[u32],
 ) -> Word
     requires { ⌜ (TwoSized form left em (now bs) (now runs) (now rs) (now lruns) (now ls)) × (Housed (ratiosOf ratios)) ⌝ }
-    ensures { λ w. ⌜ w ≡ twoBy form left r l b (ratiosOf ratios) em (now (bs .entry)) (now (runs .entry)) (now (rs .entry)) (now (lruns .entry)) (now (ls .entry)) ⌝ }
+    ensures { λ w. ⌜ w ≡ twoBy form left r l b (ratiosOf ratios) em (was bs) (was runs) (was rs) (was lruns) (was ls) ⌝ }
 {
     match form {
         Form::P => super::plain_of(basics::sum_of(bs)),
@@ -334,7 +335,7 @@ fn two_of(
 }
 
 fn script_in(cs: &[u32]) -> Script
-    ensures { λ s. ⌜ s ≡ script (now (cs .entry)) ⌝ }
+    ensures { λ s. ⌜ s ≡ script (was cs) ⌝ }
 {
     super::script_of(super::mix_of(cs))
 }
@@ -358,7 +359,7 @@ pub fn measure_left(
     lruns: &[u32],
 ) -> Answer
     requires { ⌜ (LeftReady form left (now bs) (now rs) (now runs) (now ls) (now lruns)) × (Housed (ratiosOf ratios)) ⌝ }
-    ensures { λ a. ⌜ a ≡ answerBoth form place (record { em = em; ratios = ratiosOf ratios; class = now (bc .entry); width = now (bs .entry); before = now (before .entry); after = now (after .entry); rubyClass = now (rc .entry); rubyWidth = now (rs .entry); run = now (runs .entry) }) (record { kind = left; class = now (lc .entry); width = now (ls .entry); run = now (lruns .entry) }) ⌝ }
+    ensures { λ a. ⌜ a ≡ answerBoth form place (record { em = em; ratios = ratiosOf ratios; class = was bc; width = was bs; before = was before; after = was after; rubyClass = was rc; rubyWidth = was rs; run = was runs }) (record { kind = left; class = was lc; width = was ls; run = was lruns }) ⌝ }
 {
     match row_of(form, place, em, bc, bs, before, after, rc, lc) {
         Row::Holds(why) => Answer::Refused(why),

@@ -3,8 +3,8 @@ use borrow.Author.Needs.{needs}
 use native.Mathlib.Omega.{arith}
 use Rattle.sheet.specs.Sheet.{tables}
 use Rattle.result.specs.Short.{refusal-short}
-use Rattle.setter.specs.Whole.{Lent}
-use Rattle.converter.specs.Whole.{converted-fits, converted-refused, tables-hold, converted-sound}
+use Rattle.sheet_job.specs.Tables.{Lent}
+use Rattle.converter.specs.Whole.{converted-fits, converted-refused, tables-hold, converted-written}
 use Rattle.converter.proofs.convert.Statement.{statement}
 use Rattle.converter.proofs.convert.Tie as tie
 
@@ -22,10 +22,13 @@ lent d =
       nine = d .before .before .before .before .before .before .before .before .before .before .before .before .before .convert-tables-arg2 .given .0;
       longBase = d .before .before .before .before .before .before .before .before .before .before .before .convert-tables-arg4 .given .0;
       longRuby = d .before .before .before .before .before .before .before .before .before .convert-tables-arg6 .given .0;
-      longLeft = d .before .before .before .before .before .before .before .convert-tables-arg8 .given .0;
-      longElem = d .before .before .before .before .before .convert-tables-arg10 .given .0;
-      longRuns = d .before .before .before .convert-tables-arg12 .given .0;
-      longLruns = d .before .convert-tables-arg14 .given .0;
+      rest =
+          record {
+            longLeft = d .before .before .before .before .before .before .before .convert-tables-arg8 .given .0;
+            longElem = d .before .before .before .before .before .convert-tables-arg10 .given .0;
+            longRuns = d .before .before .before .convert-tables-arg12 .given .0;
+            longLruns = d .before .convert-tables-arg14 .given .0;
+          };
     }
 
 read-sheet-requires : tie.Need-read-sheet-requires
@@ -51,7 +54,7 @@ returns c =
 returns-2 : tie.Need-returns-2
 returns-2 c =
     let d = c .before in
-    let a = converted-sound (read d .read-sheet .ensures) (c .convert-tables .ensures) in
+    let a = converted-written (read d .read-sheet .ensures) (c .convert-tables .ensures) in
     (a, converted-fits a (d .convert-tables-arg15 .given .0 .1))
 
 pub convert-spec : {M : Type 1} → statement M

@@ -1,74 +1,80 @@
--- The first byte of the job's own text says whether it is refused; if it is not, the other sheet is written.
+-- What the filling of the tables' job found decides: a refusal is written; where there is none, the other sheet is.
+-- That job is the sheet's, so it has the sheet's refusal, and no other.
+use mathlib.Core.Path.{_≡_, subst}
 use borrow.Author.Needs.{needs}
-use Rattle.converter.specs.Steps.{long-tables, refused-fits, wrote-refused, other-ready, wrote-other}
+use native.Mathlib.Omega.{arith}
+use lib.ListN.{replicate}
+use Rattle.sheet.specs.Sheet.{tables}
+use Rattle.door.specs.Job.{Job}
+use Rattle.filling.specs.declared.Lines.{Lines}
+use Rattle.engine.specs.Filled.{Fills}
+use Rattle.result.specs.Short.{refusal-short}
+use Rattle.sheet_job.specs.Tables.{tablesJob}
+use Rattle.converter.specs.Steps.{long-tables, wrote-refused, other-ready, wrote-other}
 use Rattle.converter.proofs.write_judged.Statement.{statement}
 use Rattle.converter.proofs.write_judged.Tie as tie
 
-abbrev start : tie.After-told → tie.Start
-start c = c .before .before .before .before .before .before .before .before .before .before
+abbrev start : tie.After-fill-tables → tie.Start
+start c = c .before .before .before .before .before .before .before .before .before .before .before .before .before
 
-slice-aggregate-judge : tie.Need-slice-aggregate-judge
-slice-aggregate-judge c = search needs
+abbrev job : tie.Start → Job
+job a = let x = a .args in tablesJob (x .n) (tables (x .set .now) (x .base .now) (x .ruby .now) (x .left .now) (x .elem .now) (x .runs .now) (x .lruns .now))
 
-judge-requires : tie.Need-judge-requires
-judge-requires c κs = (long-tables (start c .pre), search needs)
+-- what was found
+told : (c : tie.After-fill-tables) {a : Lines} → c .fill-tables .result ≡ a →
+    Fills (job (start c)) 1024 2048 2048 1024 (replicate 1024 0) (replicate 1024 0) (c .fill-tables .last .0) (c .fill-tables .last .1 .0) (c .fill-tables .last .1 .1 .0) a
+told c e =
+    subst (Fills (job (start c)) 1024 2048 2048 1024 (replicate 1024 0) (replicate 1024 0) (c .fill-tables .last .0) (c .fill-tables .last .1 .0) (c .fill-tables .last .1 .1 .0)) e
+    (c .fill-tables .ensures)
 
-array-read-if1 : tie.Need-array-read-if1
-array-read-if1 c = search needs
+fill-tables-requires : tie.Need-fill-tables-requires
+fill-tables-requires c κs = long-tables (c .before .before .before .before .before .before .before .before .before .before .before .before .pre)
 
-sub-put-word : tie.Need-sub-put-word
-sub-put-word c = search needs
+enum-known-why : tie.Need-enum-known-why
+enum-known-why c = search needs
 
-part-put-word-start : tie.Need-part-put-word-start
-part-put-word-start c = search needs
+write-refusal-requires : tie.Need-write-refusal-requires
+write-refusal-requires c κs =
+    let w = c .before .before in
+    omega (arith, refusal-short (w .why .given .0 .0), start (w .before .before) .pre .tables .room)
 
-part-put-word-end : tie.Need-part-put-word-end
-part-put-word-end c = search needs
+enum-told : tie.Need-enum-told
+enum-told c = search needs
 
-put-word-requires : tie.Need-put-word-requires
-put-word-requires c κs =
-    let t = c .before .before .before in
-    let j = t .before .before in
-    refused-fits (start (j .before) .pre) (j .judge .ensures) (search needs) (t .if1 .taken)
+write-other-requires : tie.Need-write-other-requires
+write-other-requires c κs =
+    let w = c .before in
+    let f = w .before .before in
+    other-ready (start f .pre) (told f (w .enum-told .given .1))
 
 same-length : tie.Need-same-length
 same-length c = search needs
 
 returns : tie.Need-returns
 returns c =
-    let w = c .before .before in
-    let t = w .before .before .before .before in
-    let j = t .before .before in
-    wrote-refused (start (j .before) .pre) (j .judge .ensures) (search needs) (t .if1 .taken) (w .put-word .ensures)
-
-write-other-requires : tie.Need-write-other-requires
-write-other-requires c κs =
-    let j = c .before .before .before in
-    other-ready (start (j .before) .pre) (j .judge .ensures) (search needs) (c .before .if1 .left)
+    let w = c .before .before .before .before .before in
+    let f = w .before .before in
+    wrote-refused (start f .pre) (told f (w .why .given .1)) (c .before .before .write-refusal .ensures)
 
 same-length-2 : tie.Need-same-length-2
 same-length-2 c = search needs
 
 returns-2 : tie.Need-returns-2
 returns-2 c =
-    let w = c .before .before in
-    let t = w .before .before in
-    let j = t .before .before in
-    wrote-other (start (j .before) .pre) (j .judge .ensures) (search needs) (t .if1 .left) (w .write-other .ensures)
+    let w = c .before .before .before .before in
+    let f = w .before .before in
+    wrote-other (start f .pre) (told f (w .enum-told .given .1)) (c .before .before .write-other .ensures)
 
 pub write-judged-spec : {M : Type 1} → statement M
 write-judged-spec =
     tie.close
     (tie.spec
-    slice-aggregate-judge
-    judge-requires
-    array-read-if1
-    sub-put-word
-    part-put-word-start
-    part-put-word-end
-    put-word-requires
+    fill-tables-requires
+    enum-known-why
+    write-refusal-requires
+    enum-told
+    write-other-requires
     same-length
     returns
-    write-other-requires
     same-length-2
     returns-2)

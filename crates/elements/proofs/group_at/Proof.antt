@@ -52,14 +52,18 @@ unfolding groupAt onPlace onNumber
 returns-3 c =
     let m = c .before .before in
     let n = m .before .before .before .before in
-    rw (← (sym (n .before .before .p .given .1) ∙ n .before .before .before .before .read-word .ensures), ← (sym (m .before .before .b .given .1) ∙ n .read-number .ensures), ← (sym (c .enum-told3 .given .1) ∙ m .read-number2 .ensures))
+    let word = sym (n .before .before .p .given .1) ∙ n .before .before .before .before .read-word .ensures in
+    let base = sym (m .before .before .b .given .1) ∙ n .read-number .ensures in
+    rw (← word, ← base, ← (sym (c .enum-told3 .given .1) ∙ m .read-number2 .ensures))
 
 returns-4 : tie.Need-returns-4
 unfolding groupAt onPlace onNumber
 returns-4 c =
     let m = c .before .before .before in
     let n = m .before .before .before .before in
-    rw (← (sym (n .before .before .p .given .1) ∙ n .before .before .before .before .read-word .ensures), ← (sym (m .before .before .b .given .1) ∙ n .read-number .ensures), ← (sym (c .before .r .given .1) ∙ m .read-number2 .ensures))
+    let word = sym (n .before .before .p .given .1) ∙ n .before .before .before .before .read-word .ensures in
+    let base = sym (m .before .before .b .given .1) ∙ n .read-number .ensures in
+    rw (← word, ← base, ← (sym (c .before .r .given .1) ∙ m .read-number2 .ensures))
 
 pub group-at-spec : {M : Type 1} → statement M
 group-at-spec =

@@ -92,8 +92,10 @@ loop-again c =
     let k = c .before .before .before .before .before .before in
     let f = k .before .before .before .before .before .before .before in
     let l = f .before .before .before .before in
+    let more = f .before .before .before .loop-test .taken in
     let r = f .element-at .ensures in
-    reading.lines-next (l .loop .inv) (f .before .before .before .loop-test .taken) _ _ (r .right) (r .left) _ _ (sym (k .before .e .given .1) ∙ f .element-at .ensures .line) _ (c .before .before .before .before .put-element .ensures)
+    let line = sym (k .before .e .given .1) ∙ r .line in
+    reading.lines-next (l .loop .inv) more _ _ (r .right) (r .left) _ _ line _ (c .before .before .before .before .put-element .ensures)
 
 same-length-4 : tie.Need-same-length-4 Inv-loop μ-loop
 same-length-4 c = search needs

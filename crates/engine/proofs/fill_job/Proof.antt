@@ -51,7 +51,7 @@ returns : tie.Need-returns
 returns c =
     let d = c .before .before .before in
     let a = start d in
-    filled.by-characters (job a) (a .args .base) (a .args .ruby) (a .args .left) (a .args .lines) (said d ∙ c .before .why .given .1)
+    filled.by-characters (job a) (a .args .base) (a .args .ruby) (a .args .left) (a .args .lines) (a .args .ends .now) (a .args .extents .now) _ (said d ∙ c .before .why .given .1)
 
 enum-told : tie.Need-enum-told
 enum-told c = search needs
@@ -74,7 +74,8 @@ returns-2 c =
     let l = c .before .before .before .before .before in
     let p = l .before .before in
     let a = start (p .before .before) in
-    filled.by-elements (job a) (a .args .base) (a .args .ruby) (a .args .left) (a .args .lines) (passes p) (sym (l .layout .ensures .0) ∙ c .before .why2 .given .1)
+    filled.by-elements (job a) (a .args .base) (a .args .ruby) (a .args .left) (a .args .lines) (passes p) (a .args .ends .now) (a .args .extents .now) _
+    (sym (l .layout .ensures .0) ∙ c .before .why2 .given .1)
 
 enum-told-2 : tie.Need-enum-told-2
 enum-told-2 c = search needs

@@ -24,11 +24,12 @@ job a =
 -- what was found
 told : (c : tie.After-fill-job) {r : Lines} → c .fill-job .result ≡ r →
     let x = start c .args in
-    Fills (job (start c)) (length (x .base .now)) (length (x .ruby .now)) (length (x .left .now)) (length (x .lines .now)) (x .extents .now) (c .fill-job .last .0) (c .fill-job .last .1 .0)
+    Fills (job (start c)) (length (x .base .now)) (length (x .ruby .now)) (length (x .left .now)) (length (x .lines .now)) (x .ends .now) (x .extents .now) (c .fill-job .last .0)
+    (c .fill-job .last .1 .0)
     (c .fill-job .last .1 .1 .0) r
 told c e =
     let x = start c .args in
-    subst (Fills (job (start c)) (length (x .base .now)) (length (x .ruby .now)) (length (x .left .now)) (length (x .lines .now)) (x .extents .now) (c .fill-job .last .0)
+    subst (Fills (job (start c)) (length (x .base .now)) (length (x .ruby .now)) (length (x .left .now)) (length (x .lines .now)) (x .ends .now) (x .extents .now) (c .fill-job .last .0)
     (c .fill-job .last .1 .0) (c .fill-job .last .1 .1 .0)) e
     (c .fill-job .ensures)
 
@@ -47,7 +48,8 @@ put-lines-requires c κs =
     let n = c .before .before .before .before .before .before in
     let f = n .before .before .before .before .before .before .before .before in
     let x = start f .args in
-    whole.ready (job (start f)) (x .base .now) (x .ruby .now) (x .left .now) (x .lines .now) (x .extents .now) (f .fill-job .last .0) (f .fill-job .last .1 .0) (f .fill-job .last .1 .1 .0)
+    whole.ready (job (start f)) (x .base .now) (x .ruby .now) (x .left .now) (x .lines .now) (x .ends .now) (x .extents .now) (f .fill-job .last .0) (f .fill-job .last .1 .0)
+    (f .fill-job .last .1 .1 .0)
     (n .n .given .0 .0)
     (told f (n .n .given .1))
 
@@ -56,7 +58,8 @@ put-ends-requires c κs =
     let n = c .before .before .before .before .before .before .before .before .before .before .before .before .before .before .before in
     let f = n .before .before .before .before .before .before .before .before in
     let x = start f .args in
-    whole.room (job (start f)) (x .base .now) (x .ruby .now) (x .left .now) (x .lines .now) (x .extents .now) (f .fill-job .last .0) (f .fill-job .last .1 .0) (f .fill-job .last .1 .1 .0)
+    whole.room (job (start f)) (x .base .now) (x .ruby .now) (x .left .now) (x .lines .now) (x .ends .now) (x .extents .now) (f .fill-job .last .0) (f .fill-job .last .1 .0)
+    (f .fill-job .last .1 .1 .0)
     (n .n .given .0 .0)
     (told f (n .n .given .1))
 
@@ -73,7 +76,7 @@ returns : tie.Need-returns
 returns c =
     let f = c .before .before .before .before .before .before .before .before .before in
     let x = start f .args in
-    (whole.refused (job (start f)) (x .base .now) (x .ruby .now) (x .left .now) (x .lines .now) (told f (c .before .why .given .1)), tt)
+    whole.refused (job (start f)) (x .base .now) (x .ruby .now) (x .left .now) (x .lines .now) (told f (c .before .why .given .1))
 
 same-length-4 : tie.Need-same-length-4
 same-length-4 c = search needs
@@ -102,12 +105,11 @@ returns-2 c =
     let p = e .before .before .before .before .before .before .before .before .before in
     let n = p .before .before .before .before .before .before .before in
     let f = n .before .before .before .before .before .before .before .before in
-    let x = start f .args in (
-      whole.sets (job (start f)) (x .base .now) (x .ruby .now) (x .left .now) (x .lines .now) (x .extents .now) (f .fill-job .last .0) (f .fill-job .last .1 .0) (f .fill-job .last .1 .1 .0)
-          (n .n .given .0 .0)
-          (told f (n .n .given .1)) _ _ _ _ (p .put-lines .ensures) (e .put-ends .ensures),
-      told f (n .n .given .1),
-    )
+    let x = start f .args in
+    whole.sets (job (start f)) (x .base .now) (x .ruby .now) (x .left .now) (x .lines .now) (x .ends .now) (x .extents .now) (f .fill-job .last .0) (f .fill-job .last .1 .0)
+    (f .fill-job .last .1 .1 .0)
+    (n .n .given .0 .0)
+    (told f (n .n .given .1)) _ _ _ _ (p .put-lines .ensures) (e .put-ends .ensures)
 
 pub set-table-spec : {M : Type 1} → statement M
 set-table-spec =

@@ -36,8 +36,8 @@ extents c = c .fill-job .last .1 .1 .0
 
 -- what was found
 told : (c : tie.After-fill-job) {r : Lines} → c .fill-job .result ≡ r →
-    (was : List ℕ) × Fills (job (start c)) 1024 2048 2048 (room c) was (table c) (ends c) (extents c) r
-told c e = (_, subst (Fills (job (start c)) 1024 2048 2048 (room c) _ (table c) (ends c) (extents c)) e (c .fill-job .ensures))
+    (was : List ℕ) × (wasFar : List ℕ) × Fills (job (start c)) 1024 2048 2048 (room c) was wasFar (table c) (ends c) (extents c) r
+told c e = (_, _, subst (Fills (job (start c)) 1024 2048 2048 (room c) _ _ (table c) (ends c) (extents c)) e (c .fill-job .ensures))
 
 room-of-requires : tie.Need-room-of-requires
 room-of-requires c κs = search needs
@@ -72,8 +72,8 @@ tell-lines-requires c κs =
     let f = n .before .before .before .before .before in
     let x = start f .args in
     let w = told f (n .n .given .1) in
-    outcome.ready (job (start f)) (x .rows .now) (x .told .now) (x .extents .now) (room f) (f .before .before .before .before .room-of .ensures) (w .0)
-    (table f) (ends f) (extents f) (n .n .given .0 .0) (w .1)
+    outcome.ready (job (start f)) (x .rows .now) (x .told .now) (x .extents .now) (room f) (f .before .before .before .before .room-of .ensures) (w .0) (w .1)
+    (table f) (ends f) (extents f) (n .n .given .0 .0) (w .2)
 
 slice-aggregate-put-extents : tie.Need-slice-aggregate-put-extents
 slice-aggregate-put-extents c = search needs
@@ -84,14 +84,14 @@ put-extents-requires c κs =
     let f = n .before .before .before .before .before in
     let x = start f .args in
     let w = told f (n .n .given .1) in
-    outcome.room-extents (job (start f)) (x .rows .now) (x .told .now) (x .extents .now) (room f) (f .before .before .before .before .room-of .ensures) (w .0)
-    (table f) (ends f) (extents f) (n .n .given .0 .0) (w .1)
+    outcome.room-extents (job (start f)) (x .rows .now) (x .told .now) (x .extents .now) (room f) (f .before .before .before .before .room-of .ensures) (w .0) (w .1)
+    (table f) (ends f) (extents f) (n .n .given .0 .0) (w .2)
 
 returns : tie.Need-returns
 returns c =
     let f = c .before .before .before .before .before .before in
     let x = start f .args in
-    outcome.refused (job (start f)) (x .rows .now) (x .told .now) (x .extents .now) (room f) (f .before .before .before .before .room-of .ensures) (told f (c .before .why .given .1) .1)
+    outcome.refused (job (start f)) (x .rows .now) (x .told .now) (x .extents .now) (room f) (f .before .before .before .before .room-of .ensures) (told f (c .before .why .given .1) .2)
 
 same-length : tie.Need-same-length
 same-length c = search needs
@@ -110,8 +110,8 @@ returns-2 c =
     let f = n .before .before .before .before .before in
     let x = start f .args in
     let w = told f (n .n .given .1) in
-    outcome.tells (job (start f)) (x .rows .now) (x .told .now) (x .extents .now) (room f) (f .before .before .before .before .room-of .ensures) (w .0)
-    (table f) (ends f) (extents f) (n .n .given .0 .0) (w .1) _ _ _ (q .tell-lines .ensures) (p .put-extents .ensures)
+    outcome.tells (job (start f)) (x .rows .now) (x .told .now) (x .extents .now) (room f) (f .before .before .before .before .room-of .ensures) (w .0) (w .1)
+    (table f) (ends f) (extents f) (n .n .given .0 .0) (w .2) _ _ _ (q .tell-lines .ensures) (p .put-extents .ensures)
 
 pub account-job-spec : {M : Type 1} → statement M
 account-job-spec =

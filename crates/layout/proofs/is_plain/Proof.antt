@@ -1,8 +1,6 @@
--- Its letters, where there is such an element.
-use mathlib.Core.Path.{_≡_}
+-- Where there is such an element its two letters are asked. Where there is none nothing is read.
 use borrow.Author.Tests.{lt-ltb, le-ltb, eq-eqb, ne-eqb}
 use borrow.Author.Needs.{needs}
-use native.Mathlib.Omega.{arith}
 use Rattle.layout.proofs.is_plain.Statement.{statement}
 use Rattle.layout.proofs.is_plain.Tie as tie
 

@@ -1,20 +1,17 @@
--- Number 5, then 16, then 6, each its row; past them stands the piece, and is laid with its left reading.
+-- Number 5, then 16, then 6, each its row. Past them stands the piece, and is laid with its left reading.
 use mathlib.Core.Path.{_≡_, sym, _∙_}
-use mathlib.Core.Bool.{Bool, true, false, _||_}
-use Prim.Native.Nat.{ℕ, _+_, _≤_, _<_}
-use lib.Dec.{ltb}
-use lib.ListN.{length}
+use mathlib.Core.Bool.{true, false}
+use Prim.Native.Nat.{_<_}
 use borrow.Author.Tests.{not-true, not-false}
 use borrow.Author.Needs.{needs}
 use native.Mathlib.Omega.{arith}
 use Rattle.word.specs.Both.{takes}
 use Rattle.door.specs.declared.Piece.{Piece}
 use Rattle.door.specs.declared.Counted.the-variants.{Is}
-use Rattle.door.specs.Job.{Job, jobOf, baseCount, rubyCount, leftCount}
+use Rattle.door.specs.Job.{Job, jobOf}
 use Rattle.door.specs.Refusals.{runOut}
-use Rattle.door.specs.Whole.{element-within}
 use Rattle.door.specs.Walk as walk
-use Rattle.layout.specs.Lay.{Standing}
+use Rattle.layout.specs.Step.{Standing, few, there, few-runs, out-is}
 use Rattle.layout.specs.Element as one
 use Rattle.layout.proofs.lay_both.Statement.{statement}
 use Rattle.layout.proofs.lay_both.Tie as tie
@@ -30,18 +27,7 @@ first c = c .before .before .before .before .before .before .before .before .bef
 
 -- where the walk stands
 standing : (a : tie.Start) → Standing (job a) (a .args .k) (a .args .at) (a .args .t .now)
-standing a = a .pre .3
-
-few : (a : tie.Start) → a .args .k < 1024
-few a = let s = standing a .stands in omega (arith, s .index, s .clean .fewElements)
-
-there : (a : tie.Start) →
-    let x = a .args in
-    (x .k < length (x .kind .now)) × (x .k < length (x .ebase .now)) × (x .k < length (x .eruby .now)) × (x .k < length (x .lkind .now)) × (x .k < length (x .eleft .now))
-there a =
-    let i = standing a .stands .index in
-    let e = element-within (job a) in
-    (omega (arith, i, e .0), omega (arith, i, e .1), omega (arith, i, e .2), omega (arith, i, e .3), omega (arith, i, e .4))
+standing a = a .pre .1
 
 -- the entry, from the counting on
 abbrev start : tie.After-count-element → tie.Start
@@ -65,52 +51,46 @@ takes-it : (c : tie.Else1) → let p = piece (c .before .before) in takes (p .fo
 takes-it c = sym (c .before .takes-left .ensures) ∙ not-false (c .before .takes-left .result) (c .if1 .left)
 
 out : (c : tie.After-runs-out) → c .runs-out .result ≡ runOut (job (entry (known c))) (piece (known c))
-out c = let a = entry (known c) in c .runs-out .ensures ∙ counted _ _ _ _ _ _ (a .pre .0) (a .pre .1) (a .pre .2)
-  where
-    counted : (x y z b r l : ℕ) {b' r' l' : ℕ} → b ≡ b' → r ≡ r' → l ≡ l' → (ltb b x || (ltb r y || ltb l z)) ≡ (ltb b' x || (ltb r' y || ltb l' z))
-    counted x y z b r l e f g = rw (e, f, g)
+out c = let a = entry (known c) in c .runs-out .ensures ∙ out-is (job a) (piece (known c)) (a .pre .0)
 
 supplied : (c : tie.Else2) → let k = known (c .before) in runOut (job (entry k)) (piece k) ≡ false
 supplied c = sym (out (c .before)) ∙ c .if2 .left
 
 cast-place : tie.Need-cast-place
-cast-place c = omega (arith, few (first c))
+cast-place c = omega (arith, few (standing (first c)))
 
 mul-count-element : tie.Need-mul-count-element
-mul-count-element c = omega (arith, few (first c))
+mul-count-element c = omega (arith, few (standing (first c)))
 
 shared-slice-read-count-element : tie.Need-shared-slice-read-count-element
-shared-slice-read-count-element c = omega (arith, there (first (c .before)) .0)
+shared-slice-read-count-element c = omega (arith, there (standing (first (c .before))) .0)
 
 mul-count-element-2 : tie.Need-mul-count-element-2
-mul-count-element-2 c = omega (arith, few (first (c .before)))
+mul-count-element-2 c = omega (arith, few (standing (first (c .before))))
 
 shared-slice-read-count-element-2 : tie.Need-shared-slice-read-count-element-2
-shared-slice-read-count-element-2 c = omega (arith, there (first (c .before .before)) .1)
+shared-slice-read-count-element-2 c = omega (arith, there (standing (first (c .before .before))) .1)
 
 mul-count-element-3 : tie.Need-mul-count-element-3
-mul-count-element-3 c = omega (arith, few (first (c .before .before)))
+mul-count-element-3 c = omega (arith, few (standing (first (c .before .before))))
 
 shared-slice-read-count-element-3 : tie.Need-shared-slice-read-count-element-3
-shared-slice-read-count-element-3 c = omega (arith, there (first (c .before .before .before)) .2)
+shared-slice-read-count-element-3 c = omega (arith, there (standing (first (c .before .before .before))) .2)
 
 mul-count-element-4 : tie.Need-mul-count-element-4
-mul-count-element-4 c = omega (arith, few (first (c .before .before .before)))
+mul-count-element-4 c = omega (arith, few (standing (first (c .before .before .before))))
 
 shared-slice-read-count-element-4 : tie.Need-shared-slice-read-count-element-4
-shared-slice-read-count-element-4 c = omega (arith, there (first (c .before .before .before .before)) .3)
+shared-slice-read-count-element-4 c = omega (arith, there (standing (first (c .before .before .before .before))) .3)
 
 mul-count-element-5 : tie.Need-mul-count-element-5
-mul-count-element-5 c = omega (arith, few (first (c .before .before .before .before)))
+mul-count-element-5 c = omega (arith, few (standing (first (c .before .before .before .before))))
 
 shared-slice-read-count-element-5 : tie.Need-shared-slice-read-count-element-5
-shared-slice-read-count-element-5 c = omega (arith, there (first (c .before .before .before .before .before)) .4)
+shared-slice-read-count-element-5 c = omega (arith, there (standing (first (c .before .before .before .before .before))) .4)
 
 count-element-requires : tie.Need-count-element-requires
-count-element-requires c κs =
-    let s = standing (first (c .before .before .before .before .before)) .stands in
-    let w = s .within in
-    (omega (arith, w .runs, w .base, s .clean .few), omega (arith, w .leftRuns, w .base, s .clean .few))
+count-element-requires c κs = few-runs (standing (first (c .before .before .before .before .before)))
 
 enum-known-counted : tie.Need-enum-known-counted
 enum-known-counted c = search needs
@@ -121,9 +101,7 @@ enum-told c = search needs
 returns : tie.Need-returns
 returns c =
     let n = c .before .before in
-    let a = start n in
-    let x = a .args in
-    one.stopped (job a) (x .k) (x .at) (x .t .now) (standing a) (walk.out-stops (job a) (x .k) (x .at) (sym (n .count-element .ensures) ∙ c .enum-told .given .1))
+    one.count-stops (standing (start n)) (sym (n .count-element .ensures) ∙ c .enum-told .given .1)
 
 takes-left-requires : tie.Need-takes-left-requires
 takes-left-requires c κs = tt
@@ -132,40 +110,31 @@ returns-2 : tie.Need-returns-2
 returns-2 c =
     let t = c .before in
     let k = t .before in
-    let a = entry k in
-    let x = a .args in
-    one.kind-stops (job a) (x .k) (x .at) (x .t .now) (standing a) (piece k) (is k) (sym (t .takes-left .ensures) ∙ not-true (t .takes-left .result) (c .if1 .taken))
+    one.kind-stops (standing (entry k)) (is k) (sym (t .takes-left .ensures) ∙ not-true (t .takes-left .result) (c .if1 .taken))
 
 runs-out-requires : tie.Need-runs-out-requires
 runs-out-requires c κs =
     let k = c .before .before in
-    let a = entry k in
-    let x = a .args in
-    one.small (job a) (x .k) (x .at) (x .t .now) (standing a) (piece k) (is k)
+    one.small (standing (entry k)) (is k)
 
 returns-3 : tie.Need-returns-3
 returns-3 c =
     let r = c .before in
     let k = known r in
-    let a = entry k in
-    let x = a .args in
-    one.short-stops (job a) (x .k) (x .at) (x .t .now) (standing a) (piece k) (is k) (takes-it (r .before)) (sym (out r) ∙ c .if2 .taken)
+    one.short-stops (standing (entry k)) (is k) (takes-it (r .before)) (sym (out r) ∙ c .if2 .taken)
 
 -- its left kind is one that it takes, so it has left characters
 some : (e : tie.Else2) → 0 < piece (known (e .before)) .lefts
 some e =
     let k = known (e .before) in
     let a = entry k in
-    let x = a .args in
-    one.left-some (job a) (x .k) (x .at) (x .t .now) (standing a) (piece k) (is k) (takes-it (e .before .before)) (a .pre .4)
+    one.left-some (standing a) (is k) (takes-it (e .before .before)) (a .pre .2)
 
 lay-left-requires : tie.Need-lay-left-requires
 lay-left-requires c κs =
     let e = c .before in
     let k = known (e .before) in
-    let a = entry k in
-    let x = a .args in
-    one.both-ready (job a) (x .k) (x .at) (x .t .now) (standing a) (piece k) (is k) (takes-it (e .before .before)) (supplied e) (some e)
+    one.both-ready (standing (entry k)) (is k) (takes-it (e .before .before)) (supplied e) (some e)
 
 same-length : tie.Need-same-length
 same-length c = c .before .before .lay-left .ensures .long
@@ -175,9 +144,7 @@ returns-4 c =
     let m = c .before .before in
     let e = m .before .before in
     let k = known (e .before) in
-    let a = entry k in
-    let x = a .args in
-    one.both-judged (job a) (x .k) (x .at) (x .t .now) (standing a) (piece k) (is k) (takes-it (e .before .before)) (supplied e) (some e) (m .lay-left .ensures)
+    one.both-judged (standing (entry k)) (is k) (takes-it (e .before .before)) (supplied e) (some e) (m .lay-left .ensures)
 
 pub lay-both-spec : {M : Type 1} → statement M
 lay-both-spec =

@@ -1,21 +1,19 @@
 -- Number 5, then 6, each its row: without a left kind the right counts are all, and number 16 is not asked. Past them the left rows of none are written, and the piece is laid.
-use mathlib.Core.Path.{_≡_, refl, sym, ap, _∙_, subst}
-use mathlib.Core.Bool.{Bool, true, false, _||_}
-use Prim.Native.Nat.{ℕ, _+_, _≤_, _<_}
-use lib.Dec.{ltb}
-use lib.ListN.{length, getD}
+use mathlib.Core.Path.{_≡_, sym, ap, _∙_, subst}
+use mathlib.Core.Bool.{true, false}
+use Prim.Native.Nat.{_+_}
+use lib.ListN.{getD}
 use borrow.Author.Needs.{needs}
 use native.Mathlib.Omega.{arith}
 use Rattle.word.specs.Both.{takes}
 use Rattle.door.specs.declared.Piece.{Piece}
 use Rattle.door.specs.declared.Counted.the-variants.{Is}
-use Rattle.door.specs.Job.{Job, jobOf, baseCount, rubyCount, leftCount}
+use Rattle.door.specs.Job.{Job, jobOf}
 use Rattle.door.specs.Elements.{right-only}
 use Rattle.door.specs.Refusals.{runOut}
-use Rattle.door.specs.Whole.{element-within}
 use Rattle.door.specs.Walk as walk
-use Rattle.layout.specs.Table.{BareReady}
-use Rattle.layout.specs.Lay.{Standing}
+use Rattle.two_readings.specs.Written.{BareReady}
+use Rattle.layout.specs.Step.{Standing, few, there, few-runs, out-is}
 use Rattle.layout.specs.Element as one
 use Rattle.layout.proofs.lay_word.Statement.{statement}
 use Rattle.layout.proofs.lay_word.Tie as tie
@@ -31,18 +29,7 @@ first c = c .before .before .before .before .before .before .before .before .bef
 
 -- where the walk stands
 standing : (a : tie.Start) → Standing (job a) (a .args .k) (a .args .at) (a .args .t .now)
-standing a = a .pre .3
-
-few : (a : tie.Start) → a .args .k < 1024
-few a = let s = standing a .stands in omega (arith, s .index, s .clean .fewElements)
-
-there : (a : tie.Start) →
-    let x = a .args in
-    (x .k < length (x .kind .now)) × (x .k < length (x .ebase .now)) × (x .k < length (x .eruby .now))
-there a =
-    let i = standing a .stands .index in
-    let e = element-within (job a) in
-    (omega (arith, i, e .0), omega (arith, i, e .1), omega (arith, i, e .2))
+standing a = a .pre .1
 
 -- the entry, from the counting on: the right counts are all
 abbrev start : tie.After-count-right → tie.Start
@@ -53,7 +40,7 @@ counted c =
     let a = start c in
     let x = a .args in
     sym (right-only (getD (x .kind .now) (x .k) 0) (getD (x .ebase .now) (x .k) 0) (getD (x .eruby .now) (x .k) 0) (getD (x .lkind .now) (x .k) 0) (getD (x .eleft .now) (x .k) 0)
-    (x .runs .now) (x .lruns .now) (x .at) (a .pre .4))
+    (x .runs .now) (x .lruns .now) (x .at) (a .pre .2))
     ∙ sym (c .count-right .ensures)
 
 -- the piece that was counted
@@ -67,47 +54,41 @@ is : (c : tie.After-known-told) → let a = entry c in walk.counting (job a) (a 
 is c = counted (c .before .before .before) ∙ c .before .counted .given .1
 
 takes-it : (c : tie.After-known-told) → takes (piece c .form) (piece c .gloss) ≡ true
-takes-it c = let a = entry c in let x = a .args in one.bare-taken (job a) (x .k) (x .at) (x .t .now) (standing a) (piece c) (is c) (a .pre .4)
+takes-it c = let a = entry c in one.bare-taken (standing a) (is c) (a .pre .2)
 
 none : (c : tie.After-known-told) → piece c .lefts ≡ 0
-none c = let a = entry c in let x = a .args in one.bare-none (job a) (x .k) (x .at) (x .t .now) (standing a) (piece c) (is c) (a .pre .4)
+none c = let a = entry c in one.bare-none (standing a) (is c) (a .pre .2)
 
 -- what it takes is there
 out : (c : tie.After-runs-out) → c .runs-out .result ≡ runOut (job (entry (c .before))) (piece (c .before))
-out c = let a = entry (c .before) in c .runs-out .ensures ∙ by-counts _ _ _ _ _ _ (a .pre .0) (a .pre .1) (a .pre .2)
-  where
-    by-counts : (x y z b r l : ℕ) {b' r' l' : ℕ} → b ≡ b' → r ≡ r' → l ≡ l' → (ltb b x || (ltb r y || ltb l z)) ≡ (ltb b' x || (ltb r' y || ltb l' z))
-    by-counts x y z b r l e f g = rw (e, f, g)
+out c = let a = entry (c .before) in c .runs-out .ensures ∙ out-is (job a) (piece (c .before)) (a .pre .0)
 
 supplied : (c : tie.Else1) → let k = c .before .before in runOut (job (entry k)) (piece k) ≡ false
 supplied c = sym (out (c .before)) ∙ c .if1 .left
 
 cast-place : tie.Need-cast-place
-cast-place c = omega (arith, few (first c))
+cast-place c = omega (arith, few (standing (first c)))
 
 mul-count-right : tie.Need-mul-count-right
-mul-count-right c = omega (arith, few (first c))
+mul-count-right c = omega (arith, few (standing (first c)))
 
 shared-slice-read-count-right : tie.Need-shared-slice-read-count-right
-shared-slice-read-count-right c = omega (arith, there (first (c .before)) .0)
+shared-slice-read-count-right c = omega (arith, there (standing (first (c .before))) .0)
 
 mul-count-right-2 : tie.Need-mul-count-right-2
-mul-count-right-2 c = omega (arith, few (first (c .before)))
+mul-count-right-2 c = omega (arith, few (standing (first (c .before))))
 
 shared-slice-read-count-right-2 : tie.Need-shared-slice-read-count-right-2
-shared-slice-read-count-right-2 c = omega (arith, there (first (c .before .before)) .1)
+shared-slice-read-count-right-2 c = omega (arith, there (standing (first (c .before .before))) .1)
 
 mul-count-right-3 : tie.Need-mul-count-right-3
-mul-count-right-3 c = omega (arith, few (first (c .before .before)))
+mul-count-right-3 c = omega (arith, few (standing (first (c .before .before))))
 
 shared-slice-read-count-right-3 : tie.Need-shared-slice-read-count-right-3
-shared-slice-read-count-right-3 c = omega (arith, there (first (c .before .before .before)) .2)
+shared-slice-read-count-right-3 c = omega (arith, there (standing (first (c .before .before .before))) .2)
 
 count-right-requires : tie.Need-count-right-requires
-count-right-requires c κs =
-    let s = standing (first (c .before .before .before)) .stands in
-    let w = s .within in
-    omega (arith, w .runs, w .base, s .clean .few)
+count-right-requires c κs = few-runs (standing (first (c .before .before .before))) .0
 
 enum-known-counted : tie.Need-enum-known-counted
 enum-known-counted c = search needs
@@ -118,31 +99,22 @@ enum-told c = search needs
 returns : tie.Need-returns
 returns c =
     let n = c .before .before in
-    let a = start n in
-    let x = a .args in
-    one.stopped (job a) (x .k) (x .at) (x .t .now) (standing a) (walk.out-stops (job a) (x .k) (x .at) (counted n ∙ c .enum-told .given .1))
+    one.count-stops (standing (start n)) (counted n ∙ c .enum-told .given .1)
 
 runs-out-requires : tie.Need-runs-out-requires
-runs-out-requires c κs =
-    let a = entry c in
-    let x = a .args in
-    one.small (job a) (x .k) (x .at) (x .t .now) (standing a) (piece c) (is c)
+runs-out-requires c κs = one.small (standing (entry c)) (is c)
 
 returns-2 : tie.Need-returns-2
 returns-2 c =
     let r = c .before in
     let k = r .before in
-    let a = entry k in
-    let x = a .args in
-    one.short-stops (job a) (x .k) (x .at) (x .t .now) (standing a) (piece k) (is k) (takes-it k) (sym (out r) ∙ c .if1 .taken)
+    one.short-stops (standing (entry k)) (is k) (takes-it k) (sym (out r) ∙ c .if1 .taken)
 
 -- its left rows are written first
 add-put-bare : tie.Need-add-put-bare
 add-put-bare c =
     let k = c .before .before .before .before in
-    let a = entry k in
-    let x = a .args in
-    omega (arith, one.small (job a) (x .k) (x .at) (x .t .now) (standing a) (piece k) (is k) .0)
+    omega (arith, one.small (standing (entry k)) (is k) .0)
 
 put-bare-requires : tie.Need-put-bare-requires
 put-bare-requires c κs =
@@ -151,17 +123,15 @@ put-bare-requires c κs =
     let a = entry k in
     let x = a .args in
     let p = piece k in
-    subst (λ n. BareReady (p .left) (p .base) (p .base + p .bases) n (x .t .now)) (sym (a .pre .2))
-    (one.bare-ready (job a) (x .k) (x .at) (x .t .now) (standing a) p (is k) (takes-it k) (supplied e) (none k))
+    subst (λ n. BareReady (p .left) (p .base) (p .base + p .bases) n (x .t .now)) (sym (ap (λ n. n .lefts) (a .pre .0)))
+    (one.bare-ready (standing a) (is k) (takes-it k) (supplied e) (none k))
 
 lay-alone-requires : tie.Need-lay-alone-requires
 lay-alone-requires c κs =
     let b = c .before .before .before in
     let e = b .before .before .before in
     let k = e .before .before in
-    let a = entry k in
-    let x = a .args in
-    one.alone-ready (job a) (x .k) (x .at) (x .t .now) (standing a) (piece k) (is k) (takes-it k) (supplied e) (none k) (b .put-bare .last .0) (b .put-bare .ensures)
+    one.alone-ready (standing (entry k)) (is k) (takes-it k) (supplied e) (none k) (b .put-bare .last .0) (b .put-bare .ensures)
 
 same-length : tie.Need-same-length
 same-length c = let m = c .before .before in m .lay-alone .ensures .long ∙ m .before .before .before .before .put-bare .ensures .long
@@ -172,9 +142,7 @@ returns-3 c =
     let b = m .before .before .before .before in
     let e = b .before .before .before in
     let k = e .before .before in
-    let a = entry k in
-    let x = a .args in
-    one.alone-judged (job a) (x .k) (x .at) (x .t .now) (standing a) (piece k) (is k) (takes-it k) (supplied e) (none k) (b .put-bare .ensures) (m .lay-alone .ensures)
+    one.alone-judged (standing (entry k)) (is k) (takes-it k) (supplied e) (none k) (b .put-bare .ensures) (m .lay-alone .ensures)
 
 pub lay-word-spec : {M : Type 1} → statement M
 lay-word-spec =

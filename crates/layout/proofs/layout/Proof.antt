@@ -25,8 +25,9 @@ use Rattle.door.specs.Walk.{Stands, elementStep}
 use Rattle.door.specs.Loop as loop
 use Rattle.door.specs.Loop.{partFaults, Along}
 use Rattle.cells.specs.Put.{headed, length-headed}
-use Rattle.layout.specs.Table.{leftFrom, BareReady}
-use Rattle.layout.specs.Lay.{Standing, Stepped}
+use Rattle.two_readings.specs.Written.{leftFrom, BareReady}
+use Rattle.layout.specs.declared.Counts.{Counts}
+use Rattle.layout.specs.Step.{countsOf, Standing, Stepped}
 use Rattle.layout.specs.Walk as walk
 use Rattle.layout.specs.Walk.{Walking}
 use Rattle.layout.proofs.layout.Statement.{statement}
@@ -34,18 +35,18 @@ use Rattle.layout.proofs.layout.Tie as tie
 
 -- P after P: the walk goes on from the element that the loop began with
 abbrev Inv-loop2 : tie.InvT-loop2
-Inv-loop2 t₀ em ratios profile class width before after flag rclass rwidth lclass lwidth kind ebase eruby lkind eleft runs lruns elements bases rubies lefts k₀ at₀ t k at =
+Inv-loop2 t₀ em ratios profile class width before after flag rclass rwidth lclass lwidth kind ebase eruby lkind eleft runs lruns elements counts k₀ at₀ t k at =
     (k₀ ≤ k) × Walking (jobOf em 0 ratios profile class width before after flag rclass rwidth lclass lwidth kind ebase eruby lkind eleft runs lruns) t₀ t k at
 
 abbrev μ-loop2 : tie.MeasureT-loop2
-μ-loop2 t₀ em ratios profile class width before after flag rclass rwidth lclass lwidth kind ebase eruby lkind eleft runs lruns elements bases rubies lefts k₀ at₀ t k at = elements - k
+μ-loop2 t₀ em ratios profile class width before after flag rclass rwidth lclass lwidth kind ebase eruby lkind eleft runs lruns elements counts k₀ at₀ t k at = elements - k
 
 abbrev Inv-loop : tie.InvT-loop
-Inv-loop t₀ em ratios profile class width before after flag rclass rwidth lclass lwidth kind ebase eruby lkind eleft runs lruns elements bases rubies lefts k₀ at₀ t k at =
+Inv-loop t₀ em ratios profile class width before after flag rclass rwidth lclass lwidth kind ebase eruby lkind eleft runs lruns elements counts k₀ at₀ t k at =
     Walking (jobOf em 0 ratios profile class width before after flag rclass rwidth lclass lwidth kind ebase eruby lkind eleft runs lruns) t₀ t k at
 
 abbrev μ-loop : tie.MeasureT-loop
-μ-loop t₀ em ratios profile class width before after flag rclass rwidth lclass lwidth kind ebase eruby lkind eleft runs lruns elements bases rubies lefts k₀ at₀ t k at = elements - k
+μ-loop t₀ em ratios profile class width before after flag rclass rwidth lclass lwidth kind ebase eruby lkind eleft runs lruns elements counts k₀ at₀ t k at = elements - k
 
 -- the job that the lists are
 abbrev job : tie.Start Inv-loop2 μ-loop2 Inv-loop μ-loop → Job
@@ -73,6 +74,13 @@ lefts-are c = c .left-count .ensures
 elements-are : (c : tie.After-left-count Inv-loop2 μ-loop2 Inv-loop μ-loop) → c .before .before .before .element-count .result ≡ elementCount (job (origin c))
 unfolding elementCount
 elements-are c = c .before .before .before .element-count .ensures
+
+counts-are : (c : tie.After-left-count Inv-loop2 μ-loop2 Inv-loop μ-loop) →
+    _≡_ {A = Counts} (record { bases = c .before .before .base-count .result; rubies = c .before .ruby-count .result; lefts = c .left-count .result }) (countsOf (job (origin c)))
+counts-are c = same (bases-are c) (rubies-are c) (lefts-are c)
+  where
+    same : {b r l b' r' l' : ℕ} → b ≡ b' → r ≡ r' → l ≡ l' → _≡_ {A = Counts} (record { bases = b; rubies = r; lefts = l }) (record { bases = b'; rubies = r'; lefts = l' })
+    same e f g = cc
 
 -- the table as the walk finds it, with its head
 abbrev counted : tie.After-put-head Inv-loop2 μ-loop2 Inv-loop μ-loop → tie.After-left-count Inv-loop2 μ-loop2 Inv-loop μ-loop
@@ -146,8 +154,11 @@ plain c =
     let e = found (m .loop2 .k) (counts l .before .before .before .element-count .result) (a .kind .now) (a .lkind .now) (sym (c .before .is-plain2 .ensures) ∙ c .if2 .taken) in
     (omega (arith, e .0, elements-are (counts l)), e .1, e .2)
 
-left : (c : tie.Else3 Inv-loop2 μ-loop2 Inv-loop μ-loop) → let m = c .before .before .before .before in m .loop2 .at .base < baseCount (job (start (outer m)))
-left c = omega (arith, c .if3 .left, bases-are (counts (outer (c .before .before .before .before))))
+abbrev here : tie.Else3 Inv-loop2 μ-loop2 Inv-loop μ-loop → tie.Then2 Inv-loop2 μ-loop2 Inv-loop μ-loop
+here e = e .before .before .before
+
+left : (e : tie.Else3 Inv-loop2 μ-loop2 Inv-loop μ-loop) → let m = here e .before .before in m .loop2 .at .base < baseCount (job (start (outer m)))
+left e = omega (arith, e .if3 .left, bases-are (counts (outer (here e .before .before))))
 
 few : (l : tie.At-loop Inv-loop2 μ-loop2 Inv-loop μ-loop) → elementCount (job (start l)) ≤ 1024
 few l = l .loop .inv .ready .fewElements
@@ -229,15 +240,15 @@ is-plain-requires-2 c κs =
     let n = elements-are (counts l) in
     (omega (arith, walking c .along .upto, few l), omega (arith, n, e .0), omega (arith, n, e .3))
 
-cast-t39 : tie.Need-cast-t39 Inv-loop2 μ-loop2 Inv-loop μ-loop
-cast-t39 c = let p = c .before .before in omega (arith, plain p .0, few (outer (p .before .before)))
+cast-t40 : tie.Need-cast-t40 Inv-loop2 μ-loop2 Inv-loop μ-loop
+cast-t40 c = let p = c .before .before .before in omega (arith, plain p .0, few (outer (p .before .before)))
 
 same-length : tie.Need-same-length Inv-loop2 μ-loop2 Inv-loop μ-loop
-same-length c = let m = c .before .before .before .before in walking m .long ∙ long (outer m)
+same-length c = let m = c .before .before .before .before .before in walking m .long ∙ long (outer m)
 
 returns : tie.Need-returns Inv-loop2 μ-loop2 Inv-loop μ-loop
 returns c =
-    let p = c .before .before in
+    let p = c .before .before .before in
     let m = p .before .before in
     let l = outer m in
     let j = job (start l) in (
@@ -250,12 +261,12 @@ abbrev bared : tie.After-put-bare Inv-loop2 μ-loop2 Inv-loop μ-loop → tie.El
 bared b = b .before .before .before
 
 add-put-bare : tie.Need-add-put-bare Inv-loop2 μ-loop2 Inv-loop μ-loop
-add-put-bare c = let e = c .before .before in omega (arith, left e, walking (e .before .before .before .before) .ready .few)
+add-put-bare c = let e = c .before .before in omega (arith, left e, walking (here e .before .before) .ready .few)
 
 put-bare-requires : tie.Need-put-bare-requires Inv-loop2 μ-loop2 Inv-loop μ-loop
 put-bare-requires c κs =
     let e = c .before .before in
-    let p = e .before .before in
+    let p = here e in
     let m = p .before .before in
     let l = outer m in
     let at = m .loop2 .at in
@@ -266,33 +277,33 @@ put-plain-requires : tie.Need-put-plain-requires Inv-loop2 μ-loop2 Inv-loop μ-
 put-plain-requires c κs =
     let b = c .before .before .before in
     let e = bared b in
-    let p = e .before .before in
+    let p = here e in
     let m = p .before .before in
     let l = outer m in
     walk.plain-ready (job (start l)) (table l) (m .loop2 .t) (m .loop2 .k) (m .loop2 .at) (walking m) (plain p .0) (plain p .1) (plain p .2) (left e) (b .put-bare .last .0) (b .put-bare .ensures)
 
 -- the character that was written
-abbrev wrote : tie.After-struct-known3 Inv-loop2 μ-loop2 Inv-loop μ-loop → tie.After-put-plain Inv-loop2 μ-loop2 Inv-loop μ-loop
+abbrev wrote : tie.After-struct-known4 Inv-loop2 μ-loop2 Inv-loop μ-loop → tie.After-put-plain Inv-loop2 μ-loop2 Inv-loop μ-loop
 wrote c = c .before .before .before
 
-abbrev under : tie.After-struct-known3 Inv-loop2 μ-loop2 Inv-loop μ-loop → tie.After-put-bare Inv-loop2 μ-loop2 Inv-loop μ-loop
+abbrev under : tie.After-struct-known4 Inv-loop2 μ-loop2 Inv-loop μ-loop → tie.After-put-bare Inv-loop2 μ-loop2 Inv-loop μ-loop
 under c = wrote c .before .before .before .before
 
 add-at : tie.Need-add-at Inv-loop2 μ-loop2 Inv-loop μ-loop
-add-at c = let e = bared (under c) in omega (arith, left e, walking (e .before .before .before .before) .ready .few)
+add-at c = let e = bared (under c) in omega (arith, left e, walking (here e .before .before) .ready .few)
 
 add-k : tie.Need-add-k Inv-loop2 μ-loop2 Inv-loop μ-loop
-add-k c = let p = bared (under c) .before .before in omega (arith, plain p .0, few (outer (p .before .before)))
+add-k c = let p = here (bared (under c)) in omega (arith, plain p .0, few (outer (p .before .before)))
 
 loop2-less : tie.Need-loop2-less Inv-loop2 μ-loop2 Inv-loop μ-loop
-loop2-less c = let p = bared (under c) .before .before in omega (arith, plain p .0, elements-are (counts (outer (p .before .before))))
+loop2-less c = let p = here (bared (under c)) in omega (arith, plain p .0, elements-are (counts (outer (p .before .before))))
 
 loop2-again : tie.Need-loop2-again Inv-loop2 μ-loop2 Inv-loop μ-loop
 loop2-again c =
     let put = wrote c in
     let b = under c in
     let e = bared b in
-    let p = e .before .before in
+    let p = here e in
     let m = p .before .before in
     let l = outer m in (
       omega (arith, m .loop2 .inv .0),
@@ -353,7 +364,7 @@ lay-word-requires c κs =
     let t = c .before in
     let e = t .before .before in
     let n = counts (e .before .before .before) in
-    (bases-are n, rubies-are n, lefts-are n, standing e, t .if4 .taken)
+    (counts-are n, standing e, t .if4 .taken)
 
 enum-known-why : tie.Need-enum-known-why Inv-loop2 μ-loop2 Inv-loop μ-loop
 enum-known-why c = search needs
@@ -390,7 +401,7 @@ lay-both-requires c κs =
     let t = c .before in
     let e = t .before .before in
     let n = counts (e .before .before .before) in
-    (bases-are n, rubies-are n, lefts-are n, standing e, t .if4 .left)
+    (counts-are n, standing e, t .if4 .left)
 
 enum-known-why-2 : tie.Need-enum-known-why-2 Inv-loop2 μ-loop2 Inv-loop μ-loop
 enum-known-why-2 c = search needs
@@ -434,8 +445,8 @@ ended c =
 left-over-requires : tie.Need-left-over-requires Inv-loop2 μ-loop2 Inv-loop μ-loop
 left-over-requires c κs = search needs
 
-cast-t57 : tie.Need-cast-t57 Inv-loop2 μ-loop2 Inv-loop μ-loop
-cast-t57 c = let l = c .before .before .before in omega (arith, elements-are (counts l), few l)
+cast-t58 : tie.Need-cast-t58 Inv-loop2 μ-loop2 Inv-loop μ-loop
+cast-t58 c = let l = c .before .before .before in omega (arith, elements-are (counts l), few l)
 
 same-length-4 : tie.Need-same-length-4 Inv-loop2 μ-loop2 Inv-loop μ-loop
 same-length-4 c = let l = c .before .before .before in l .loop .inv .long ∙ long l
@@ -480,7 +491,7 @@ layout-spec =
     is-plain-requires
     loop2-holds
     is-plain-requires-2
-    cast-t39
+    cast-t40
     same-length
     returns
     add-put-bare
@@ -513,7 +524,7 @@ layout-spec =
     loop-less-3
     loop-again-3
     left-over-requires
-    cast-t57
+    cast-t58
     same-length-4
     returns-4
     same-length-5

@@ -1,4 +1,5 @@
--- Each call gives one of the four lower bounds, and the largest of them is the definition. Two numbers taken away in turn are their sum taken away.
+-- What is taken away from both of two numbers can be taken away from the larger, so each of the two differences is the larger of two of the four bounds; the largest of all
+-- is the definition.
 use mathlib.Core.Path.{_≡_}
 use Prim.Native.Nat.{ℕ, _+_, _-_, max}
 use native.Mathlib.Omega.{arith}
@@ -10,13 +11,13 @@ use Rattle.line.specs.declared.Reading.{Reading}
 use Rattle.line.specs.declared.State.{State}
 use Rattle.line.specs.Setting.{fromIn, asks}
 
-twice : (a b c d r : ℕ) → d ≡ a - b → r ≡ d - c → r ≡ a - (b + c)
-twice a b c d r e f = omega arith
+less-both : (a b c f x y r : ℕ) → x ≡ b - c → y ≡ max a x → r ≡ y - f → r ≡ max (a - f) (b - (f + c))
+less-both a b c f x y r hx hy hr = omega arith
 
-largest-of : (st : State) (e : Element) (z : ℕ) (r : Reading) (f a b c d block ruby x : ℕ) → f ≡ fromIn e r → a ≡ st .end - e .front → b ≡ z - (e .front + e .before) →
-    block ≡ max a b → c ≡ z - f → d ≡ st .end - (f + st .room) → ruby ≡ max c d → x ≡ max block ruby → x ≡ asks st e z r
+largest-of : (st : State) (e : Element) (z : ℕ) (r : Reading) (f block ruby x : ℕ) → f ≡ fromIn e r → block ≡ max (st .end - e .front) (z - (e .front + e .before)) →
+    ruby ≡ max (z - f) (st .end - (f + st .room)) → x ≡ max block ruby → x ≡ asks st e z r
 unfolding asks
-largest-of st e z r f a b c d block ruby x hf ha hb hm hc hd hn hx = rw (hx, hm, hn, ha, hb, hc, hd, hf)
+largest-of st e z r f block ruby x hf hb hr hx = rw (hx, hb, hr, hf)
 
 ruby-from-requires : tie.Need-ruby-from-requires
 ruby-from-requires c κs = search needs
@@ -36,12 +37,6 @@ larger-requires c κs = search needs
 less-requires-4 : tie.Need-less-requires-4
 less-requires-4 c κs = search needs
 
-less-requires-5 : tie.Need-less-requires-5
-less-requires-5 c κs = search needs
-
-less-requires-6 : tie.Need-less-requires-6
-less-requires-6 c κs = search needs
-
 larger-requires-2 : tie.Need-larger-requires-2
 larger-requires-2 c κs = search needs
 
@@ -50,18 +45,16 @@ larger-requires-3 c κs = search needs
 
 returns : tie.Need-returns
 returns c =
-    let last = c .before in
-    let sixth = last .before in
-    let fifth = sixth .before in
-    let fourth = fifth .before in
-    let block = fourth .before in
-    let third = block .before in
-    let second = third .before in
-    let first = second .before in
-    let entry = first .before .before in
-    largest-of (entry .args .st) (entry .args .e) (entry .args .reach) (entry .args .r) _ _ _ _ _ _ _ _ (first .before .ruby-from .ensures) (first .less .ensures)
-    (twice _ _ _ _ _ (second .less2 .ensures) (third .less3 .ensures)) (block .larger .ensures) (fourth .less4 .ensures)
-    (twice _ _ _ _ _ (fifth .less5 .ensures) (sixth .less6 .ensures)) (last .larger2 .ensures) (c .larger3 .ensures)
+    let ruby = c .before in
+    let over = ruby .before in
+    let back = over .before in
+    let block = back .before in
+    let under = block .before in
+    let lie = under .before in
+    let entry = lie .before .before in
+    largest-of (entry .args .st) (entry .args .e) (entry .args .reach) (entry .args .r) _ _ _ _ (lie .before .ruby-from .ensures)
+    (less-both _ _ _ _ _ _ _ (lie .less .ensures) (under .larger .ensures) (block .less2 .ensures))
+    (less-both _ _ _ _ _ _ _ (back .less3 .ensures) (over .larger2 .ensures) (ruby .less4 .ensures)) (c .larger3 .ensures)
 
 pub asked-by-spec : {M : Type 1} → statement M
 asked-by-spec =
@@ -69,12 +62,10 @@ asked-by-spec =
     (tie.spec
     ruby-from-requires
     less-requires
+    larger-requires
     less-requires-2
     less-requires-3
-    larger-requires
-    less-requires-4
-    less-requires-5
-    less-requires-6
     larger-requires-2
+    less-requires-4
     larger-requires-3
     returns)

@@ -45,14 +45,17 @@ unfolding headOf onPart onPlace onNumber
 returns-3 c =
     let n = c .before .before in
     let w = n .before .before .before .before in
-    rw (w .before .before .last .given .1, ← (sym (n .before .before .p .given .1) ∙ w .read-word .ensures), ← (sym (c .enum-told3 .given .1) ∙ n .read-number .ensures))
+    let word = sym (n .before .before .p .given .1) ∙ w .read-word .ensures in
+    rw (w .before .before .last .given .1, ← word, ← (sym (c .enum-told3 .given .1) ∙ n .read-number .ensures))
 
 returns-4 : tie.Need-returns-4
 unfolding headOf onPart onPlace onNumber
 returns-4 c =
     let n = c .before .before .before .before in
     let w = n .before .before .before .before in
-    rw (w .before .before .last .given .1, ← (sym (n .before .before .p .given .1) ∙ w .read-word .ensures), ← (sym (c .before .before .n .given .1) ∙ n .read-number .ensures), lt-ltb _ _ (c .if1 .taken))
+    let word = sym (n .before .before .p .given .1) ∙ w .read-word .ensures in
+    let number = sym (c .before .before .n .given .1) ∙ n .read-number .ensures in
+    rw (w .before .before .last .given .1, ← word, ← number, lt-ltb _ _ (c .if1 .taken))
 
 cast-t17 : tie.Need-cast-t17
 cast-t17 c = search needs
@@ -68,7 +71,9 @@ unfolding headOf onPart onPlace onNumber
 returns-5 c =
     let n = c .before .before .before .before in
     let w = n .before .before .before .before in
-    rw (w .before .before .last .given .1, ← (sym (n .before .before .p .given .1) ∙ w .read-word .ensures), ← (sym (c .before .before .n .given .1) ∙ n .read-number .ensures), le-ltb _ _ (c .if1 .left))
+    let word = sym (n .before .before .p .given .1) ∙ w .read-word .ensures in
+    let number = sym (c .before .before .n .given .1) ∙ n .read-number .ensures in
+    rw (w .before .before .last .given .1, ← word, ← number, le-ltb _ _ (c .if1 .left))
 
 pub head-at-spec : {M : Type 1} → statement M
 head-at-spec =

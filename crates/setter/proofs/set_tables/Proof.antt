@@ -1,134 +1,128 @@
--- The parts of the two tables of characters lie within them; the rest is the job with its elements in tables.
+-- What the filling of the tables' job found decides which text is written. A refusal's is its own; lines are written to the result lists, which are then the outcome's, and printed from them.
 use mathlib.Core.List.{List}
-use mathlib.Core.Path.{_≡_}
+use mathlib.Core.Path.{_≡_, subst}
 use Prim.Native.Nat.{ℕ, _+_, _≤_}
 use borrow.Author.Needs.{needs}
 use native.Mathlib.Omega.{arith}
 use lib.ListN.{length}
+use Rattle.sheet.specs.Sheet.{tables}
+use Rattle.door.specs.Job.{Job}
+use Rattle.filling.specs.declared.Lines.{Lines}
+use Rattle.engine.specs.Filled.{Fills}
+use Rattle.sheet_job.specs.Tables.{tablesJob}
+use Rattle.result.specs.Short.{refusal-short}
+use Rattle.setter.specs.Printed.{told-refused, lines-ready, ends-room, ready, told-set}
 use Rattle.setter.proofs.set_tables.Statement.{statement}
 use Rattle.setter.proofs.set_tables.Tie as tie
 
--- both columns of a table of two
-within : (t : List ℕ) (n : ℕ) → length t ≡ 4096 → n ≤ 2048 → (n ≤ length t) × (2048 + n ≤ length t)
-within t n f h = (omega arith, omega arith)
+-- a column of widths lies within its table
+within : (t : List ℕ) (a n : ℕ) {most all : ℕ} → length t ≡ all → n ≤ most → a + most ≤ all → a + n ≤ length t
+within t a n f h g = omega arith
 
-rubies : (a : tie.Start) → (a .args .n .rubies ≤ length (a .args .ruby .now)) × (2048 + a .args .n .rubies ≤ length (a .args .ruby .now))
-rubies a = within (a .args .ruby .now) (a .args .n .rubies) (a .pre .0 .longRuby) (a .pre .0 .rubies)
+abbrev start : tie.After-fill-tables → tie.Start
+start c = c .before .before .before .before .before .before .before .before .before .before .before .before .before .before .before .before .before .before .before .before
 
-add-b1 : tie.Need-add-b1
-add-b1 c = search needs
+abbrev job : tie.Start → Job
+job a = let x = a .args in tablesJob (x .n) (tables (x .set .now) (x .base .now) (x .ruby .now) (x .left .now) (x .elem .now) (x .runs .now) (x .lruns .now))
 
-add-b2 : tie.Need-add-b2
-add-b2 c = search needs
+-- what was found, and where it is matched
+told : (c : tie.After-fill-tables) {a : Lines} → c .fill-tables .result ≡ a →
+    let x = start c .args in
+    Fills (job (start c)) 1024 2048 2048 1024 (x .ends .now) (x .extents .now) (c .fill-tables .last .0) (c .fill-tables .last .1 .0) (c .fill-tables .last .1 .1 .0) a
+told c e =
+    let x = start c .args in
+    subst (Fills (job (start c)) 1024 2048 2048 1024 (x .ends .now) (x .extents .now) (c .fill-tables .last .0) (c .fill-tables .last .1 .0) (c .fill-tables .last .1 .1 .0)) e
+    (c .fill-tables .ensures)
 
-add-b3 : tie.Need-add-b3
-add-b3 c = search needs
+abbrev refused : tie.After-why → tie.After-fill-tables
+refused w = w .before .before
 
-add-b4 : tie.Need-add-b4
-add-b4 c = search needs
+abbrev filled : tie.After-k → tie.After-fill-tables
+filled w = w .before .before
 
-add-r1 : tie.Need-add-r1
-add-r1 c = search needs
+shared-slice-read-em : tie.Need-shared-slice-read-em
+shared-slice-read-em c = search needs
 
-shared-slice-read-set-elements : tie.Need-shared-slice-read-set-elements
-shared-slice-read-set-elements c = search needs
+add-b : tie.Need-add-b
+add-b c = search needs
 
-shared-slice-read-set-elements-2 : tie.Need-shared-slice-read-set-elements-2
-shared-slice-read-set-elements-2 c = search needs
+add-r : tie.Need-add-r
+add-r c = search needs
 
-shared-slice-read-t26 : tie.Need-shared-slice-read-t26
-shared-slice-read-t26 c = search needs
+add-l : tie.Need-add-l
+add-l c = search needs
 
-shared-slice-read-t28 : tie.Need-shared-slice-read-t28
-shared-slice-read-t28 c = search needs
+fill-tables-requires : tie.Need-fill-tables-requires
+fill-tables-requires c κs = c .before .before .before .before .before .before .before .before .before .before .before .before .before .before .before .before .before .before .before .pre .0
 
-shared-slice-read-t30 : tie.Need-shared-slice-read-t30
-shared-slice-read-t30 c = search needs
+enum-known-why : tie.Need-enum-known-why
+enum-known-why c = search needs
 
-shared-slice-read-t33 : tie.Need-shared-slice-read-t33
-shared-slice-read-t33 c = search needs
+write-refusal-requires : tie.Need-write-refusal-requires
+write-refusal-requires c κs =
+    let w = c .before .before in
+    omega (arith, refusal-short (w .why .given .0 .0), start (refused w) .pre .1 .1)
 
-shared-slice-read-t35 : tie.Need-shared-slice-read-t35
-shared-slice-read-t35 c = search needs
+enum-known-k : tie.Need-enum-known-k
+enum-known-k c = search needs
 
-shared-slice-read-t37 : tie.Need-shared-slice-read-t37
-shared-slice-read-t37 c = search needs
+sub-put-lines : tie.Need-sub-put-lines
+sub-put-lines c = search needs
 
-shared-slice-read-set-elements-3 : tie.Need-shared-slice-read-set-elements-3
-shared-slice-read-set-elements-3 c = search needs
+part-put-lines-start : tie.Need-part-put-lines-start
+part-put-lines-start c = search needs
 
-sub-set-elements : tie.Need-sub-set-elements
-sub-set-elements c = search needs
+part-put-lines-end : tie.Need-part-put-lines-end
+part-put-lines-end c =
+    let a = start (filled (c .before .before .before .before .before)) in
+    within (a .args .base .now) 1024 (a .args .n .bases) (a .pre .0 .lent .longBase) (a .pre .0 .bases) (omega arith)
 
-part-set-elements-start : tie.Need-part-set-elements-start
-part-set-elements-start c = search needs
+sub-put-lines-2 : tie.Need-sub-put-lines-2
+sub-put-lines-2 c = search needs
 
-part-set-elements-end : tie.Need-part-set-elements-end
-part-set-elements-end c = search needs
+part-put-lines-start-2 : tie.Need-part-put-lines-start-2
+part-put-lines-start-2 c = search needs
 
-sub-set-elements-2 : tie.Need-sub-set-elements-2
-sub-set-elements-2 c = search needs
+part-put-lines-end-2 : tie.Need-part-put-lines-end-2
+part-put-lines-end-2 c =
+    let a = start (filled (c .before .before .before .before .before .before)) in
+    within (a .args .ruby .now) 2048 (a .args .n .rubies) (a .pre .0 .lent .longRuby) (a .pre .0 .rubies) (omega arith)
 
-part-set-elements-start-2 : tie.Need-part-set-elements-start-2
-part-set-elements-start-2 c = search needs
+sub-put-lines-3 : tie.Need-sub-put-lines-3
+sub-put-lines-3 c = search needs
 
-part-set-elements-end-2 : tie.Need-part-set-elements-end-2
-part-set-elements-end-2 c = search needs
+part-put-lines-start-3 : tie.Need-part-put-lines-start-3
+part-put-lines-start-3 c = search needs
 
-sub-set-elements-3 : tie.Need-sub-set-elements-3
-sub-set-elements-3 c = search needs
+part-put-lines-end-3 : tie.Need-part-put-lines-end-3
+part-put-lines-end-3 c =
+    let a = start (filled (c .before .before .before .before .before .before .before)) in
+    within (a .args .left .now) 2048 (a .args .n .lefts) (a .pre .0 .lent .rest .longLeft) (a .pre .0 .few .lefts) (omega arith)
 
-part-set-elements-start-3 : tie.Need-part-set-elements-start-3
-part-set-elements-start-3 c = search needs
+put-lines-requires : tie.Need-put-lines-requires
+put-lines-requires c κs =
+    let w = c .before .before .before .before .before .before .before .before .before .before .before in
+    lines-ready (start (filled w) .pre .1 .0) (told (filled w) (w .k .given .1))
 
-part-set-elements-end-3 : tie.Need-part-set-elements-end-3
-part-set-elements-end-3 c = search needs
+put-ends-requires : tie.Need-put-ends-requires
+put-ends-requires c κs =
+    let w = c .before .before .before .before .before .before .before .before .before .before .before .before .before .before .before .before .before .before .before .before .before in
+    ends-room (start (filled w) .pre .1 .0) (told (filled w) (w .k .given .1))
 
-sub-set-elements-4 : tie.Need-sub-set-elements-4
-sub-set-elements-4 c = search needs
-
-part-set-elements-start-4 : tie.Need-part-set-elements-start-4
-part-set-elements-start-4 c = search needs
-
-part-set-elements-end-4 : tie.Need-part-set-elements-end-4
-part-set-elements-end-4 c = search needs
-
-sub-set-elements-5 : tie.Need-sub-set-elements-5
-sub-set-elements-5 c = search needs
-
-part-set-elements-start-5 : tie.Need-part-set-elements-start-5
-part-set-elements-start-5 c = search needs
-
-part-set-elements-end-5 : tie.Need-part-set-elements-end-5
-part-set-elements-end-5 c = search needs
-
-sub-set-elements-6 : tie.Need-sub-set-elements-6
-sub-set-elements-6 c = search needs
-
-part-set-elements-start-6 : tie.Need-part-set-elements-start-6
-part-set-elements-start-6 c = search needs
-
-part-set-elements-end-6 : tie.Need-part-set-elements-end-6
-part-set-elements-end-6 c = rubies
-    (c .before .before .before .before .before .before .before .before .before .before .before .before .before .before .before .before .before .before .before .before .before .before
-    .before .before .before .before) .0
-
-sub-set-elements-7 : tie.Need-sub-set-elements-7
-sub-set-elements-7 c = search needs
-
-part-set-elements-start-7 : tie.Need-part-set-elements-start-7
-part-set-elements-start-7 c = search needs
-
-part-set-elements-end-7 : tie.Need-part-set-elements-end-7
-part-set-elements-end-7 c = rubies
-    (c .before .before .before .before .before .before .before .before .before .before .before .before .before .before .before .before .before .before .before .before .before .before
-    .before .before .before .before .before) .1
-
-set-elements-requires : tie.Need-set-elements-requires
-set-elements-requires c κs = search needs
+write-result-requires : tie.Need-write-result-requires
+write-result-requires c κs =
+    let e = c .before .before .before .before .before .before .before .before .before .before .before .before in
+    let p = e .before .before .before .before .before .before .before .before .before .before in
+    let w = p .before .before .before .before .before .before .before .before .before .before .before .before in
+    ready (start (filled w) .pre .1 .0) (told (filled w) (w .k .given .1)) (p .put-lines .ensures) (e .put-ends .ensures) (start (filled w) .pre .1 .1)
 
 same-length : tie.Need-same-length
 same-length c = search needs
+
+returns : tie.Need-returns
+returns c =
+    let w = c .before .before .before .before .before in
+    told-refused (start (refused w) .pre .1 .0) (told (refused w) (w .why .given .1)) (c .before .before .write-refusal .ensures)
 
 same-length-2 : tie.Need-same-length-2
 same-length-2 c = search needs
@@ -142,52 +136,46 @@ same-length-4 c = search needs
 same-length-5 : tie.Need-same-length-5
 same-length-5 c = search needs
 
-returns : tie.Need-returns
-returns c = c .before .before .before .before .before .before .before .before .before .before .set-elements .ensures
+same-length-6 : tie.Need-same-length-6
+same-length-6 c = search needs
+
+returns-2 : tie.Need-returns-2
+returns-2 c =
+    let r = c .before .before in
+    let e = r .before .before .before .before .before .before .before .before .before .before .before .before .before in
+    let p = e .before .before .before .before .before .before .before .before .before .before in
+    let w = p .before .before .before .before .before .before .before .before .before .before .before .before in
+    told-set (start (filled w) .pre .1 .0) (told (filled w) (w .k .given .1)) (p .put-lines .ensures) (e .put-ends .ensures) (r .write-result .ensures)
 
 pub set-tables-spec : {M : Type 1} → statement M
 set-tables-spec =
     tie.close
     (tie.spec
-    add-b1
-    add-b2
-    add-b3
-    add-b4
-    add-r1
-    shared-slice-read-set-elements
-    shared-slice-read-set-elements-2
-    shared-slice-read-t26
-    shared-slice-read-t28
-    shared-slice-read-t30
-    shared-slice-read-t33
-    shared-slice-read-t35
-    shared-slice-read-t37
-    shared-slice-read-set-elements-3
-    sub-set-elements
-    part-set-elements-start
-    part-set-elements-end
-    sub-set-elements-2
-    part-set-elements-start-2
-    part-set-elements-end-2
-    sub-set-elements-3
-    part-set-elements-start-3
-    part-set-elements-end-3
-    sub-set-elements-4
-    part-set-elements-start-4
-    part-set-elements-end-4
-    sub-set-elements-5
-    part-set-elements-start-5
-    part-set-elements-end-5
-    sub-set-elements-6
-    part-set-elements-start-6
-    part-set-elements-end-6
-    sub-set-elements-7
-    part-set-elements-start-7
-    part-set-elements-end-7
-    set-elements-requires
+    shared-slice-read-em
+    add-b
+    add-r
+    add-l
+    fill-tables-requires
+    enum-known-why
+    write-refusal-requires
+    enum-known-k
+    sub-put-lines
+    part-put-lines-start
+    part-put-lines-end
+    sub-put-lines-2
+    part-put-lines-start-2
+    part-put-lines-end-2
+    sub-put-lines-3
+    part-put-lines-start-3
+    part-put-lines-end-3
+    put-lines-requires
+    put-ends-requires
+    write-result-requires
     same-length
+    returns
     same-length-2
     same-length-3
     same-length-4
     same-length-5
-    returns)
+    same-length-6
+    returns-2)

@@ -1,4 +1,5 @@
--- What the digits from here on say, after those that said v, is what the whole says. Each byte is one step of the definition; past the end nothing is left, which is a fault.
+-- What the digits from here on say, after those that said v, is what the whole says.
+-- Each byte is one step of the definition; past the end nothing is left, which is a fault.
 use Rattle.text.specs.Text.{more as moreIn}
 use mathlib.Core.Path.{_∙_, sym}
 use borrow.Author.Tests.{eq-eqb, ne-eqb, lt-ltb, le-ltb}
@@ -32,17 +33,24 @@ add-t14 c = search needs
 
 returns : tie.Need-returns Inv-loop μ-loop
 unfolding moreIn
-returns c = sym (c .before .before .before .loop .inv .2 ∙ simp (drop-at (c .before .before .before .before .before .args .s .now) _ (c .before .before .loop-test .taken), eq-eqb _ _ (c .if1 .taken)))
+returns c =
+    let l = c .before .before .before in
+    let byte = drop-at (l .before .before .args .s .now) _ (c .before .before .loop-test .taken) in
+    sym (l .loop .inv .2 ∙ simp (byte, eq-eqb _ _ (c .if1 .taken)))
 
 returns-2 : tie.Need-returns-2 Inv-loop μ-loop
 unfolding moreIn
-returns-2 c = sym (c .before .before .before .before .loop .inv .2 ∙ simp (drop-at (c .before .before .before .before .before .before .args .s .now) _ (c .before .before .before .loop-test .taken), ne-eqb _ _ (c .before .if1 .left), lt-ltb _ _ (c .if2 .taken)))
+returns-2 c =
+    let l = c .before .before .before .before in
+    let byte = drop-at (l .before .before .args .s .now) _ (c .before .before .before .loop-test .taken) in
+    sym (l .loop .inv .2 ∙ simp (byte, ne-eqb _ _ (c .before .if1 .left), lt-ltb _ _ (c .if2 .taken)))
 
 returns-3 : tie.Need-returns-3 Inv-loop μ-loop
 unfolding moreIn
 returns-3 c =
-    sym (c .before .before .before .before .before .loop .inv .2 ∙
-    simp (drop-at (c .before .before .before .before .before .before .before .args .s .now) _ (c .before .before .before .before .loop-test .taken), ne-eqb _ _ (c .before .before .if1 .left), le-ltb _ _ (c .before .if2 .left), lt-ltb _ _ (c .if3 .taken)))
+    let l = c .before .before .before .before .before in
+    let byte = drop-at (l .before .before .args .s .now) _ (c .before .before .before .before .loop-test .taken) in
+    sym (l .loop .inv .2 ∙ simp (byte, ne-eqb _ _ (c .before .before .if1 .left), le-ltb _ _ (c .before .if2 .left), lt-ltb _ _ (c .if3 .taken)))
 
 mul-w : tie.Need-mul-w Inv-loop μ-loop
 mul-w c = search needs
@@ -57,8 +65,11 @@ returns-4 : tie.Need-returns-4 Inv-loop μ-loop
 unfolding moreIn
 returns-4 c =
     let e = c .before .before .before .before in
-    sym (e .before .before .before .loop .inv .2 ∙
-    simp (drop-at (e .before .before .before .before .before .args .s .now) _ (e .before .before .loop-test .taken), ne-eqb _ _ (e .if1 .left), le-ltb _ _ (c .before .before .before .if2 .left), le-ltb _ _ (c .before .before .if3 .left), ← c .before .wide .ensures, lt-ltb _ _ (c .if4 .taken)))
+    let l = e .before .before .before in
+    let byte = drop-at (l .before .before .args .s .now) _ (e .before .before .loop-test .taken) in
+    let low = le-ltb _ _ (c .before .before .before .if2 .left) in
+    let high = le-ltb _ _ (c .before .before .if3 .left) in
+    sym (l .loop .inv .2 ∙ simp (byte, ne-eqb _ _ (e .if1 .left), low, high, ← c .before .wide .ensures, lt-ltb _ _ (c .if4 .taken)))
 
 add-at : tie.Need-add-at Inv-loop μ-loop
 add-at c = search needs
@@ -69,11 +80,14 @@ loop-less c = search needs
 loop-again : tie.Need-loop-again Inv-loop μ-loop
 unfolding moreIn
 loop-again c =
-    let e = c .before .before .before .before in (
+    let e = c .before .before .before .before in
+    let l = e .before .before .before in
+    let byte = drop-at (l .before .before .args .s .now) _ (e .before .before .loop-test .taken) in
+    let low = le-ltb _ _ (c .before .before .before .if2 .left) in
+    let high = le-ltb _ _ (c .before .before .if3 .left) in (
       search needs,
       search needs,
-      e .before .before .before .loop .inv .2 ∙
-          simp (drop-at (e .before .before .before .before .before .args .s .now) _ (e .before .before .loop-test .taken), ne-eqb _ _ (e .if1 .left), le-ltb _ _ (c .before .before .before .if2 .left), le-ltb _ _ (c .before .before .if3 .left), ← c .before .wide .ensures, le-ltb _ _ (c .if4 .left)),
+      l .loop .inv .2 ∙ simp (byte, ne-eqb _ _ (e .if1 .left), low, high, ← c .before .wide .ensures, le-ltb _ _ (c .if4 .left)),
     )
 
 returns-5 : tie.Need-returns-5 Inv-loop μ-loop

@@ -1,4 +1,4 @@
--- The first byte decides which case of the definition it is, and the rest is `alone` or `more`.
+-- `text::number_at` meets its contract. The first byte decides which case of the definition it is, and the rest is `alone` or `more`.
 use Rattle.text.specs.Text.{number as numberIn}
 use Rattle.text.specs.Places.{drop-at}
 use mathlib.Core.Path.{_∙_, sym}
@@ -53,7 +53,10 @@ unfolding numberIn
 returns-5 c =
     let e = c .before .before .before .before in
     let d = e .before .before in
-    c .more .ensures ∙ sym (simp (drop-at (d .before .before .args .s .now) _ (d .if1 .left), ne-eqb _ _ (e .if2 .left), le-ltb _ _ (c .before .before .before .if3 .left), le-ltb _ _ (c .before .before .if4 .left), ← c .before .wide32 .ensures))
+    let byte = drop-at (d .before .before .args .s .now) _ (d .if1 .left) in
+    let digit = le-ltb _ _ (c .before .before .if4 .left) in
+    c .more .ensures ∙
+    sym (simp (byte, ne-eqb _ _ (e .if2 .left), le-ltb _ _ (c .before .before .before .if3 .left), digit, ← c .before .wide32 .ensures))
 
 pub number-at-spec : {M : Type 1} → statement M
 number-at-spec =

@@ -1,6 +1,6 @@
--- `text::read_word` meets its contract: a walk of its MIR, by hand. The `Reader` that `open` returns is held in a local and passed to `word`, beside the word's slice. All that the proof knows of `open` and of `word` is that each meets its contract.
--- The slices are Copy: what each owns is had twice, once for a callee and once for the exit. `open` is given the sheet's lifetime's token alone, and `word` both. In a local of a body MIR erases the lifetime of the struct's type, so the value is shown to have the type at `erased`.
--- Assumes nothing.
+-- `text::read_word` meets its contract, by a walk of its MIR: the `Reader` that `open` returns is held in a local, at the type with its lifetime erased, and
+-- passed to `word` beside the word's slice, and of both calls only the contracts are known. The slices are Copy, so what each owns is had twice, once for a
+-- callee and once for the exit; `open` is given the token of the sheet's lifetime alone, and `word` both.
 use Rattle.text.specs.Text.{word as wordIn}
 use Rattle.text.proofs.Reader.open.Symbol.{name as #text·open}
 use Rattle.text.proofs.Reader.word.Symbol.{name as #text·word}
@@ -21,7 +21,7 @@ use ghost.Atoms.{Atoms, sem}
 use contract.Lifetimes.{Lfts}
 use contract.Monad.{Fun, fact}
 use contract.Running.{givenOf, tables, tablesOf}
-use types.Kit.{Given, ‵, raw, _⊛_, ⋆, some, later, _$_, _∵_, !, qed, by, move, drop as dropped, use1, use2, use3, split, join, pick, fsplit, fjoin, suffices, frame, await, done}
+use types.Kit.{Given, Item, ‵, raw, _⊛_, ⋆, some, later, _$_, _∵_, !, qed, by, move, drop as dropped, use1, use2, use3, split, join, pick, fsplit, fjoin, suffices, frame, await, done}
 use types.Run.{look, init, forget, stop, from, load, and-then, no-more, land, returns, enter, alloc1, alloc0, params1, pass1, pass0, free1, free0}
 use sound.WpLaws.{FmC, fmOf, WpFn-mono}
 use denote.RattleType.{RattleType, owns}
@@ -41,7 +41,7 @@ use denote.Triple.Spec.{Meets, tripleOf}
 use denote.Triple.Table.{entered, cited}
 use denote.Triple.Walked.{says, Stays, stay-none, stay-none-slice, walkOf, goes-none, goes-none-slice, Walks, ends-at, walked, walk-meets}
 use denote.Exit.{yes}
-use denote.Triple.Clauses.{ensured, lasts}
+use denote.Triple.Clauses.{Clauses, ensured, lasts}
 use Rattle.text.specs.declared.Reader.{Reader}
 use Rattle.text.specs.declared.Place.{Place}
 use Rattle.text.proofs.Reader as T
@@ -65,7 +65,10 @@ B κs = T.the-row (namedLft 2 0 tt κs)
 abbrev stayed : Stays (read.ended .signature .params) (read.ended .kept)
 stayed = (stay-none-slice (0 ∷ []) tt (plain (λ _. u8)) yes, (stay-none (λ _. usize) yes, (stay-none-slice (1 ∷ []) tt (plain (λ _. u8)) yes, tt)))
 
-module _ {M : Type 1} (𝓤 : URA M) (H : Heap 𝓤) (A : Atoms 𝓤) (mem : Memory → SProp 𝓤) (run : Routine → Fun 𝓤) where
+module _ {M : Type 1} (𝓤 : URA M) (H : Heap 𝓤) (A : Atoms 𝓤) (W : Given 𝓤 H A) (mem : Memory → SProp 𝓤) (run : Routine → Fun 𝓤) where
+  abbrev clauses : Clauses 𝓤 read.ended
+  clauses = read.clauses 𝓤 H A mem run
+
   -- the contracts that the proof cites
   abbrev New : Contract 𝓤
   New = tripleOf 𝓤 H A new.signature (new.spec 𝓤 H A mem run)
@@ -73,116 +76,169 @@ module _ {M : Type 1} (𝓤 : URA M) (H : Heap 𝓤) (A : Atoms 𝓤) (mem : Mem
   abbrev Next : Contract 𝓤
   Next = tripleOf 𝓤 H A next.signature (next.spec 𝓤 H A mem run)
 
-module _ {M : Type 1} (𝓤 : URA M) (H : Heap 𝓤) (A : Atoms 𝓤) (W : Given 𝓤 H A) (mem : Memory → SProp 𝓤) (run : Routine → Fun 𝓤) (κ κ′ : Lft) (q q′ : Share) (s : RefT (List ℕ)) (n : ℕ) (w : RefT (List ℕ)) (okn : n < 2 ^ 64) where
-  abbrev κs : Lfts 2
-  κs = (κ, (κ′, tt))
+  module _ (κ κ′ : Lft) (q q′ : Share) (s : RefT (List ℕ)) (n : ℕ) (w : RefT (List ℕ)) (okn : n < 2 ^ 64) where
+    abbrev κs : Lfts 2
+    κs = (κ, (κ′, tt))
 
-  -- the machine values that s and w have
-  abbrev v : Val
-  v = sliceVal (s .ptr) (length (s .now))
+    -- the types of s and of w, and the machine values that they have
+    abbrev slice : RattleType
+    slice = ShrSlice (named 0) κ u8
 
-  abbrev vw : Val
-  vw = sliceVal (w .ptr) (length (w .now))
+    abbrev slice-w : RattleType
+    slice-w = ShrSlice (named 1) κ′ u8
 
-  -- what a word at m of x is answered
-  abbrev answer : RefT (List ℕ) → ℕ → Place
-  answer x m = wordIn (now w) (drop m (now x)) m
+    abbrev v : Val
+    v = sliceVal (s .ptr) (length (s .now))
 
-  abbrev at : Vals read.signature κs
-  at = (v ∷ [], (vint w64 n ∷ [], (vw ∷ [], tt)))
+    abbrev vw : Val
+    vw = sliceVal (w .ptr) (length (w .now))
 
-  -- the struct's type as a local of a body has it
-  abbrev αᵉ : NamedLft
-  αᵉ = record { mir = erased; lft = κ }
+    -- what a word at m of x is answered
+    abbrev answer : RefT (List ℕ) → ℕ → Place
+    answer x m = wordIn (now w) (drop m (now x)) m
 
-  abbrev Post : Val → SProp 𝓤
-  Post = walkOf 𝓤 H A read.ended stayed (read.clauses 𝓤 H A mem run) .post ((κs, (q, (q′, tt)), tt, (s, (n, (w, tt))), at), tt)
+    abbrev at : Vals read.signature κs
+    at = (v ∷ [], (vint w64 n ∷ [], (vw ∷ [], tt)))
 
-  abbrev Own : Fml
-  Own = ShrSlice (named 0) κ u8 .own s (v ∷ [])
+    abbrev Entry : SProp 𝓤
+    Entry = onEntry 𝓤 H A read.signature κs (q, (q′, tt)) (s, (n, (w, tt))) at
 
-  abbrev Own-w : Fml
-  Own-w = ShrSlice (named 1) κ′ u8 .own w (vw ∷ [])
+    -- the struct's type as a local of a body has it
+    abbrev αᵉ : NamedLft
+    αᵉ = record { mir = erased; lft = κ }
 
-  -- what is kept for the exit; and beside the call of `open`, what `word` needs more
-  abbrev Kept : Fml
-  Kept = owns (ShrSlice (named 0) κ u8 ∷ usize ∷ ShrSlice (named 1) κ′ u8 ∷ []) (s, (n, (w, tt))) at
+    abbrev on : walkOf 𝓤 H A read.ended stayed clauses .Ghost
+    on = ((κs, (q, (q′, tt)), tt, (s, (n, (w, tt))), at), tt)
 
-  abbrev Aside : Fml
-  Aside = fsep (flft κ′ q′) (fsep Own-w Kept)
+    abbrev Post : Val → SProp 𝓤
+    Post = walkOf 𝓤 H A read.ended stayed clauses .post on
 
-  -- the call of `open`: what it is passed, what it asks, and what is known of its result
-  abbrev to-new : New 𝓤 H A mem run .Ghost
-  to-new = (((κ, tt), (q, tt), tt, (s, (n, tt)), (v ∷ [], (vint w64 n ∷ [], tt))), tt)
+    -- the token of κ, and both lifetimes' tokens
+    abbrev token : Item 𝓤
+    token = ‵ (flft κ q) ⊛ ‵ ftrue
 
-  goes-new : ent 𝓤 (onEntry 𝓤 H A read.signature κs (q, (q′, tt)) (s, (n, (w, tt))) at) (sep 𝓤 (New 𝓤 H A mem run .pre to-new) (sem 𝓤 H A Aside))
-  goes-new =
-      qed W ((‵ (flft κ q) ⊛ ‵ (flft κ′ q′) ⊛ ‵ ftrue) ∷ ‵ Kept ∷ []) ∵
-      split ! $ move ! (1 ∷ []) $ split ! $ move ! (2 ∷ 1 ∷ []) $ join ! $
-      move ! (2 ∷ []) $ fsplit ! $ move ! (1 ∷ []) $ fsplit ! $ dropped ! $ fsplit ! $ use1 W (‵ Own-w ⊛ ‵ Own-w) (shr-slice-copy 𝓤 H A W (named 1) κ′ u8 .twice w (vw ∷ [])) $ split ! $
-      move ! (3 ∷ []) $ use1 W (‵ Own ⊛ ‵ Own) (shr-slice-copy 𝓤 H A W (named 0) κ u8 .twice s (v ∷ [])) $ split ! $
-      -- [what s owns, twice; what w owns, twice; nothing; the token of κ; the token of κ′]
-      nothing ! $ owned ! usize (Is usize) (uint-makes 𝓤 H A W w64) n _ (refl, okn) $ fjoin ! $ move ! (1 ∷ 0 ∷ []) $ fjoin ! $ move ! (5 ∷ 0 ∷ []) $ use2 W (raw (New 𝓤 H A mem run .pre to-new)) (qed W ((‵ (flft κ q) ⊛ ‵ ftrue) ∷ ‵ (owns (ShrSlice (named 0) κ u8 ∷ usize ∷ []) (s, (n, tt)) (v ∷ [], (vint w64 n ∷ [], tt))) ∷ []) ∵ join ! $ frame ! $ done !) $ frame ! $
-      -- [what s owns; what w owns, twice; nothing; the token of κ′]
-      move ! (1 ∷ 3 ∷ []) $ fjoin ! $ owned ! usize (Is usize) (uint-makes 𝓤 H A W w64) n _ (refl, okn) $ fjoin ! $ move ! (1 ∷ 0 ∷ []) $ fjoin ! $ move ! (2 ∷ 1 ∷ 0 ∷ []) $ done !
+    abbrev tokens : Item 𝓤
+    tokens = ‵ (flft κ q) ⊛ ‵ (flft κ′ q′) ⊛ ‵ ftrue
 
-  new-said : (r : Reader) → ent 𝓤 (ensured 𝓤 H A new.ended (new.clauses 𝓤 H A mem run) (κ, tt) (s, (n, tt)) tt r) (fact 𝓤 ((r .sheet ≡ s) × (r .at ≡ n)))
-  new-said r = exE 𝓤 _ (λ ws. snd∗ 𝓤 (sem 𝓤 H A (lasts new.ended (κ, tt) (s, (n, tt)) ws)) (fact 𝓤 ((r .sheet ≡ s) × (r .at ≡ n))))
+    abbrev Own : Fml
+    Own = slice .own s (v ∷ [])
 
-  -- the call of `word`, at the struct r with the machine value u
-  abbrev to-next : Reader → Val → Next 𝓤 H A mem run .Ghost
-  to-next r u = ((κs, (q, (q′, tt)), tt, (r, (w, tt)), (u ∷ [], (vw ∷ [], tt))), tt)
+    abbrev Own-w : Fml
+    Own-w = slice-w .own w (vw ∷ [])
 
-  goes-next : (r : Reader) (u : Val) → ent 𝓤 (⋆ 𝓤 H A (‵ (B κs .own r (u ∷ [])) ∷ (‵ (flft κ q) ⊛ ‵ ftrue) ∷ ‵ Aside ∷ [])) (sep 𝓤 (Next 𝓤 H A mem run .pre (to-next r u)) (sem 𝓤 H A Kept))
-  goes-next r u =
-      qed W (‵ (B κs .own r (u ∷ [])) ∷ (‵ (flft κ q) ⊛ ‵ ftrue) ∷ ‵ Aside ∷ []) ∵
-      move ! (2 ∷ []) $ fsplit ! $ move ! (1 ∷ []) $ fsplit ! $ nothing ! $ move ! (1 ∷ 0 ∷ []) $ fjoin ! $ move ! (3 ∷ 0 ∷ []) $ fjoin ! $
-      -- [what the struct and w own; what is kept; the token of κ′; the token of κ]
-      move ! (3 ∷ []) $ split ! $ move ! (4 ∷ 1 ∷ []) $ join ! $ move ! (1 ∷ 0 ∷ []) $ join ! $
-      use2 W (raw (Next 𝓤 H A mem run .pre (to-next r u))) (qed W ((‵ (flft κ q) ⊛ ‵ (flft κ′ q′) ⊛ ‵ ftrue) ∷ ‵ (owns (B κs ∷ ShrSlice (named 1) κ′ u8 ∷ []) (r, (w, tt)) (u ∷ [], (vw ∷ [], tt))) ∷ []) ∵ join ! $ frame ! $ done !) $ frame ! $ done !
+    -- what is kept for the exit; and beside the call of `open`, what `word` needs more
+    abbrev Kept : Fml
+    Kept = owns (slice ∷ usize ∷ slice-w ∷ []) (s, (n, (w, tt))) at
 
-  next-said : (r : Reader) (t : Place) → ent 𝓤 (ensured 𝓤 H A next.ended (next.clauses 𝓤 H A mem run) κs (r, (w, tt)) tt t) (fact 𝓤 (t ≡ answer (r .sheet) (r .at)))
-  next-said r t = exE 𝓤 _ (λ ws. snd∗ 𝓤 (sem 𝓤 H A (lasts next.ended κs (r, (w, tt)) ws)) (fact 𝓤 (t ≡ answer (r .sheet) (r .at))))
+    abbrev Aside : Fml
+    Aside = fsep (flft κ′ q′) (fsep Own-w Kept)
 
-  exits : (t : Place) (u : Val) → t ≡ answer s n → ent 𝓤 (⋆ 𝓤 H A (‵ (S.the-row .own t (u ∷ [])) ∷ (‵ (flft κ q) ⊛ ‵ (flft κ′ q′) ⊛ ‵ ftrue) ∷ ‵ Kept ∷ [])) (Post u)
-  exits t u e =
-      qed W (‵ (S.the-row .own t (u ∷ [])) ∷ (‵ (flft κ q) ⊛ ‵ (flft κ′ q′) ⊛ ‵ ftrue) ∷ ‵ Kept ∷ []) ∵
-      suffices ! _ (ends-at 𝓤 H A read.ended stayed (read.clauses 𝓤 H A mem run) W ((κs, (q, (q′, tt)), tt, (s, (n, (w, tt))), at), tt) u t (tt, (tt, (tt, tt))) (tt, (tt, (tt, tt)))) $ says ! e $
-      move ! (1 ∷ []) $ frame ! $ move ! (1 ∷ []) $ frame ! $ done !
+    -- the call of `open`: what it is passed, what it asks, and what is known of its result
+    abbrev to-new : New .Ghost
+    to-new = (((κ, tt), (q, tt), tt, (s, (n, tt)), (v ∷ [], (vint w64 n ∷ [], tt))), tt)
 
-  module _ (C : Calls 𝓤 H) (Λ : Loops 𝓤 H) (fm : FmC 𝓤 H (W .laws) C) (known-new : Triple 𝓤 (C #text·open) (New 𝓤 H A mem run)) (known-next : Triple 𝓤 (C #text·word) (Next 𝓤 H A mem run)) where
-    walk : Is (ShrSlice (named 0) κ u8) s (v ∷ []) → Is (ShrSlice (named 1) κ′ u8) w (vw ∷ []) → ent 𝓤 (onEntry 𝓤 H A read.signature κs (q, (q′, tt)) (s, (n, (w, tt))) at) (WpFn 𝓤 H C Λ code.function (v ∷ vint w64 n ∷ vw ∷ []) Post)
-    walk p pw =
-        qed W (raw (onEntry 𝓤 H A read.signature κs (q, (q′, tt)) (s, (n, (w, tt))) at) ∷ []) ∵ enter ! C Λ code.function (v ∷ vint w64 n ∷ vw ∷ []) _ $
-        alloc1 ! (λ l₀. alloc1 ! (λ l₁. alloc1 ! (λ l₂. alloc1 ! (λ l₃. alloc1 ! (λ l₄. alloc0 ! $ params1 ! $ pass1 ! (init ! 6 refl (shr-slice-lawful 𝓤 H A W (named 0) κ u8 .typed s (v ∷ []) p .0)) $ pass1 ! (init ! 4 refl (tt, record { fits = okn })) $ pass1 ! (init ! 2 refl (shr-slice-lawful 𝓤 H A W (named 1) κ′ u8 .typed w (vw ∷ []) pw .0)) $ pass0 ! $
-        move ! (10 ∷ []) $ use1 W (raw (New 𝓤 H A mem run .pre to-new) ⊛ ‵ Aside) goes-new $ split ! $
-        calls-at ! fm (New 𝓤 H A mem run) known-new to-new (and-then ! (load ! (from ! (stop !)) (look ! 8 refl)) (and-then ! (load ! (from ! (stop !)) (look ! 6 refl)) (no-more !))) (λ u.
-        use1 W (later (some (λ (r : Reader). ((‵ (flft κ q) ⊛ ‵ ftrue) ⊛ ‵ (B κs .own r (u ∷ []))) ⊛ raw (ensured 𝓤 H A new.ended (new.clauses 𝓤 H A mem run) (κ, tt) (s, (n, tt)) tt r)))) (id⊢ 𝓤 _) $ await ! tt $ pick ! (λ r.
-        split ! $ move ! (1 ∷ []) $ use1 W (raw (fact 𝓤 ((r .sheet ≡ s) × (r .at ≡ n)))) (new-said r) $ heard ! ((r .sheet ≡ s) × (r .at ≡ n)) (λ e. split ! $ move ! (1 ∷ []) $
-        -- [what the struct owns; the token of κ; what is aside; room for _4; …; _3; …; _2; …; _1; …; room for _0; …]
-        peeks ! (B κs) (Is (B κs)) (shows 𝓤 H A (B κs)) r (u ∷ []) (λ is.
-        land ! (from ! (stop !)) (init ! 3 refl (LL.lawful (T.the-type αᵉ) (T′.the-laws αᵉ) 𝓤 H A W .typed r _ is .0)) $
-        use3 W (raw (Next 𝓤 H A mem run .pre (to-next r u)) ⊛ ‵ Kept) (goes-next r u) $ split ! $
-        calls-at ! fm (Next 𝓤 H A mem run) known-next (to-next r u) (and-then ! (load ! (from ! (stop !)) (look ! 2 refl)) (and-then ! (load ! (from ! (stop !)) (look ! 4 refl)) (no-more !))) (λ u′.
-        use1 W (later (some (λ (t : Place). ((‵ (flft κ q) ⊛ ‵ (flft κ′ q′) ⊛ ‵ ftrue) ⊛ ‵ (S.the-row .own t (u′ ∷ []))) ⊛ raw (ensured 𝓤 H A next.ended (next.clauses 𝓤 H A mem run) κs (r, (w, tt)) tt t)))) (id⊢ 𝓤 _) $ await ! tt $ pick ! (λ t.
-        split ! $ move ! (1 ∷ []) $ use1 W (raw (fact 𝓤 (t ≡ answer (r .sheet) (r .at)))) (next-said r t) $ heard ! (t ≡ answer (r .sheet) (r .at)) (λ e′. split ! $ move ! (1 ∷ []) $
-        -- [the result; the tokens; what is kept; _4; …; _3; …; _2; …; _1; …; room for _0; …]
-        peeks ! S.the-row (Is S.the-row) (shows 𝓤 H A S.the-row) t (u′ ∷ []) (λ is′.
-        land ! (from ! (stop !)) (init ! 11 refl (EL.lawful S.the-type S′.the-laws 𝓤 H A W tt .typed t _ is′ .0)) $
-        returns ! (look ! 11 refl) $ forget ! 3 refl $ forget ! 5 refl $ forget ! 7 refl $ forget ! 9 refl $ forget ! 11 refl $ move ! (11 ∷ 12 ∷ []) $ free1 ! $ move ! (9 ∷ 10 ∷ []) $ free1 ! $ move ! (7 ∷ 8 ∷ []) $ free1 ! $ move ! (5 ∷ 6 ∷ []) $ free1 ! $ move ! (3 ∷ 4 ∷ []) $ free1 ! $ free0 ! $
-        by ! (exits t u′ (e′ ∙ (ap (λ (x : RefT (List ℕ)). answer x (r .at)) (e .0) ∙ ap (answer s) (e .1)))))))))))))))))
+    asks-new : ent 𝓤 (⋆ 𝓤 H A (token ∷ ‵ (owns (slice ∷ usize ∷ []) (s, (n, tt)) (v ∷ [], (vint w64 n ∷ [], tt))) ∷ [])) (New .pre to-new)
+    asks-new = qed W (token ∷ ‵ (owns (slice ∷ usize ∷ []) (s, (n, tt)) (v ∷ [], (vint w64 n ∷ [], tt))) ∷ []) ∵ join ! $ frame ! $ done !
 
-module _ {M : Type 1} (𝓤 : URA M) (H : Heap 𝓤) (A : Atoms 𝓤) (W : Given 𝓤 H A) (mem : Memory → SProp 𝓤) (run : Routine → Fun 𝓤) where
-  read-word-walks : (C : Calls 𝓤 H) (Λ : Loops 𝓤 H) → FmC 𝓤 H (W .laws) C → Triple 𝓤 (C #text·open) (New 𝓤 H A mem run) → Triple 𝓤 (C #text·word) (Next 𝓤 H A mem run)
-      → Walks 𝓤 H A read.ended stayed (WpFn 𝓤 H C Λ code.function) (read.clauses 𝓤 H A mem run)
-  read-word-walks C Λ fm known-new known-next = walked 𝓤 H A read.ended stayed (read.clauses 𝓤 H A mem run) (WpFn 𝓤 H C Λ code.function) (λ κs. (slice-vals, (uint-vals w64, (slice-vals, tt)))) (λ κs. (shr-slice-tells (named 0) (κs .0) u8, (uint-tells w64, (shr-slice-tells (named 1) (κs .1 .0) u8, tt))))
-      (λ κs qs bounds a g are. via 𝓤 _ (fst∗ 𝓤 _ (emp 𝓤)) (walk 𝓤 H A W mem run (κs .0) (κs .1 .0) (qs .0) (qs .1 .0) (a .0) (a .1 .0) (a .1 .1 .0) (are .1 .0 .1) C Λ fm known-new known-next (are .0) (are .1 .1 .0)))
+    goes-new : ent 𝓤 Entry (sep 𝓤 (New .pre to-new) (sem 𝓤 H A Aside))
+    goes-new =
+        qed W (tokens ∷ ‵ Kept ∷ []) ∵
+        split ! $ move ! (1 ∷ []) $ split ! $ move ! (2 ∷ 1 ∷ []) $ join ! $
+        move ! (2 ∷ []) $ fsplit ! $ move ! (1 ∷ []) $ fsplit ! $ dropped ! $ fsplit ! $
+        use1 W (‵ Own-w ⊛ ‵ Own-w) (shr-slice-copy 𝓤 H A W (named 1) κ′ u8 .twice w (vw ∷ [])) $ split ! $ move ! (3 ∷ []) $
+        use1 W (‵ Own ⊛ ‵ Own) (shr-slice-copy 𝓤 H A W (named 0) κ u8 .twice s (v ∷ [])) $ split ! $
+        -- [what s owns, twice; what w owns, twice; nothing; the token of κ; the token of κ′]
+        nothing ! $ owned ! usize (Is usize) (uint-makes 𝓤 H A W w64) n _ (refl, okn) $ fjoin ! $ move ! (1 ∷ 0 ∷ []) $ fjoin ! $
+        move ! (5 ∷ 0 ∷ []) $ use2 W (raw (New .pre to-new)) asks-new $ frame ! $
+        -- [what s owns; what w owns, twice; nothing; the token of κ′]
+        move ! (1 ∷ 3 ∷ []) $ fjoin ! $ owned ! usize (Is usize) (uint-makes 𝓤 H A W w64) n _ (refl, okn) $ fjoin ! $
+        move ! (1 ∷ 0 ∷ []) $ fjoin ! $ move ! (2 ∷ 1 ∷ 0 ∷ []) $ done !
 
-read-word-meets : {M : Type 1} (𝓤 : URA M) (H : Heap 𝓤) (A : Atoms 𝓤) (W : Given 𝓤 H A) (mem : Memory → SProp 𝓤) (run : Routine → Fun 𝓤) (𝓣 : Tables 𝓤 H)
-    → Triple 𝓤 (𝓣 .C #text·open) (New 𝓤 H A mem run) → Triple 𝓤 (𝓣 .C #text·word) (Next 𝓤 H A mem run)
-    → Meets 𝓤 H A read.signature (WpFn 𝓤 H (𝓣 .C) (𝓣 .Λ) code.function) (read.spec 𝓤 H A mem run)
-read-word-meets 𝓤 H A W mem run 𝓣 known-new known-next = walk-meets 𝓤 H A read.ended stayed W (goes-none-slice 𝓤 H A W 2 (0 ∷ []) tt (plain (λ _. u8)) yes, (goes-none 𝓤 H A W 2 (λ _. usize) yes (λ κs x f. refl), (goes-none-slice 𝓤 H A W 2 (1 ∷ []) tt (plain (λ _. u8)) yes, tt))) (read.clauses 𝓤 H A mem run) (WpFn 𝓤 H (𝓣 .C) (𝓣 .Λ) code.function) (WpFn-mono 𝓤 H (W .laws) 𝓣 code.function)
-    (read-word-walks 𝓤 H A W mem run (𝓣 .C) (𝓣 .Λ) (fmOf 𝓤 H (W .laws) 𝓣) known-new known-next)
+    abbrev Opened : Reader → Type 0
+    Opened r = (r .sheet ≡ s) × (r .at ≡ n)
+
+    abbrev New-ensured : Reader → SProp 𝓤
+    New-ensured r = ensured 𝓤 H A new.ended (new.clauses 𝓤 H A mem run) (κ, tt) (s, (n, tt)) tt r
+
+    new-said : (r : Reader) → ent 𝓤 (New-ensured r) (fact 𝓤 (Opened r))
+    new-said r = exE 𝓤 _ (λ ws. snd∗ 𝓤 (sem 𝓤 H A (lasts new.ended (κ, tt) (s, (n, tt)) ws)) (fact 𝓤 (Opened r)))
+
+    -- the call of `word`, at the struct r with the machine value u
+    abbrev passed : Val → Vals next.signature κs
+    passed u = (u ∷ [], (vw ∷ [], tt))
+
+    abbrev to-next : Reader → Val → Next .Ghost
+    to-next r u = ((κs, (q, (q′, tt)), tt, (r, (w, tt)), passed u), tt)
+
+    asks-next : (r : Reader) (u : Val) → ent 𝓤 (⋆ 𝓤 H A (tokens ∷ ‵ (owns (B κs ∷ slice-w ∷ []) (r, (w, tt)) (passed u)) ∷ [])) (Next .pre (to-next r u))
+    asks-next r u = qed W (tokens ∷ ‵ (owns (B κs ∷ slice-w ∷ []) (r, (w, tt)) (passed u)) ∷ []) ∵ join ! $ frame ! $ done !
+
+    goes-next : (r : Reader) (u : Val) → ent 𝓤 (⋆ 𝓤 H A (‵ (B κs .own r (u ∷ [])) ∷ token ∷ ‵ Aside ∷ [])) (sep 𝓤 (Next .pre (to-next r u)) (sem 𝓤 H A Kept))
+    goes-next r u =
+        qed W (‵ (B κs .own r (u ∷ [])) ∷ token ∷ ‵ Aside ∷ []) ∵
+        move ! (2 ∷ []) $ fsplit ! $ move ! (1 ∷ []) $ fsplit ! $ nothing ! $ move ! (1 ∷ 0 ∷ []) $ fjoin ! $ move ! (3 ∷ 0 ∷ []) $ fjoin ! $
+        -- [what the struct and w own; what is kept; the token of κ′; the token of κ]
+        move ! (3 ∷ []) $ split ! $ move ! (4 ∷ 1 ∷ []) $ join ! $ move ! (1 ∷ 0 ∷ []) $ join ! $
+        use2 W (raw (Next .pre (to-next r u))) (asks-next r u) $ frame ! $ done !
+
+    abbrev Next-ensured : Reader → Place → SProp 𝓤
+    Next-ensured r t = ensured 𝓤 H A next.ended (next.clauses 𝓤 H A mem run) κs (r, (w, tt)) tt t
+
+    next-said : (r : Reader) (t : Place) → ent 𝓤 (Next-ensured r t) (fact 𝓤 (t ≡ answer (r .sheet) (r .at)))
+    next-said r t = exE 𝓤 _ (λ ws. snd∗ 𝓤 (sem 𝓤 H A (lasts next.ended κs (r, (w, tt)) ws)) (fact 𝓤 (t ≡ answer (r .sheet) (r .at))))
+
+    exits : (t : Place) (u : Val) → t ≡ answer s n → ent 𝓤 (⋆ 𝓤 H A (‵ (S.the-row .own t (u ∷ [])) ∷ tokens ∷ ‵ Kept ∷ [])) (Post u)
+    exits t u e =
+        qed W (‵ (S.the-row .own t (u ∷ [])) ∷ tokens ∷ ‵ Kept ∷ []) ∵
+        suffices ! _ (ends-at 𝓤 H A read.ended stayed clauses W on u t (tt, (tt, (tt, tt))) (tt, (tt, (tt, tt)))) $ says ! e $
+        move ! (1 ∷ []) $ frame ! $ move ! (1 ∷ []) $ frame ! $ done !
+
+    module _ (C : Calls 𝓤 H) (Λ : Loops 𝓤 H) (fm : FmC 𝓤 H (W .laws) C) (known-new : Triple 𝓤 (C #text·open) New) (known-next : Triple 𝓤 (C #text·word) Next) where
+      walk : Is slice s (v ∷ []) → Is slice-w w (vw ∷ []) → ent 𝓤 Entry (WpFn 𝓤 H C Λ code.function (v ∷ vint w64 n ∷ vw ∷ []) Post)
+      walk p pw =
+          qed W (raw Entry ∷ []) ∵ enter ! C Λ code.function (v ∷ vint w64 n ∷ vw ∷ []) _ $
+          alloc1 ! (λ l₀. alloc1 ! (λ l₁. alloc1 ! (λ l₂. alloc1 ! (λ l₃. alloc1 ! (λ l₄. alloc0 ! $ params1 ! $
+          pass1 ! (init ! 6 refl (shr-slice-lawful 𝓤 H A W (named 0) κ u8 .typed s (v ∷ []) p .0)) $
+          pass1 ! (init ! 4 refl (tt, record { fits = okn })) $
+          pass1 ! (init ! 2 refl (shr-slice-lawful 𝓤 H A W (named 1) κ′ u8 .typed w (vw ∷ []) pw .0)) $ pass0 ! $
+          move ! (10 ∷ []) $ use1 W (raw (New .pre to-new) ⊛ ‵ Aside) goes-new $ split ! $
+          calls-at ! fm New known-new to-new (and-then ! (load ! (from ! (stop !)) (look ! 8 refl)) (and-then ! (load ! (from ! (stop !)) (look ! 6 refl)) (no-more !))) (λ u.
+          use1 W (later (some (λ (r : Reader). (token ⊛ ‵ (B κs .own r (u ∷ []))) ⊛ raw (New-ensured r)))) (id⊢ 𝓤 _) $ await ! tt $ pick ! (λ r.
+          split ! $ move ! (1 ∷ []) $ use1 W (raw (fact 𝓤 (Opened r))) (new-said r) $ heard ! (Opened r) (λ e. split ! $ move ! (1 ∷ []) $
+          -- [what the struct owns; the token of κ; what is aside; room for _4; …; _3; …; _2; …; _1; …; room for _0; …]
+          peeks ! (B κs) (Is (B κs)) (shows 𝓤 H A (B κs)) r (u ∷ []) (λ is.
+          land ! (from ! (stop !)) (init ! 3 refl (LL.lawful (T.the-type αᵉ) (T′.the-laws αᵉ) 𝓤 H A W .typed r _ is .0)) $
+          use3 W (raw (Next .pre (to-next r u)) ⊛ ‵ Kept) (goes-next r u) $ split ! $
+          calls-at ! fm Next known-next (to-next r u) (and-then ! (load ! (from ! (stop !)) (look ! 2 refl)) (and-then ! (load ! (from ! (stop !)) (look ! 4 refl)) (no-more !))) (λ u′.
+          use1 W (later (some (λ (t : Place). (tokens ⊛ ‵ (S.the-row .own t (u′ ∷ []))) ⊛ raw (Next-ensured r t)))) (id⊢ 𝓤 _) $ await ! tt $ pick ! (λ t.
+          split ! $ move ! (1 ∷ []) $ use1 W (raw (fact 𝓤 (t ≡ answer (r .sheet) (r .at)))) (next-said r t) $ heard ! (t ≡ answer (r .sheet) (r .at)) (λ e′.
+          split ! $ move ! (1 ∷ []) $
+          -- [the result; the tokens; what is kept; _4; …; _3; …; _2; …; _1; …; room for _0; …]
+          peeks ! S.the-row (Is S.the-row) (shows 𝓤 H A S.the-row) t (u′ ∷ []) (λ is′.
+          land ! (from ! (stop !)) (init ! 11 refl (EL.lawful S.the-type S′.the-laws 𝓤 H A W tt .typed t _ is′ .0)) $
+          returns ! (look ! 11 refl) $ forget ! 3 refl $ forget ! 5 refl $ forget ! 7 refl $ forget ! 9 refl $ forget ! 11 refl $
+          move ! (11 ∷ 12 ∷ []) $ free1 ! $ move ! (9 ∷ 10 ∷ []) $ free1 ! $ move ! (7 ∷ 8 ∷ []) $ free1 ! $
+          move ! (5 ∷ 6 ∷ []) $ free1 ! $ move ! (3 ∷ 4 ∷ []) $ free1 ! $ free0 ! $
+          by ! (exits t u′ (e′ ∙ (ap (λ (x : RefT (List ℕ)). answer x (r .at)) (e .0) ∙ ap (answer s) (e .1)))))))))))))))))
+
+  read-word-walks : (C : Calls 𝓤 H) (Λ : Loops 𝓤 H) → FmC 𝓤 H (W .laws) C → Triple 𝓤 (C #text·open) New → Triple 𝓤 (C #text·word) Next
+      → Walks 𝓤 H A read.ended stayed (WpFn 𝓤 H C Λ code.function) clauses
+  read-word-walks C Λ fm known-new known-next =
+      walked 𝓤 H A read.ended stayed clauses (WpFn 𝓤 H C Λ code.function)
+      (λ κs. (slice-vals, (uint-vals w64, (slice-vals, tt))))
+      (λ κs. (shr-slice-tells (named 0) (κs .0) u8, (uint-tells w64, (shr-slice-tells (named 1) (κs .1 .0) u8, tt))))
+      (λ κs qs bounds a g are. via 𝓤 _ (fst∗ 𝓤 _ (emp 𝓤))
+      (walk (κs .0) (κs .1 .0) (qs .0) (qs .1 .0) (a .0) (a .1 .0) (a .1 .1 .0) (are .1 .0 .1) C Λ fm known-new known-next (are .0) (are .1 .1 .0)))
+
+  read-word-meets : (𝓣 : Tables 𝓤 H) → Triple 𝓤 (𝓣 .C #text·open) New → Triple 𝓤 (𝓣 .C #text·word) Next
+      → Meets 𝓤 H A read.signature (WpFn 𝓤 H (𝓣 .C) (𝓣 .Λ) code.function) (read.spec 𝓤 H A mem run)
+  read-word-meets 𝓣 known-new known-next =
+      walk-meets 𝓤 H A read.ended stayed W (
+        goes-none-slice 𝓤 H A W 2 (0 ∷ []) tt (plain (λ _. u8)) yes,
+        (goes-none 𝓤 H A W 2 (λ _. usize) yes (λ κs x f. refl), (goes-none-slice 𝓤 H A W 2 (1 ∷ []) tt (plain (λ _. u8)) yes, tt)),
+      )
+      clauses (WpFn 𝓤 H (𝓣 .C) (𝓣 .Λ) code.function) (WpFn-mono 𝓤 H (W .laws) 𝓣 code.function)
+      (read-word-walks (𝓣 .C) (𝓣 .Λ) (fmOf 𝓤 H (W .laws) 𝓣) known-new known-next)
 
 pub read-word-spec : {M : Type 1} → stated.statement M
 unfolding code.routine tablesOf
@@ -190,5 +246,5 @@ read-word-spec 𝓤 H 𝓜 𝓖 𝓡 =
     entered 𝓤 H (tripleOf 𝓤 H (𝓖 .A) read.signature (read.spec 𝓤 H (𝓖 .A) (𝓜 .mem) (𝓡 .run)))
     (tables 𝓤 H 𝓜 𝓡 code.env .C) (tables 𝓤 H 𝓜 𝓡 code.env .Λ) #text·read-word code.function (code.unfolded 𝓤 H 𝓜 𝓡)
     (read-word-meets 𝓤 H (𝓖 .A) (givenOf 𝓤 H 𝓜 𝓖) (𝓜 .mem) (𝓡 .run) (tablesOf 𝓤 H 𝓜 (tables 𝓤 H 𝓜 𝓡 code.env))
-    (cited 𝓤 H (New 𝓤 H (𝓖 .A) (𝓜 .mem) (𝓡 .run)) 𝓜 𝓡 code.env #text·open new-def.routine code.calls-text·Reader·open (new-thm.met 𝓤 H 𝓜 𝓖 𝓡))
-    (cited 𝓤 H (Next 𝓤 H (𝓖 .A) (𝓜 .mem) (𝓡 .run)) 𝓜 𝓡 code.env #text·word next-def.routine code.calls-text·Reader·word (next-thm.met 𝓤 H 𝓜 𝓖 𝓡)))
+    (cited 𝓤 H (New 𝓤 H (𝓖 .A) (givenOf 𝓤 H 𝓜 𝓖) (𝓜 .mem) (𝓡 .run)) 𝓜 𝓡 code.env #text·open new-def.routine code.calls-text·Reader·open (new-thm.met 𝓤 H 𝓜 𝓖 𝓡))
+    (cited 𝓤 H (Next 𝓤 H (𝓖 .A) (givenOf 𝓤 H 𝓜 𝓖) (𝓜 .mem) (𝓡 .run)) 𝓜 𝓡 code.env #text·word next-def.routine code.calls-text·Reader·word (next-thm.met 𝓤 H 𝓜 𝓖 𝓡)))

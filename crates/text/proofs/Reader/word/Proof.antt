@@ -1,6 +1,6 @@
--- `text::Reader::word` meets its contract: a walk of its MIR, by hand. The struct is taken apart, and `word_at` is called on the slice, the number and the word. All that the proof knows of `word_at` is that it meets its contract.
--- The struct and the word's slice are Copy: what they own is had twice, one copy is kept whole for the exit, and of the other what sheet and w own goes to the callee, beside the two lifetimes' tokens, which come back.
--- Assumes nothing.
+-- `text::Reader::word` meets its contract, by a walk of its MIR: the struct is taken apart, and `word_at`, of which only its contract is known, is called
+-- on the slice, the number and the word. The struct and the word's slice are Copy, so what they own is had twice: one copy is kept whole for the exit, and
+-- of the other what sheet and w own goes to the callee, beside the two lifetimes' tokens, which come back.
 use lib.Dec.{T as Holds}
 use lib.ListN.{drop as drop′}
 use Rattle.text.specs.Text.{word as wordIn}
@@ -22,7 +22,7 @@ use ghost.Atoms.{Atoms, sem}
 use contract.Lifetimes.{Lfts}
 use contract.Monad.{Fun, fact}
 use contract.Running.{givenOf, tables, tablesOf}
-use types.Kit.{Given, ‵, raw, _⊛_, given, ⋆, some, later, _$_, _∵_, !, qed, by, move, drop, use1, use2, split, join, learn, pick, fsplit, fjoin, suffices, frame, await, done}
+use types.Kit.{Given, Item, ‵, raw, _⊛_, given, ⋆, some, later, _$_, _∵_, !, qed, by, move, drop, use1, use2, split, join, learn, pick, fsplit, fjoin, suffices, frame, await, done}
 use types.Part.{whole, sub, look-in}
 use types.Run.{look, init, forget, stop, fld, from, load, of-opd, and-then, no-more, assigns, land, returns, enter, alloc1, alloc0, params1, pass1, pass0, free1, free0}
 use sound.WpLaws.{FmC, fmOf, WpFn-mono}
@@ -46,7 +46,7 @@ use denote.Triple.Spec.{Meets, tripleOf}
 use denote.Triple.Table.{entered, cited}
 use denote.Triple.Walked.{says, Stays, stay-none, stay-none-slice, walkOf, goes-none, goes-none-slice, Walks, ends-at, walked, walk-meets}
 use denote.Exit.{yes}
-use denote.Triple.Clauses.{ensured, lasts}
+use denote.Triple.Clauses.{Clauses, ensured, lasts}
 use Rattle.text.specs.declared.Reader.{Reader}
 use Rattle.text.specs.declared.Place.{Place}
 use Rattle.text.proofs.Reader as T
@@ -73,107 +73,142 @@ L κs = T′.the-laws (namedLft 2 0 tt κs)
 abbrev stayed : Stays (worded.ended .signature .params) (worded.ended .kept)
 stayed = (stay-none B yes, (stay-none-slice (1 ∷ []) tt (plain (λ _. u8)) yes, tt))
 
-module _ {M : Type 1} (𝓤 : URA M) (H : Heap 𝓤) (A : Atoms 𝓤) (mem : Memory → SProp 𝓤) (run : Routine → Fun 𝓤) where
+module _ {M : Type 1} (𝓤 : URA M) (H : Heap 𝓤) (A : Atoms 𝓤) (W : Given 𝓤 H A) (mem : Memory → SProp 𝓤) (run : Routine → Fun 𝓤) where
+  abbrev clauses : Clauses 𝓤 worded.ended
+  clauses = worded.clauses 𝓤 H A mem run
+
   -- the contract that the proof cites
   abbrev WordAt : Contract 𝓤
   WordAt = tripleOf 𝓤 H A step.signature (step.spec 𝓤 H A mem run)
 
-module _ {M : Type 1} (𝓤 : URA M) (H : Heap 𝓤) (A : Atoms 𝓤) (W : Given 𝓤 H A) (mem : Memory → SProp 𝓤) (run : Routine → Fun 𝓤) (κ κ′ : Lft) (q q′ : Share) (d : Reader) (w : RefT (List ℕ)) where
-  abbrev κs : Lfts 2
-  κs = (κ, (κ′, tt))
+  module _ (κ κ′ : Lft) (q q′ : Share) (d : Reader) (w : RefT (List ℕ)) where
+    abbrev κs : Lfts 2
+    κs = (κ, (κ′, tt))
 
-  abbrev mach : Val
-  mach = T′.lowered d
+    -- the type of w
+    abbrev slice : RattleType
+    slice = ShrSlice (named 1) κ′ u8
 
-  -- the machine values of sheet and of w
-  abbrev v : Val
-  v = sliceVal (d .sheet .ptr) (length (d .sheet .now))
+    abbrev mach : Val
+    mach = T′.lowered d
 
-  abbrev vw : Val
-  vw = sliceVal (w .ptr) (length (w .now))
+    -- the machine values of sheet and of w
+    abbrev v : Val
+    v = sliceVal (d .sheet .ptr) (length (d .sheet .now))
 
-  abbrev found : Place
-  found = wordIn (now w) (drop′ (d .at) (now (d .sheet))) (d .at)
+    abbrev vw : Val
+    vw = sliceVal (w .ptr) (length (w .now))
 
-  abbrev at : Vals worded.signature κs
-  at = (mach ∷ [], (vw ∷ [], tt))
+    abbrev found : Place
+    found = wordIn (now w) (drop′ (d .at) (now (d .sheet))) (d .at)
 
-  abbrev Post : Val → SProp 𝓤
-  Post = walkOf 𝓤 H A worded.ended stayed (worded.clauses 𝓤 H A mem run) .post ((κs, (q, (q′, tt)), tt, (d, (w, tt)), at), tt)
+    abbrev at : Vals worded.signature κs
+    at = (mach ∷ [], (vw ∷ [], tt))
 
-  -- what the struct owns, what w owns, and both together
-  abbrev Own : Fml
-  Own = B κs .own d (mach ∷ [])
+    abbrev Entry : SProp 𝓤
+    Entry = onEntry 𝓤 H A worded.signature κs (q, (q′, tt)) (d, (w, tt)) at
 
-  abbrev Own-w : Fml
-  Own-w = ShrSlice (named 1) κ′ u8 .own w (vw ∷ [])
+    abbrev on : walkOf 𝓤 H A worded.ended stayed clauses .Ghost
+    on = ((κs, (q, (q′, tt)), tt, (d, (w, tt)), at), tt)
 
-  abbrev Kept : Fml
-  Kept = owns (B κs ∷ ShrSlice (named 1) κ′ u8 ∷ []) (d, (w, tt)) at
+    abbrev Post : Val → SProp 𝓤
+    Post = walkOf 𝓤 H A worded.ended stayed clauses .post on
 
-  -- d's fields' values
-  abbrev vd : Values (D κs .parts)
-  vd = (d .sheet, (d .at, tt))
+    -- the lifetimes' tokens
+    abbrev tokens : Item 𝓤
+    tokens = ‵ (flft κ q) ⊛ ‵ (flft κ′ q′) ⊛ ‵ ftrue
 
-  -- what the callee is passed
-  abbrev passed : Vals step.signature κs
-  passed = (v ∷ [], (vint w64 (d .at) ∷ [], (vw ∷ [], tt)))
+    -- what the struct owns, what w owns, and both together
+    abbrev Own : Fml
+    Own = B κs .own d (mach ∷ [])
 
-  abbrev to : WordAt 𝓤 H A mem run .Ghost
-  to = ((κs, (q, (q′, tt)), tt, (d .sheet, (d .at, (w, tt))), passed), tt)
+    abbrev Own-w : Fml
+    Own-w = slice .own w (vw ∷ [])
 
-  asked : ent 𝓤 (onEntry 𝓤 H A step.signature κs (q, (q′, tt)) (d .sheet, (d .at, (w, tt))) passed) (WordAt 𝓤 H A mem run .pre to)
-  asked = qed W ((‵ (flft κ q) ⊛ ‵ (flft κ′ q′) ⊛ ‵ ftrue) ∷ ‵ (owns (ShrSlice (named 0) κ u8 ∷ usize ∷ ShrSlice (named 1) κ′ u8 ∷ []) (d .sheet, (d .at, (w, tt))) passed) ∷ []) ∵ join ! $ frame ! $ done !
+    abbrev Kept : Fml
+    Kept = owns (B κs ∷ slice ∷ []) (d, (w, tt)) at
 
-  -- what the struct and w own gives what the callee asks, and is kept
-  apart : d .at < 2 ^ 64 → ent 𝓤 (onEntry 𝓤 H A worded.signature κs (q, (q′, tt)) (d, (w, tt)) at) (sep 𝓤 (WordAt 𝓤 H A mem run .pre to) (sem 𝓤 H A Kept))
-  apart fits =
-      qed W ((‵ (flft κ q) ⊛ ‵ (flft κ′ q′) ⊛ ‵ ftrue) ∷ ‵ Kept ∷ []) ∵
-      move ! (1 ∷ []) $ fsplit ! $ move ! (1 ∷ []) $ fsplit ! $ move ! (1 ∷ []) $ drop ! $ use1 W (‵ Own-w ⊛ ‵ Own-w) (shr-slice-copy 𝓤 H A W (named 1) κ′ u8 .twice w (vw ∷ [])) $ split ! $
-      move ! (2 ∷ []) $ use1 W (‵ Own ⊛ ‵ Own) (LL.copy (D κs) (T′.the-copy (namedLft 2 0 tt κs)) 𝓤 H A W .twice d (mach ∷ [])) $ split ! $
-      use1 W (given (mach ∷ [] ≡ mach ∷ []) (‵ (all-own (D κs .parts) (L κs) vd))) (own-open 𝓤 H A W (D κs) (L κs) vd mach) $ learn ! (λ _. use1 W (‵ (ownAt (D κs .parts) (L κs) 0 (d .sheet)) ⊛ ‵ (rest (D κs .parts) (L κs) 0 vd)) (own-out 𝓤 H A W (D κs .parts) (L κs) 0 vd) $ split ! $
-      -- [what sheet owns; what at owns; what the struct owns; what w owns, twice; the tokens]
-      move ! (1 ∷ []) $ drop ! $ nothing ! $ move ! (3 ∷ 0 ∷ []) $ fjoin ! $ owned ! usize (Is usize) (uint-makes 𝓤 H A W w64) (d .at) _ (refl, fits) $ fjoin ! $ move ! (1 ∷ 0 ∷ []) $ fjoin ! $
-      move ! (3 ∷ 0 ∷ []) $ use2 W (raw (WordAt 𝓤 H A mem run .pre to)) asked $ frame ! $ nothing ! $ move ! (2 ∷ 0 ∷ []) $ fjoin ! $ move ! (1 ∷ 0 ∷ []) $ fjoin ! $ done !)
+    -- d's fields' values
+    abbrev vd : Values (D κs .parts)
+    vd = (d .sheet, (d .at, tt))
 
-  -- of the callee's `ensured`, the clause alone: it has no `&mut`, so what is said of last values is dropped
-  said : (r : Place) → ent 𝓤 (ensured 𝓤 H A step.ended (step.clauses 𝓤 H A mem run) κs (d .sheet, (d .at, (w, tt))) tt r) (fact 𝓤 (r ≡ found))
-  said r = exE 𝓤 _ (λ ws. snd∗ 𝓤 (sem 𝓤 H A (lasts step.ended κs (d .sheet, (d .at, (w, tt))) ws)) (fact 𝓤 (r ≡ found)))
+    -- what the callee is passed, and what it ensures
+    abbrev passed : Vals step.signature κs
+    passed = (v ∷ [], (vint w64 (d .at) ∷ [], (vw ∷ [], tt)))
 
-  exits : (r : Place) (u : Val) → r ≡ found → ent 𝓤 (⋆ 𝓤 H A (‵ (S.the-row .own r (u ∷ [])) ∷ (‵ (flft κ q) ⊛ ‵ (flft κ′ q′) ⊛ ‵ ftrue) ∷ ‵ Kept ∷ [])) (Post u)
-  exits r u e =
-      qed W (‵ (S.the-row .own r (u ∷ [])) ∷ (‵ (flft κ q) ⊛ ‵ (flft κ′ q′) ⊛ ‵ ftrue) ∷ ‵ Kept ∷ []) ∵
-      suffices ! _ (ends-at 𝓤 H A worded.ended stayed (worded.clauses 𝓤 H A mem run) W ((κs, (q, (q′, tt)), tt, (d, (w, tt)), at), tt) u r (tt, (tt, tt)) (tt, (tt, tt))) $ says ! e $
-      move ! (1 ∷ []) $ frame ! $ move ! (1 ∷ []) $ frame ! $ done !
+    abbrev to : WordAt .Ghost
+    to = ((κs, (q, (q′, tt)), tt, (d .sheet, (d .at, (w, tt))), passed), tt)
 
-  module _ (C : Calls 𝓤 H) (Λ : Loops 𝓤 H) (fm : FmC 𝓤 H (W .laws) C) (known : Triple 𝓤 (C #text·word-at) (WordAt 𝓤 H A mem run)) where
-    walk : Holds (hasTy (T′.mir (named 0)) mach) × WT mach → Is (ShrSlice (named 1) κ′ u8) w (vw ∷ []) → ent 𝓤 (onEntry 𝓤 H A worded.signature κs (q, (q′, tt)) (d, (w, tt)) at) (WpFn 𝓤 H C Λ code.function (mach ∷ vw ∷ []) Post)
-    walk wt p =
-        qed W (raw (onEntry 𝓤 H A worded.signature κs (q, (q′, tt)) (d, (w, tt)) at) ∷ []) ∵ enter ! C Λ code.function (mach ∷ vw ∷ []) _ $
-        alloc1 ! (λ l₀. alloc1 ! (λ l₁. alloc1 ! (λ l₂. alloc1 ! (λ l₃. alloc1 ! (λ l₄. alloc0 ! $ params1 ! $ pass1 ! (init ! 6 refl wt) $ pass1 ! (init ! 4 refl (shr-slice-lawful 𝓤 H A W (named 1) κ′ u8 .typed w (vw ∷ []) p .0)) $ pass0 ! $
-        assigns ! (of-opd ! (load ! (from ! (fld ! refl (stop !))) (look-in ! 6 (sub ! 0 refl (whole !))))) (from ! (stop !)) (init ! 2 refl (tt, wt .1 .0)) $
-        assigns ! (of-opd ! (load ! (from ! (fld ! refl (stop !))) (look-in ! 6 (sub ! 1 refl (whole !))))) (from ! (stop !)) (init ! 0 refl (tt, wt .1 .1 .0)) $
-        move ! (10 ∷ []) $ use1 W (raw (WordAt 𝓤 H A mem run .pre to) ⊛ ‵ Kept) (apart (wt .1 .1 .0 .fits)) $ split ! $
-        calls-at ! fm (WordAt 𝓤 H A mem run) known to (and-then ! (load ! (from ! (stop !)) (look ! 4 refl)) (and-then ! (load ! (from ! (stop !)) (look ! 2 refl)) (and-then ! (load ! (from ! (stop !)) (look ! 6 refl)) (no-more !)))) (λ u.
-        use1 W (later (some (λ (r : Place). ((‵ (flft κ q) ⊛ ‵ (flft κ′ q′) ⊛ ‵ ftrue) ⊛ ‵ (S.the-row .own r (u ∷ []))) ⊛ raw (ensured 𝓤 H A step.ended (step.clauses 𝓤 H A mem run) κs (d .sheet, (d .at, (w, tt))) tt r)))) (id⊢ 𝓤 _) $ await ! tt $ pick ! (λ r.
-        split ! $ move ! (1 ∷ []) $ use1 W (raw (fact 𝓤 (r ≡ found))) (said r) $ heard ! (r ≡ found) (λ e. split ! $ move ! (1 ∷ []) $
-        -- [the result; the tokens; what the struct and w own; _4; …; _3; …; _2; …; _1; …; room for _0; …]
-        peeks ! S.the-row (Is S.the-row) (shows 𝓤 H A S.the-row) r (u ∷ []) (λ is.
-        land ! (from ! (stop !)) (init ! 11 refl (EL.lawful S.the-type S′.the-laws 𝓤 H A W tt .typed r _ is .0)) $
-        returns ! (look ! 11 refl) $ forget ! 3 refl $ forget ! 5 refl $ forget ! 7 refl $ forget ! 9 refl $ forget ! 11 refl $
-        move ! (11 ∷ 12 ∷ []) $ free1 ! $ move ! (9 ∷ 10 ∷ []) $ free1 ! $ move ! (7 ∷ 8 ∷ []) $ free1 ! $ move ! (5 ∷ 6 ∷ []) $ free1 ! $ move ! (3 ∷ 4 ∷ []) $ free1 ! $ free0 ! $ by ! (exits r u e))))))))))
+    abbrev Ensured : Place → SProp 𝓤
+    Ensured r = ensured 𝓤 H A step.ended (step.clauses 𝓤 H A mem run) κs (d .sheet, (d .at, (w, tt))) tt r
 
-module _ {M : Type 1} (𝓤 : URA M) (H : Heap 𝓤) (A : Atoms 𝓤) (W : Given 𝓤 H A) (mem : Memory → SProp 𝓤) (run : Routine → Fun 𝓤) where
-  word-walks : (C : Calls 𝓤 H) (Λ : Loops 𝓤 H) → FmC 𝓤 H (W .laws) C → Triple 𝓤 (C #text·word-at) (WordAt 𝓤 H A mem run)
-      → Walks 𝓤 H A worded.ended stayed (WpFn 𝓤 H C Λ code.function) (worded.clauses 𝓤 H A mem run)
-  word-walks C Λ fm known = walked 𝓤 H A worded.ended stayed (worded.clauses 𝓤 H A mem run) (WpFn 𝓤 H C Λ code.function) (λ κs. (LL.vals (D κs) (L κs), (slice-vals, tt))) (λ κs. (LL.tells (D κs) (L κs), (shr-slice-tells (named 1) (κs .1 .0) u8, tt)))
-      (λ κs qs bounds a g are. via 𝓤 _ (fst∗ 𝓤 _ (emp 𝓤)) (walk 𝓤 H A W mem run (κs .0) (κs .1 .0) (qs .0) (qs .1 .0) (a .0) (a .1 .0) C Λ fm known (LL.lawful (D κs) (L κs) 𝓤 H A W .typed (a .0) _ (are .0) .0) (are .1 .0)))
+    asked : ent 𝓤 (onEntry 𝓤 H A step.signature κs (q, (q′, tt)) (d .sheet, (d .at, (w, tt))) passed) (WordAt .pre to)
+    asked =
+        qed W (tokens ∷ ‵ (owns (ShrSlice (named 0) κ u8 ∷ usize ∷ slice ∷ []) (d .sheet, (d .at, (w, tt))) passed) ∷ []) ∵
+        join ! $ frame ! $ done !
 
-word-meets : {M : Type 1} (𝓤 : URA M) (H : Heap 𝓤) (A : Atoms 𝓤) (W : Given 𝓤 H A) (mem : Memory → SProp 𝓤) (run : Routine → Fun 𝓤) (𝓣 : Tables 𝓤 H)
-    → Triple 𝓤 (𝓣 .C #text·word-at) (WordAt 𝓤 H A mem run)
-    → Meets 𝓤 H A worded.signature (WpFn 𝓤 H (𝓣 .C) (𝓣 .Λ) code.function) (worded.spec 𝓤 H A mem run)
-word-meets 𝓤 H A W mem run 𝓣 known-step = walk-meets 𝓤 H A worded.ended stayed W (goes-none 𝓤 H A W 2 B yes (λ κs x f. refl), (goes-none-slice 𝓤 H A W 2 (1 ∷ []) tt (plain (λ _. u8)) yes, tt)) (worded.clauses 𝓤 H A mem run) (WpFn 𝓤 H (𝓣 .C) (𝓣 .Λ) code.function) (WpFn-mono 𝓤 H (W .laws) 𝓣 code.function)
-    (word-walks 𝓤 H A W mem run (𝓣 .C) (𝓣 .Λ) (fmOf 𝓤 H (W .laws) 𝓣) known-step)
+    -- what the struct and w own gives what the callee asks, and is kept
+    apart : d .at < 2 ^ 64 → ent 𝓤 Entry (sep 𝓤 (WordAt .pre to) (sem 𝓤 H A Kept))
+    apart fits =
+        qed W (tokens ∷ ‵ Kept ∷ []) ∵
+        move ! (1 ∷ []) $ fsplit ! $ move ! (1 ∷ []) $ fsplit ! $ move ! (1 ∷ []) $ drop ! $
+        use1 W (‵ Own-w ⊛ ‵ Own-w) (shr-slice-copy 𝓤 H A W (named 1) κ′ u8 .twice w (vw ∷ [])) $ split ! $ move ! (2 ∷ []) $
+        use1 W (‵ Own ⊛ ‵ Own) (LL.copy (D κs) (T′.the-copy (namedLft 2 0 tt κs)) 𝓤 H A W .twice d (mach ∷ [])) $ split ! $
+        use1 W (given (mach ∷ [] ≡ mach ∷ []) (‵ (all-own (D κs .parts) (L κs) vd))) (own-open 𝓤 H A W (D κs) (L κs) vd mach) $ learn ! (λ _.
+        use1 W (‵ (ownAt (D κs .parts) (L κs) 0 (d .sheet)) ⊛ ‵ (rest (D κs .parts) (L κs) 0 vd)) (own-out 𝓤 H A W (D κs .parts) (L κs) 0 vd) $ split ! $
+        -- [what sheet owns; what at owns; what the struct owns; what w owns, twice; the tokens]
+        move ! (1 ∷ []) $ drop ! $ nothing ! $ move ! (3 ∷ 0 ∷ []) $ fjoin ! $
+        owned ! usize (Is usize) (uint-makes 𝓤 H A W w64) (d .at) _ (refl, fits) $ fjoin ! $ move ! (1 ∷ 0 ∷ []) $ fjoin ! $
+        move ! (3 ∷ 0 ∷ []) $ use2 W (raw (WordAt .pre to)) asked $ frame ! $
+        nothing ! $ move ! (2 ∷ 0 ∷ []) $ fjoin ! $ move ! (1 ∷ 0 ∷ []) $ fjoin ! $ done !)
+
+    -- of what the callee ensures, the clause alone: it has no `&mut`, so what is said of last values is dropped
+    said : (r : Place) → ent 𝓤 (Ensured r) (fact 𝓤 (r ≡ found))
+    said r = exE 𝓤 _ (λ ws. snd∗ 𝓤 (sem 𝓤 H A (lasts step.ended κs (d .sheet, (d .at, (w, tt))) ws)) (fact 𝓤 (r ≡ found)))
+
+    exits : (r : Place) (u : Val) → r ≡ found → ent 𝓤 (⋆ 𝓤 H A (‵ (S.the-row .own r (u ∷ [])) ∷ tokens ∷ ‵ Kept ∷ [])) (Post u)
+    exits r u e =
+        qed W (‵ (S.the-row .own r (u ∷ [])) ∷ tokens ∷ ‵ Kept ∷ []) ∵
+        suffices ! _ (ends-at 𝓤 H A worded.ended stayed clauses W on u r (tt, (tt, tt)) (tt, (tt, tt))) $ says ! e $
+        move ! (1 ∷ []) $ frame ! $ move ! (1 ∷ []) $ frame ! $ done !
+
+    module _ (C : Calls 𝓤 H) (Λ : Loops 𝓤 H) (fm : FmC 𝓤 H (W .laws) C) (known : Triple 𝓤 (C #text·word-at) WordAt) where
+      walk : Holds (hasTy (T′.mir (named 0)) mach) × WT mach → Is slice w (vw ∷ []) → ent 𝓤 Entry (WpFn 𝓤 H C Λ code.function (mach ∷ vw ∷ []) Post)
+      walk wt p =
+          qed W (raw Entry ∷ []) ∵ enter ! C Λ code.function (mach ∷ vw ∷ []) _ $
+          alloc1 ! (λ l₀. alloc1 ! (λ l₁. alloc1 ! (λ l₂. alloc1 ! (λ l₃. alloc1 ! (λ l₄. alloc0 ! $ params1 ! $
+          pass1 ! (init ! 6 refl wt) $ pass1 ! (init ! 4 refl (shr-slice-lawful 𝓤 H A W (named 1) κ′ u8 .typed w (vw ∷ []) p .0)) $ pass0 ! $
+          assigns ! (of-opd ! (load ! (from ! (fld ! refl (stop !))) (look-in ! 6 (sub ! 0 refl (whole !))))) (from ! (stop !)) (init ! 2 refl (tt, wt .1 .0)) $
+          assigns ! (of-opd ! (load ! (from ! (fld ! refl (stop !))) (look-in ! 6 (sub ! 1 refl (whole !))))) (from ! (stop !)) (init ! 0 refl (tt, wt .1 .1 .0)) $
+          move ! (10 ∷ []) $ use1 W (raw (WordAt .pre to) ⊛ ‵ Kept) (apart (wt .1 .1 .0 .fits)) $ split ! $
+          calls-at ! fm WordAt known to
+          (and-then ! (load ! (from ! (stop !)) (look ! 4 refl)) (and-then ! (load ! (from ! (stop !)) (look ! 2 refl)) (and-then ! (load ! (from ! (stop !)) (look ! 6 refl)) (no-more !)))) (λ u.
+          use1 W (later (some (λ (r : Place). (tokens ⊛ ‵ (S.the-row .own r (u ∷ []))) ⊛ raw (Ensured r)))) (id⊢ 𝓤 _) $ await ! tt $ pick ! (λ r.
+          split ! $ move ! (1 ∷ []) $ use1 W (raw (fact 𝓤 (r ≡ found))) (said r) $ heard ! (r ≡ found) (λ e. split ! $ move ! (1 ∷ []) $
+          -- [the result; the tokens; what the struct and w own; _4; …; _3; …; _2; …; _1; …; room for _0; …]
+          peeks ! S.the-row (Is S.the-row) (shows 𝓤 H A S.the-row) r (u ∷ []) (λ is.
+          land ! (from ! (stop !)) (init ! 11 refl (EL.lawful S.the-type S′.the-laws 𝓤 H A W tt .typed r _ is .0)) $
+          returns ! (look ! 11 refl) $ forget ! 3 refl $ forget ! 5 refl $ forget ! 7 refl $ forget ! 9 refl $ forget ! 11 refl $
+          move ! (11 ∷ 12 ∷ []) $ free1 ! $ move ! (9 ∷ 10 ∷ []) $ free1 ! $ move ! (7 ∷ 8 ∷ []) $ free1 ! $
+          move ! (5 ∷ 6 ∷ []) $ free1 ! $ move ! (3 ∷ 4 ∷ []) $ free1 ! $ free0 ! $ by ! (exits r u e))))))))))
+
+  word-walks : (C : Calls 𝓤 H) (Λ : Loops 𝓤 H) → FmC 𝓤 H (W .laws) C → Triple 𝓤 (C #text·word-at) WordAt
+      → Walks 𝓤 H A worded.ended stayed (WpFn 𝓤 H C Λ code.function) clauses
+  word-walks C Λ fm known =
+      walked 𝓤 H A worded.ended stayed clauses (WpFn 𝓤 H C Λ code.function)
+      (λ κs. (LL.vals (D κs) (L κs), (slice-vals, tt)))
+      (λ κs. (LL.tells (D κs) (L κs), (shr-slice-tells (named 1) (κs .1 .0) u8, tt)))
+      (λ κs qs bounds a g are. via 𝓤 _ (fst∗ 𝓤 _ (emp 𝓤))
+      (walk (κs .0) (κs .1 .0) (qs .0) (qs .1 .0) (a .0) (a .1 .0) C Λ fm known
+      (LL.lawful (D κs) (L κs) 𝓤 H A W .typed (a .0) _ (are .0) .0) (are .1 .0)))
+
+  word-meets : (𝓣 : Tables 𝓤 H) → Triple 𝓤 (𝓣 .C #text·word-at) WordAt
+      → Meets 𝓤 H A worded.signature (WpFn 𝓤 H (𝓣 .C) (𝓣 .Λ) code.function) (worded.spec 𝓤 H A mem run)
+  word-meets 𝓣 known =
+      walk-meets 𝓤 H A worded.ended stayed W
+      (goes-none 𝓤 H A W 2 B yes (λ κs x f. refl), (goes-none-slice 𝓤 H A W 2 (1 ∷ []) tt (plain (λ _. u8)) yes, tt))
+      clauses (WpFn 𝓤 H (𝓣 .C) (𝓣 .Λ) code.function) (WpFn-mono 𝓤 H (W .laws) 𝓣 code.function)
+      (word-walks (𝓣 .C) (𝓣 .Λ) (fmOf 𝓤 H (W .laws) 𝓣) known)
 
 pub word-spec : {M : Type 1} → stated.statement M
 unfolding code.routine tablesOf
@@ -181,4 +216,4 @@ word-spec 𝓤 H 𝓜 𝓖 𝓡 =
     entered 𝓤 H (tripleOf 𝓤 H (𝓖 .A) worded.signature (worded.spec 𝓤 H (𝓖 .A) (𝓜 .mem) (𝓡 .run)))
     (tables 𝓤 H 𝓜 𝓡 code.env .C) (tables 𝓤 H 𝓜 𝓡 code.env .Λ) #text·word code.function (code.unfolded 𝓤 H 𝓜 𝓡)
     (word-meets 𝓤 H (𝓖 .A) (givenOf 𝓤 H 𝓜 𝓖) (𝓜 .mem) (𝓡 .run) (tablesOf 𝓤 H 𝓜 (tables 𝓤 H 𝓜 𝓡 code.env))
-    (cited 𝓤 H (WordAt 𝓤 H (𝓖 .A) (𝓜 .mem) (𝓡 .run)) 𝓜 𝓡 code.env #text·word-at step-def.routine code.calls-text·word-at (step-thm.met 𝓤 H 𝓜 𝓖 𝓡)))
+    (cited 𝓤 H (WordAt 𝓤 H (𝓖 .A) (givenOf 𝓤 H 𝓜 𝓖) (𝓜 .mem) (𝓡 .run)) 𝓜 𝓡 code.env #text·word-at step-def.routine code.calls-text·word-at (step-thm.met 𝓤 H 𝓜 𝓖 𝓡)))

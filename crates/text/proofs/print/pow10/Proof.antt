@@ -1,4 +1,4 @@
--- Each arm is a power by computing; the last one knows that k is nine.
+-- `text::print::pow10` meets its contract. Each arm is a power by computing; the last one knows that k is nine.
 use Prim.Native.Nat.{ℕ, _≤_, _<_, _+_, zero-le}
 use mathlib.Core.Path.{_≡_}
 use borrow.Author.Needs.{needs}
@@ -43,7 +43,10 @@ returns-10 : tie.Need-returns-10
 returns-10 c =
     let r = c .match .rest in
     let k = c .before .args .k in
-    let e : k ≡ 9 = nine k (c .before .pre) (up k 8 (up k 7 (up k 6 (up k 5 (up k 4 (up k 3 (up k 2 (up k 1 (up k 0 zero-le (r .0 .0 .0 .0 .0 .0 .0 .0 .1)) (r .0 .0 .0 .0 .0 .0 .0 .1)) (r .0 .0 .0 .0 .0 .0 .1)) (r .0 .0 .0 .0 .0 .1)) (r .0 .0 .0 .0 .1)) (r .0 .0 .0 .1)) (r .0 .0 .1)) (r .0 .1)) (r .1)) in
+    let s = r .0 .0 .0 .0 in
+    let four : 4 ≤ k = up k 3 (up k 2 (up k 1 (up k 0 zero-le (s .0 .0 .0 .0 .1)) (s .0 .0 .0 .1)) (s .0 .0 .1)) (s .0 .1) in
+    let eight : 8 ≤ k = up k 7 (up k 6 (up k 5 (up k 4 four (s .1)) (r .0 .0 .0 .1)) (r .0 .0 .1)) (r .0 .1) in
+    let e : k ≡ 9 = nine k (c .before .pre) (up k 8 eight (r .1)) in
     (rw e, search needs)
 
 pub pow10-spec : {M : Type 1} → statement M

@@ -85,7 +85,8 @@ returns-3 c =
     let fits = fits-over (s .em) _ (s .runs .now) (s .rs .now) (sym (f .over-runs .ensures) ∙ k .over .given .1) in
     let long = fits-longer (s .em) _ (s .lruns .now) (s .ls .now) (sym (h .over-runs2 .ensures) ∙ c .enum-told2 .given .1) in
     g .groups-of .ensures
-    ∙ rw (g .before .str-of3 .ensures, g .before .before .str-of2 .ensures, g .before .before .before .str-of .ensures, ← f .before .before .is-group .ensures, f .before .if1 .left, fits .0, long)
+    ∙ rw (g .before .str-of3 .ensures, g .before .before .str-of2 .ensures, g .before .before .before .str-of .ensures)
+    (rw (← f .before .before .is-group .ensures, f .before .if1 .left, fits .0, long))
 
 mul-t21 : tie.Need-mul-t21
 mul-t21 c =

@@ -1,0 +1,2 @@
+-- What is told of a sheet in both forms.
+pub mod Account

@@ -1,0 +1,4 @@
+pub mod Table
+pub mod Runs
+pub mod Word
+pub mod Seen
