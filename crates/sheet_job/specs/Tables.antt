@@ -2,6 +2,7 @@
 use mathlib.Core.List.{List}
 use mathlib.Core.Path.{_≡_}
 use Prim.Native.Nat.{ℕ, _+_, _-_, _≤_}
+use native.Mathlib.Omega.{arith}
 use lib.ListN.{length, getD, take, drop}
 use Rattle.rows.specs.Table.{column}
 use Rattle.sheet.specs.declared.Counts.{Counts}
@@ -89,3 +90,16 @@ pub record TablesLong (n : Counts) (t : Tables) : Type 0 where
   pub bases : n .bases ≤ 1024
   pub rubies : n .rubies ≤ 2048
   pub few : ElementsFew n
+
+-- so the first column of a table lies within it, and one that begins at a
+pub front-within : (t : List ℕ) {n most all : ℕ} → length t ≡ all → n ≤ most → most ≤ all → n ≤ length t
+front-within t f h g = omega arith
+
+pub column-within : (t : List ℕ) (a n : ℕ) {most all : ℕ} → length t ≡ all → n ≤ most → a + most ≤ all → a + n ≤ length t
+column-within t a n f h g = omega arith
+
+-- the job's table, and the ends and extents of its lines, as long as they are lent: rows of both readings for 1,024 base characters behind a head, and as many lines
+pub record Whole (t ends extents : List ℕ) : Type 0 where
+  pub rows : length t ≡ 27655
+  pub ended : length ends ≡ 1024
+  pub far : length extents ≡ 1024

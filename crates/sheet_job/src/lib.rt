@@ -3,7 +3,7 @@
 ghost use Rattle.basics.specs.Seen.{was};
 ghost use Rattle.sheet.specs.Seen.{tablesNow, tablesWas};
 ghost use Rattle.engine.specs.Filled.{Fills};
-ghost use Rattle.sheet_job.specs.Tables.{TablesLong, tablesJob};
+ghost use Rattle.sheet_job.specs.Tables.{TablesLong, tablesJob, Whole};
 
 // The job that the tables hold, column by column (`sheet::read_sheet`): its table of rows, and the ends and extents of its lines; or the first refusal of all.
 pub fn fill_tables(
@@ -21,6 +21,7 @@ pub fn fill_tables(
 ) -> filling::Lines
     requires { ⌜ TablesLong n (tablesNow set base ruby left elem runs lruns) ⌝ }
     ensures { λ a. let job = tablesJob n (tablesWas set base ruby left elem runs lruns) in ⌜ Fills job 1024 2048 2048 1024 (was ends) (was extents) (now (t .exit)) (now (ends .exit)) (now (extents .exit)) a ⌝ }
+    ensures { λ _. ⌜ Whole (now (t .exit)) (now (ends .exit)) (now (extents .exit)) ⌝ }
 {
     let b = n.bases;
     let b1 = limits::BASE_WIDTH + b;

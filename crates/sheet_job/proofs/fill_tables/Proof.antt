@@ -1,20 +1,10 @@
 -- Each part that is lent lies within its table, since a count is at most the number of rows that there is room for; the tables for rows and lines are as long as any job needs.
 -- What `fill_job` says of the job in these parts is what is said here, since the tables' job is made of them.
-use mathlib.Core.List.{List}
-use mathlib.Core.Path.{_≡_}
-use Prim.Native.Nat.{ℕ, _+_, _≤_}
 use borrow.Author.Needs.{needs}
 use native.Mathlib.Omega.{arith}
-use lib.ListN.{length}
+use Rattle.sheet_job.specs.Tables.{front-within, column-within}
 use Rattle.sheet_job.proofs.fill_tables.Statement.{statement}
 use Rattle.sheet_job.proofs.fill_tables.Tie as tie
-
--- the first column of a table, and one that begins at a
-front : (t : List ℕ) {n most all : ℕ} → length t ≡ all → n ≤ most → most ≤ all → n ≤ length t
-front t f h g = omega arith
-
-column : (t : List ℕ) (a n : ℕ) {most all : ℕ} → length t ≡ all → n ≤ most → a + most ≤ all → a + n ≤ length t
-column t a n f h g = omega arith
 
 -- from where the columns of base characters are lent: where the lists for rows and lines are, and the function's entry; this also from further on
 abbrev lists : tie.After-fill-job-arg8 → tie.After-fill-job-arg3
@@ -135,7 +125,9 @@ part-fill-job-start-6 : tie.Need-part-fill-job-start-6
 part-fill-job-start-6 c = search needs
 
 part-fill-job-end-6 : tie.Need-part-fill-job-end-6
-part-fill-job-end-6 c = let a = entry c in front (a .args .ruby .now) (a .pre .lent .longRuby) (a .pre .rubies) (omega arith)
+part-fill-job-end-6 c =
+    let a = entry c in
+    front-within (a .args .ruby .now) (a .pre .lent .longRuby) (a .pre .rubies) (omega arith)
 
 sub-fill-job-7 : tie.Need-sub-fill-job-7
 sub-fill-job-7 c = search needs
@@ -144,7 +136,9 @@ part-fill-job-start-7 : tie.Need-part-fill-job-start-7
 part-fill-job-start-7 c = search needs
 
 part-fill-job-end-7 : tie.Need-part-fill-job-end-7
-part-fill-job-end-7 c = let a = entry (c .before) in column (a .args .ruby .now) 2048 (a .args .n .rubies) (a .pre .lent .longRuby) (a .pre .rubies) (omega arith)
+part-fill-job-end-7 c =
+    let a = entry (c .before) in
+    column-within (a .args .ruby .now) 2048 (a .args .n .rubies) (a .pre .lent .longRuby) (a .pre .rubies) (omega arith)
 
 sub-fill-job-8 : tie.Need-sub-fill-job-8
 sub-fill-job-8 c = search needs
@@ -153,7 +147,9 @@ part-fill-job-start-8 : tie.Need-part-fill-job-start-8
 part-fill-job-start-8 c = search needs
 
 part-fill-job-end-8 : tie.Need-part-fill-job-end-8
-part-fill-job-end-8 c = let a = entry (c .before .before) in front (a .args .left .now) (a .pre .lent .rest .longLeft) (a .pre .few .lefts) (omega arith)
+part-fill-job-end-8 c =
+    let a = entry (c .before .before) in
+    front-within (a .args .left .now) (a .pre .lent .rest .longLeft) (a .pre .few .lefts) (omega arith)
 
 sub-fill-job-9 : tie.Need-sub-fill-job-9
 sub-fill-job-9 c = search needs
@@ -162,7 +158,9 @@ part-fill-job-start-9 : tie.Need-part-fill-job-start-9
 part-fill-job-start-9 c = search needs
 
 part-fill-job-end-9 : tie.Need-part-fill-job-end-9
-part-fill-job-end-9 c = let a = entry (c .before .before .before) in column (a .args .left .now) 2048 (a .args .n .lefts) (a .pre .lent .rest .longLeft) (a .pre .few .lefts) (omega arith)
+part-fill-job-end-9 c =
+    let a = entry (c .before .before .before) in
+    column-within (a .args .left .now) 2048 (a .args .n .lefts) (a .pre .lent .rest .longLeft) (a .pre .few .lefts) (omega arith)
 
 sub-fill-job-10 : tie.Need-sub-fill-job-10
 sub-fill-job-10 c = search needs
@@ -171,7 +169,9 @@ part-fill-job-start-10 : tie.Need-part-fill-job-start-10
 part-fill-job-start-10 c = search needs
 
 part-fill-job-end-10 : tie.Need-part-fill-job-end-10
-part-fill-job-end-10 c = let a = entry (c .before .before .before .before) in front (a .args .elem .now) (a .pre .lent .rest .longElem) (a .pre .few .elements) (omega arith)
+part-fill-job-end-10 c =
+    let a = entry (c .before .before .before .before) in
+    front-within (a .args .elem .now) (a .pre .lent .rest .longElem) (a .pre .few .elements) (omega arith)
 
 sub-fill-job-11 : tie.Need-sub-fill-job-11
 sub-fill-job-11 c = search needs
@@ -180,7 +180,9 @@ part-fill-job-start-11 : tie.Need-part-fill-job-start-11
 part-fill-job-start-11 c = search needs
 
 part-fill-job-end-11 : tie.Need-part-fill-job-end-11
-part-fill-job-end-11 c = let a = behind c in column (a .args .elem .now) 1024 (a .args .n .elements) (a .pre .lent .rest .longElem) (a .pre .few .elements) (omega arith)
+part-fill-job-end-11 c =
+    let a = behind c in
+    column-within (a .args .elem .now) 1024 (a .args .n .elements) (a .pre .lent .rest .longElem) (a .pre .few .elements) (omega arith)
 
 sub-fill-job-12 : tie.Need-sub-fill-job-12
 sub-fill-job-12 c = search needs
@@ -189,7 +191,9 @@ part-fill-job-start-12 : tie.Need-part-fill-job-start-12
 part-fill-job-start-12 c = search needs
 
 part-fill-job-end-12 : tie.Need-part-fill-job-end-12
-part-fill-job-end-12 c = let a = behind (c .before) in column (a .args .elem .now) 2048 (a .args .n .elements) (a .pre .lent .rest .longElem) (a .pre .few .elements) (omega arith)
+part-fill-job-end-12 c =
+    let a = behind (c .before) in
+    column-within (a .args .elem .now) 2048 (a .args .n .elements) (a .pre .lent .rest .longElem) (a .pre .few .elements) (omega arith)
 
 sub-fill-job-13 : tie.Need-sub-fill-job-13
 sub-fill-job-13 c = search needs
@@ -198,7 +202,9 @@ part-fill-job-start-13 : tie.Need-part-fill-job-start-13
 part-fill-job-start-13 c = search needs
 
 part-fill-job-end-13 : tie.Need-part-fill-job-end-13
-part-fill-job-end-13 c = let a = behind (c .before .before) in column (a .args .elem .now) 3072 (a .args .n .elements) (a .pre .lent .rest .longElem) (a .pre .few .elements) (omega arith)
+part-fill-job-end-13 c =
+    let a = behind (c .before .before) in
+    column-within (a .args .elem .now) 3072 (a .args .n .elements) (a .pre .lent .rest .longElem) (a .pre .few .elements) (omega arith)
 
 sub-fill-job-14 : tie.Need-sub-fill-job-14
 sub-fill-job-14 c = search needs
@@ -207,7 +213,9 @@ part-fill-job-start-14 : tie.Need-part-fill-job-start-14
 part-fill-job-start-14 c = search needs
 
 part-fill-job-end-14 : tie.Need-part-fill-job-end-14
-part-fill-job-end-14 c = let a = behind (c .before .before .before) in column (a .args .elem .now) 4096 (a .args .n .elements) (a .pre .lent .rest .longElem) (a .pre .few .elements) (omega arith)
+part-fill-job-end-14 c =
+    let a = behind (c .before .before .before) in
+    column-within (a .args .elem .now) 4096 (a .args .n .elements) (a .pre .lent .rest .longElem) (a .pre .few .elements) (omega arith)
 
 sub-fill-job-15 : tie.Need-sub-fill-job-15
 sub-fill-job-15 c = search needs
@@ -216,7 +224,9 @@ part-fill-job-start-15 : tie.Need-part-fill-job-start-15
 part-fill-job-start-15 c = search needs
 
 part-fill-job-end-15 : tie.Need-part-fill-job-end-15
-part-fill-job-end-15 c = let a = behind (c .before .before .before .before) in front (a .args .runs .now) (a .pre .lent .rest .longRuns) (a .pre .few .fewRuns) (omega arith)
+part-fill-job-end-15 c =
+    let a = behind (c .before .before .before .before) in
+    front-within (a .args .runs .now) (a .pre .lent .rest .longRuns) (a .pre .few .fewRuns) (omega arith)
 
 sub-fill-job-16 : tie.Need-sub-fill-job-16
 sub-fill-job-16 c = search needs
@@ -225,7 +235,9 @@ part-fill-job-start-16 : tie.Need-part-fill-job-start-16
 part-fill-job-start-16 c = search needs
 
 part-fill-job-end-16 : tie.Need-part-fill-job-end-16
-part-fill-job-end-16 c = let a = behind (c .before .before .before .before .before) in front (a .args .lruns .now) (a .pre .lent .rest .longLruns) (a .pre .few .fewLruns) (omega arith)
+part-fill-job-end-16 c =
+    let a = behind (c .before .before .before .before .before) in
+    front-within (a .args .lruns .now) (a .pre .lent .rest .longLruns) (a .pre .few .fewLruns) (omega arith)
 
 fill-job-requires : tie.Need-fill-job-requires
 fill-job-requires c κs =
@@ -239,7 +251,16 @@ fill-job-requires c κs =
     }
 
 returns : tie.Need-returns
-returns c = c .fill-job .ensures
+returns c =
+    let third = lists (c .before .before .before .before .before .before .before .before .before .before .before .before) in
+    let kept = c .fill-job .kept in (
+      c .fill-job .ensures,
+      record {
+        rows = omega (arith, kept .0, third .before .before .fill-job-arg .given .0 .1);
+        ended = omega (arith, kept .1 .0, third .before .fill-job-arg2 .given .0 .1);
+        far = omega (arith, kept .1 .1 .0, third .fill-job-arg3 .given .0 .1);
+      },
+    )
 
 pub fill-tables-spec : {M : Type 1} → statement M
 fill-tables-spec =
