@@ -6,20 +6,17 @@ ghost use lib.ListN.{length};
 ghost use Rattle.basics.specs.Seen.{was};
 ghost use Rattle.engine.specs.Seen.{leaves};
 ghost use Rattle.door.specs.Seen.{jobNow, jobWas};
-ghost use Rattle.door.specs.Job.{leftCount};
 ghost use Rattle.job.specs.Outcome.{outcome};
 ghost use Rattle.engine.specs.Filled.{Room, Fills};
 
-// How many base characters a job has at most that is set by the small tables, and the sizes of these and of the large ones, in a job without left characters and in one with some.
+// How many base characters a job has at most that is set by the small tables, and the sizes of the small table and the large one, both with room for left rows.
 const FEW: usize = 128;
 
-const SMALL: usize = cells::HEAD + cells::ROW * FEW;
+const SMALL: usize = cells::HEAD + cells::ROW * FEW + cells::LEFT * FEW;
 
-const SMALL_LEFT: usize = SMALL + cells::LEFT * FEW;
-
-const LARGE: usize = cells::HEAD + cells::ROW * limits::MOST_BASES;
-
-pub const TABLE: usize = LARGE + cells::LEFT * limits::MOST_BASES;
+pub const TABLE: usize = cells::HEAD
+    + cells::ROW * limits::MOST_BASES
+    + cells::LEFT * limits::MOST_BASES;
 
 // The job's table, and the ends and extents of its lines, at the front of lent lists; or the first refusal of all. `base`, `ruby`, `left` and `lines` are the lengths
 // of the result lists.
@@ -182,8 +179,12 @@ fn set_table(
     }
 }
 
-// A job set by a table of its own, with room for left rows. A small job has a small table, since a table is cleared before it is used.
-fn set_sides(
+// Sets a job. `ratios` are the house ratios, the ruby's first, each a, m, c; `profile` is 0, or 1 for older children; `class`, `width`, `before`, `after` and `flag` are the
+// base characters' fields, `rclass` and `rwidth` the ruby characters', `lclass` and `lwidth` the left ones'; `kind` (a letter's byte: 80 P, 77 M, 71 G, 74 J), `ebase`,
+// `eruby`, `lkind` (77 M, 71 G, 74 J, 78 none) and `eleft` the elements'; `runs` the J runs and `lruns` the left ones. The positions go to `base`, `ruby` and `left`, in
+// half units from the line's start, and the running counts of base characters at the lines' ends to `lines`. A small job
+// has small tables, since a table is cleared before it is used.
+pub fn set_job(
     em: u32,
     measure: u32,
     ratios: [[u32; 3]; 2],
@@ -212,7 +213,7 @@ fn set_sides(
     ensures { λ r. let job = jobWas em measure ratios profile class width before after flag rclass rwidth lclass lwidth kind ebase eruby lkind eleft runs lruns in ⌜ leaves r (base .exit) (ruby .exit) (left .exit) (lines .exit) ≡ outcome job (was base) (was ruby) (was left) (was lines) ⌝ }
 {
     if door::base_count(class, width, before, after, flag) <= FEW {
-        let mut t = [0; SMALL_LEFT];
+        let mut t = [0; SMALL];
         let mut ends = [0; FEW];
         let mut extents = [0; FEW];
         return set_table(
@@ -252,193 +253,6 @@ fn set_sides(
         &mut t,
         &mut ends,
         &mut extents,
-        em,
-        measure,
-        ratios,
-        profile,
-        class,
-        width,
-        before,
-        after,
-        flag,
-        rclass,
-        rwidth,
-        lclass,
-        lwidth,
-        kind,
-        ebase,
-        eruby,
-        lkind,
-        eleft,
-        runs,
-        lruns,
-        base,
-        ruby,
-        left,
-        lines,
-    )
-}
-
-// The same of a job without left characters, whose table has no left rows.
-fn set_right(
-    em: u32,
-    measure: u32,
-    ratios: [[u32; 3]; 2],
-    profile: u32,
-    class: &[u32],
-    width: &[u32],
-    before: &[u32],
-    after: &[u32],
-    flag: &[u32],
-    rclass: &[u32],
-    rwidth: &[u32],
-    lclass: &[u32],
-    lwidth: &[u32],
-    kind: &[u32],
-    ebase: &[u32],
-    eruby: &[u32],
-    lkind: &[u32],
-    eleft: &[u32],
-    runs: &[u32],
-    lruns: &[u32],
-    base: &mut [u32],
-    ruby: &mut [u32],
-    left: &mut [u32],
-    lines: &mut [u32],
-) -> job::Answer
-    requires { let job = jobNow em measure ratios profile class width before after flag rclass rwidth lclass lwidth kind ebase eruby lkind eleft runs lruns in ⌜ leftCount job ≡ 0 ⌝ }
-    ensures { λ r. let job = jobWas em measure ratios profile class width before after flag rclass rwidth lclass lwidth kind ebase eruby lkind eleft runs lruns in ⌜ leaves r (base .exit) (ruby .exit) (left .exit) (lines .exit) ≡ outcome job (was base) (was ruby) (was left) (was lines) ⌝ }
-{
-    if door::base_count(class, width, before, after, flag) <= FEW {
-        let mut t = [0; SMALL];
-        let mut ends = [0; FEW];
-        let mut extents = [0; FEW];
-        return set_table(
-            &mut t,
-            &mut ends,
-            &mut extents,
-            em,
-            measure,
-            ratios,
-            profile,
-            class,
-            width,
-            before,
-            after,
-            flag,
-            rclass,
-            rwidth,
-            lclass,
-            lwidth,
-            kind,
-            ebase,
-            eruby,
-            lkind,
-            eleft,
-            runs,
-            lruns,
-            base,
-            ruby,
-            left,
-            lines,
-        );
-    }
-    let mut t = [0; LARGE];
-    let mut ends = [0; limits::MOST_BASES];
-    let mut extents = [0; limits::MOST_BASES];
-    set_table(
-        &mut t,
-        &mut ends,
-        &mut extents,
-        em,
-        measure,
-        ratios,
-        profile,
-        class,
-        width,
-        before,
-        after,
-        flag,
-        rclass,
-        rwidth,
-        lclass,
-        lwidth,
-        kind,
-        ebase,
-        eruby,
-        lkind,
-        eleft,
-        runs,
-        lruns,
-        base,
-        ruby,
-        left,
-        lines,
-    )
-}
-
-// Sets a job. `ratios` are the house ratios, the ruby's first, each a, m, c; `profile` is 0, or 1 for older children; `class`, `width`, `before`, `after` and `flag` are the
-// base characters' fields, `rclass` and `rwidth` the ruby characters', `lclass` and `lwidth` the left ones'; `kind` (a letter's byte: 80 P, 77 M, 71 G, 74 J), `ebase`,
-// `eruby`, `lkind` (77 M, 71 G, 74 J, 78 none) and `eleft` the elements'; `runs` the J runs and `lruns` the left ones. The positions go to `base`, `ruby` and `left`, in
-// half units from the line's start, and the running counts of base characters at the lines' ends to `lines`. A job without left characters
-// has a table without left rows, since a table is cleared before it is used.
-pub fn set_job(
-    em: u32,
-    measure: u32,
-    ratios: [[u32; 3]; 2],
-    profile: u32,
-    class: &[u32],
-    width: &[u32],
-    before: &[u32],
-    after: &[u32],
-    flag: &[u32],
-    rclass: &[u32],
-    rwidth: &[u32],
-    lclass: &[u32],
-    lwidth: &[u32],
-    kind: &[u32],
-    ebase: &[u32],
-    eruby: &[u32],
-    lkind: &[u32],
-    eleft: &[u32],
-    runs: &[u32],
-    lruns: &[u32],
-    base: &mut [u32],
-    ruby: &mut [u32],
-    left: &mut [u32],
-    lines: &mut [u32],
-) -> job::Answer
-    ensures { λ r. let job = jobWas em measure ratios profile class width before after flag rclass rwidth lclass lwidth kind ebase eruby lkind eleft runs lruns in ⌜ leaves r (base .exit) (ruby .exit) (left .exit) (lines .exit) ≡ outcome job (was base) (was ruby) (was left) (was lines) ⌝ }
-{
-    if door::left_count(lclass, lwidth) == 0 {
-        return set_right(
-            em,
-            measure,
-            ratios,
-            profile,
-            class,
-            width,
-            before,
-            after,
-            flag,
-            rclass,
-            rwidth,
-            lclass,
-            lwidth,
-            kind,
-            ebase,
-            eruby,
-            lkind,
-            eleft,
-            runs,
-            lruns,
-            base,
-            ruby,
-            left,
-            lines,
-        );
-    }
-    set_sides(
         em,
         measure,
         ratios,
