@@ -1,12 +1,12 @@
 -- What the door, the layout and the filling found, one after the other: the first refusal of all, or a table that holds the job and the ends of its lines.
-use mathlib.Core.Path.{_≡_, refl, sym, ap, _∙_, subst}
+use mathlib.Core.Path.{_≡_, refl, sym, ap, _∙_}
 use mathlib.Core.Bool.{Bool, true, false, cond}
 use mathlib.Core.List.{List, [], _∷_, _++_, append-assoc}
 use mathlib.Core.Option.{some, none}
 use Prim.Native.Nat.{ℕ, _+_, _*_, _≤_, _<_}
 use native.Mathlib.Omega.{arith}
 use lib.Dec.{eqb}
-use lib.ListN.{length, getD, take, drop}
+use lib.ListN.{length, take, drop}
 use lib.Seq.{take-append-seam}
 use Rattle.basics.specs.Lists.{lastOr}
 use Rattle.refusal.specs.declared.Refusal.{Refusal}
@@ -20,7 +20,7 @@ use Rattle.door.specs.Whole.{ahead}
 use Rattle.job.specs.Line.{ends}
 use Rattle.job.specs.Refusals.{linesFaults, faults, fault}
 use Rattle.join.specs.Rows.{Holds}
-use Rattle.join.specs.Join.{sound, lines-join, faults-join}
+use Rattle.join.specs.Join.{lines-join, faults-join}
 use Rattle.layout.specs.Walk.{Ready}
 use Rattle.layout.specs.Measure.{unmeasured, same-faults, measured}
 use Rattle.cells.specs.Cells.{size, leftSize, linesOf}
@@ -82,36 +82,6 @@ none-refused : (qs : List Refusal) (es : List ℕ) {q : Refusal} → verdict qs 
 none-refused [] es e = absurd (let z : _≡_ {A = ℕ} 0 1 = cc in omega arith)
 none-refused (x ∷ qs) es e = refl
 
--- no character's refusal depends on the runs
-abbrev runless : Job → Job
-runless job =
-    record {
-      em = job .em;
-      measure = job .measure;
-      ratios = job .ratios;
-      profile = job .profile;
-      class = job .class;
-      width = job .width;
-      before = job .before;
-      after = job .after;
-      flag = job .flag;
-      rubyClass = job .rubyClass;
-      rubyWidth = job .rubyWidth;
-      leftClass = job .leftClass;
-      leftWidth = job .leftWidth;
-      kind = job .kind;
-      elementBase = job .elementBase;
-      elementRuby = job .elementRuby;
-      leftKind = job .leftKind;
-      elementLeft = job .elementLeft;
-      run = [];
-      leftRun = [];
-    }
-
-pub any-runs : (job : Job) (base ruby left lines : ℕ) → ahead (runless job) base ruby left lines ≡ ahead job base ruby left lines
-unfolding jobFaults charFaults baseCount rubyCount leftCount elementCount
-any-runs job base ruby left lines = refl
-
 module _ (job : Job) (base ruby left lines : ℕ) where
   abbrev rest : List Refusal
   rest = elementsFaults job 0 (elements job) ++ leftFaults job
@@ -131,9 +101,9 @@ module _ (job : Job) (base ruby left lines : ℕ) where
         holds = λ own. absurd (some-refused (ownFaults job base ruby left lines) e own);
       }
 
-  -- the characters are refused
-  pub by-characters : (was wasFar t : List ℕ) {q : Refusal} → verdict (ahead job base ruby left lines) ≡ checked.Refused q → Stopped job base ruby left lines was wasFar t was wasFar q
-  by-characters was wasFar t e = by-door was wasFar t (ap verdict own-groups ∙ front-refused (ahead job base ruby left lines) rest e)
+  -- the settings or the characters are refused
+  pub by-ahead : (was wasFar t : List ℕ) {q : Refusal} → verdict (ahead job base ruby left lines) ≡ checked.Refused q → Stopped job base ruby left lines was wasFar t was wasFar q
+  by-ahead was wasFar t e = by-door was wasFar t (ap verdict own-groups ∙ front-refused (ahead job base ruby left lines) rest e)
 
   module _ (passes : verdict (ahead job base ruby left lines) ≡ checked.Passed) where
     first : (jobFaults job base ruby left lines ≡ []) × (charFaults job ≡ [])

@@ -1,8 +1,7 @@
 // The entry point (document 01, "The job" and "Refusal list"): a job in lists to its answer and the four result lists. Nothing is asked of the caller. The door judges the
-// characters, `layout` the elements, whose rows it writes into a table of this crate's own; the filling finds the lines in it, and only then is anything
+// settings and the characters, `layout` the elements, whose rows it writes into a table of this crate's own; the filling finds the lines in it, and only then is anything
 // written, so that a refusal leaves every result list as it was. It relies on `door`, `layout`, `filling` and `positions`, and on `job` for what the answer means.
 ghost use mathlib.Core.Path.{_≡_};
-ghost use lib.ListN.{length};
 ghost use Rattle.basics.specs.Seen.{was};
 ghost use Rattle.engine.specs.Seen.{leaves};
 ghost use Rattle.door.specs.Seen.{jobNow, jobWas};
@@ -12,11 +11,9 @@ ghost use Rattle.engine.specs.Filled.{Room, Fills};
 // How many base characters a job has at most that is set by the small tables, and the sizes of the small table and the large one, both with room for left rows.
 const FEW: usize = 128;
 
-const SMALL: usize = cells::HEAD + cells::ROW * FEW + cells::LEFT * FEW;
+const SMALL: usize = cells::HEAD + (cells::ROW + cells::LEFT) * FEW;
 
-pub const TABLE: usize = cells::HEAD
-    + cells::ROW * limits::MOST_BASES
-    + cells::LEFT * limits::MOST_BASES;
+pub const TABLE: usize = cells::HEAD + (cells::ROW + cells::LEFT) * limits::MOST_BASES;
 
 // The job's table, and the ends and extents of its lines, at the front of lent lists; or the first refusal of all. `base`, `ruby`, `left` and `lines` are the lengths
 // of the result lists.
@@ -52,11 +49,24 @@ pub fn fill_job(
     requires { let job = jobNow em measure ratios profile class width before after flag rclass rwidth lclass lwidth kind ebase eruby lkind eleft runs lruns in ⌜ Room job (now t) (now ends) (now extents) ⌝ }
     ensures { λ a. let job = jobWas em measure ratios profile class width before after flag rclass rwidth lclass lwidth kind ebase eruby lkind eleft runs lruns in ⌜ Fills job base ruby left lines (was ends) (was extents) (now (t .exit)) (now (ends .exit)) (now (extents .exit)) a ⌝ }
 {
+    let sizes = door::Sizes {
+        bases: door::base_count(class, width, before, after, flag),
+        rubies: door::ruby_count(rclass, rwidth),
+        elements: door::element_count(kind, ebase, eruby, lkind, eleft),
+        lefts: door::left_count(lclass, lwidth),
+    };
+    let results = door::Results {
+        base,
+        ruby,
+        left,
+        lines,
+    };
+    match door::check_settings(em, measure, ratios, profile, sizes, results) {
+        door::Checked::Refused(why) => return filling::Lines::Refused(why),
+        door::Checked::Passed => {}
+    }
     match door::check_characters(
-        em,
-        measure,
-        ratios,
-        profile,
+        sizes,
         class,
         width,
         before,
@@ -66,15 +76,6 @@ pub fn fill_job(
         rwidth,
         lclass,
         lwidth,
-        kind,
-        ebase,
-        eruby,
-        lkind,
-        eleft,
-        base,
-        ruby,
-        left,
-        lines,
     ) {
         door::Checked::Refused(why) => return filling::Lines::Refused(why),
         door::Checked::Passed => {}
@@ -104,8 +105,7 @@ pub fn fill_job(
         door::Checked::Refused(why) => return filling::Lines::Refused(why),
         door::Checked::Passed => {}
     }
-    let n = door::base_count(class, width, before, after, flag);
-    filling::fill_lines(t, n, ends, extents, em, 2 * measure)
+    filling::fill_lines(t, sizes.bases, ends, extents, em, 2 * measure)
 }
 
 // The job set by a table and lists of this size, for its rows and the ends and extents of its lines.

@@ -1,6 +1,6 @@
 -- Either table has room for the jobs that it is used for: the small one for 128 base characters, the large one for the most that are accepted. What is set with it is the job's outcome.
-use mathlib.Core.Path.{_≡_, subst}
-use Prim.Native.Nat.{_*_, _≤_}
+use mathlib.Core.Path.{subst}
+use Prim.Native.Nat.{_≤_}
 use borrow.Author.Needs.{needs}
 use native.Mathlib.Omega.{arith}
 use Rattle.door.specs.Job.{Job, jobOf, baseCount}
