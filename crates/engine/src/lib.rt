@@ -108,7 +108,9 @@ pub fn fill_job(
     filling::fill_lines(t, sizes.bases, ends, extents, em, 2 * measure)
 }
 
-// The job set by a table and lists of this size, for its rows and the ends and extents of its lines.
+// The job set by a table and lists of this size, for its rows and the ends and extents of its lines. It takes the steps of `fill_job` itself and does not call it, for speed alone:
+// the check of characters, the layout and the filling then have two callers each and are compiled as functions of their own. With one caller the compiler puts them all into
+// `fill_job`, whose lists are too many for registers and lie in memory (3 to 14 instructions more for a base character).
 fn set_table(
     t: &mut [u32],
     ends: &mut [u32],
@@ -141,12 +143,40 @@ fn set_table(
     requires { let job = jobNow em measure ratios profile class width before after flag rclass rwidth lclass lwidth kind ebase eruby lkind eleft runs lruns in ⌜ Room job (now t) (now ends) (now extents) ⌝ }
     ensures { λ r. let job = jobWas em measure ratios profile class width before after flag rclass rwidth lclass lwidth kind ebase eruby lkind eleft runs lruns in ⌜ leaves r (base .exit) (ruby .exit) (left .exit) (lines .exit) ≡ outcome job (was base) (was ruby) (was left) (was lines) ⌝ }
 {
-    match fill_job(
+    let sizes = door::Sizes {
+        bases: door::base_count(class, width, before, after, flag),
+        rubies: door::ruby_count(rclass, rwidth),
+        elements: door::element_count(kind, ebase, eruby, lkind, eleft),
+        lefts: door::left_count(lclass, lwidth),
+    };
+    let results = door::Results {
+        base: base.len(),
+        ruby: ruby.len(),
+        left: left.len(),
+        lines: lines.len(),
+    };
+    match door::check_settings(em, measure, ratios, profile, sizes, results) {
+        door::Checked::Refused(why) => return job::Answer::Refused(why),
+        door::Checked::Passed => {}
+    }
+    match door::check_characters(
+        sizes,
+        class,
+        width,
+        before,
+        after,
+        flag,
+        rclass,
+        rwidth,
+        lclass,
+        lwidth,
+    ) {
+        door::Checked::Refused(why) => return job::Answer::Refused(why),
+        door::Checked::Passed => {}
+    }
+    match layout::layout(
         t,
-        ends,
-        extents,
         em,
-        measure,
         ratios,
         profile,
         class,
@@ -165,11 +195,11 @@ fn set_table(
         eleft,
         runs,
         lruns,
-        base.len(),
-        ruby.len(),
-        left.len(),
-        lines.len(),
     ) {
+        door::Checked::Refused(why) => return job::Answer::Refused(why),
+        door::Checked::Passed => {}
+    }
+    match filling::fill_lines(t, sizes.bases, ends, extents, em, 2 * measure) {
         filling::Lines::Refused(why) => job::Answer::Refused(why),
         filling::Lines::Filled(n) => {
             positions::put_lines(t, n, ends, em, width, rwidth, lwidth, base, ruby, left);
