@@ -265,10 +265,11 @@ fn marked_in(table: [Entry; 31], which: Mark) -> u32
 fn has(set: u32, class: u32) -> bool
     ensures { λ r. ⌜ r ≡ hasAt set class ⌝ }
 {
-    if 30 < class {
-        return false;
+    if class < 31 {
+        (set >> class) % 2 == 1
+    } else {
+        false
     }
-    (set >> class) % 2 == 1
 }
 
 pub fn is_accepted(class: u32) -> bool
