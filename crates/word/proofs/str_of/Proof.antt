@@ -1,7 +1,7 @@
 -- Its sum and its length.
 use borrow.Author.Needs.{needs}
-use Rattle.word.proofs.sides.str_of.Statement.{statement}
-use Rattle.word.proofs.sides.str_of.Tie as tie
+use Rattle.word.proofs.str_of.Statement.{statement}
+use Rattle.word.proofs.str_of.Tie as tie
 
 sum-of-requires : tie.Need-sum-of-requires
 sum-of-requires c κs = search needs
