@@ -266,13 +266,14 @@ module _ (job : Job) (x : Piece) {t : List ℕ} (h : BothReady job x t) where
   module _ {b : Base} {r l : RunStrand} (e : b ≡ givenBase (x .form) (given job x)) (f : r ≡ rightIn) (g : l ≡ leftIn) where
     pub both-asks : Strings (b .string) (r .string) (l .string) × (isJ (x .form) ≡ true → JukugosReady (job .em) b r l)
     both-asks =
-        rw (e, f, g)
-        (strings (given job x .width) (given job x .rubyWidth) (glossOf job x .width) (h .word .small) (h .ready .gloss),
-        λ j. record {
-          wide = λ u. ems-wide (x .form) (job .em) (given job x .width) (h .ready .sized .some) j u;
-          right = runs-fit-em (job .em) (given job x .rubyClass) (given job x .rubyWidth) (entries (job .run) (x .run) (takesRuns (x .form) (x .bases)));
-          left = runs-fit-em (job .em) (glossOf job x .class) (glossOf job x .width) (entries (job .leftRun) (x .leftrun) (takesLeftRuns (x .form) (x .gloss) (x .bases)));
-        })
+        rw (e, f, g) (
+          strings (given job x .width) (given job x .rubyWidth) (glossOf job x .width) (h .word .small) (h .ready .gloss),
+          λ j. record {
+            wide = λ u. ems-wide (x .form) (job .em) (given job x .width) (h .ready .sized .some) j u;
+            right = runs-fit-em (job .em) (given job x .rubyClass) (given job x .rubyWidth) (entries (job .run) (x .run) (takesRuns (x .form) (x .bases)));
+            left = runs-fit-em (job .em) (glossOf job x .class) (glossOf job x .width) (entries (job .leftRun) (x .leftrun) (takesLeftRuns (x .form) (x .gloss) (x .bases)));
+          },
+        )
 
     pub both-told : (place : ℕ) {u : Ratios} → u ≡ job .ratios → bothBy (x .form) (x .gloss) place u (job .em) b r l ≡ answerBoth (x .form) place (given job x) (glossOf job x)
     both-told place i =

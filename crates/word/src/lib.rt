@@ -24,8 +24,8 @@ ghost use Rattle.word.specs.Runs.{runsOf};
 
 mod sides;
 
-pub use sides::groups_of;
 pub use sides::both_answer;
+pub use sides::groups_of;
 pub use sides::monos_of;
 pub use sides::runs_reading;
 
@@ -373,20 +373,22 @@ fn solid_of(b: u32, r: u32) -> Word
 }
 
 // The word of a G, by what its strings are made of.
-fn group_from(
-    r: Script,
-    b: Script,
-    ratios: [[u32; 3]; 2],
-    em: u32,
-    base: Str,
-    ruby: Str,
-) -> Word
+fn group_from(r: Script, b: Script, ratios: [[u32; 3]; 2], em: u32, base: Str, ruby: Str) -> Word
     requires { ⌜ (Measured (base .width) (base .count) (ruby .width) (ruby .count)) × (Housed (ratiosOf ratios)) ⌝ }
     ensures { λ w. ⌜ w ≡ groupFrom r b (ratiosOf ratios) em base ruby ⌝ }
 {
     let over = ruby_way(r, b);
     let under = base_way(r, b);
-    word_from(over, under, ratios, em, base.width, base.count, ruby.width, ruby.count)
+    word_from(
+        over,
+        under,
+        ratios,
+        em,
+        base.width,
+        base.count,
+        ruby.width,
+        ruby.count,
+    )
 }
 
 // A J's runs against one em.
@@ -471,14 +473,7 @@ fn is_uneven(form: Form, em: u32, bs: &[u32]) -> bool
 }
 
 // A word's base, as level one asks for it.
-pub fn base_of(
-    form: Form,
-    em: u32,
-    bc: &[u32],
-    bs: &[u32],
-    before: &[u32],
-    after: &[u32],
-) -> Base
+pub fn base_of(form: Form, em: u32, bc: &[u32], bs: &[u32], before: &[u32], after: &[u32]) -> Base
     requires { ⌜ (length (now bs) ≤ 64) × (sum (now bs) < 2 ^ 32) ⌝ }
     ensures { λ b. ⌜ b ≡ baseOf form em (was bc) (was bs) (was before) (was after) ⌝ }
 {
@@ -532,13 +527,7 @@ pub fn mono_answer(place: u32, blank: bool, b: u32, r: u32) -> Answer
 }
 
 // A G: numbers 7, 9 and 10, or its word.
-pub fn group_answer(
-    place: u32,
-    ratios: [[u32; 3]; 2],
-    em: u32,
-    base: Base,
-    ruby: Strand,
-) -> Answer
+pub fn group_answer(place: u32, ratios: [[u32; 3]; 2], em: u32, base: Base, ruby: Strand) -> Answer
     requires { ⌜ (Measured (base .string .width) (base .string .count) (ruby .string .width) (ruby .string .count)) × (Housed (ratiosOf ratios)) ⌝ }
     ensures { λ a. ⌜ a ≡ groupBy place (ratiosOf ratios) em base ruby ⌝ }
 {
@@ -604,13 +593,7 @@ fn single_from(r: Script, ratios: [[u32; 3]; 2], em: u32, base: Str, ruby: Str) 
 }
 
 // A J of one character: numbers 7, 8 and 9, or its word.
-pub fn single_answer(
-    place: u32,
-    ratios: [[u32; 3]; 2],
-    em: u32,
-    base: Base,
-    ruby: Strand,
-) -> Answer
+pub fn single_answer(place: u32, ratios: [[u32; 3]; 2], em: u32, base: Base, ruby: Strand) -> Answer
     requires { ⌜ (Measured (base .string .width) (base .string .count) (ruby .string .width) (ruby .string .count)) × (Housed (ratiosOf ratios)) × (base .uneven ≡ false → em ≤ base .string .width) ⌝ }
     ensures { λ a. ⌜ a ≡ singleBy place (ratiosOf ratios) em base ruby ⌝ }
 {

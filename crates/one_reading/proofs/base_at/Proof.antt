@@ -60,14 +60,14 @@ part-base-of-end-4 : tie.Need-part-base-of-end-4
 part-base-of-end-4 c = search needs
 
 base-of-requires : tie.Need-base-of-requires
-base-of-requires c κs = 
+base-of-requires c κs =
     let a = c .before .before .before .before .before .before .before .before .before in
     let x = a .args in
     let s = base-small (basesOnly (x .em) (x .class .now) (x .width .now) (x .before .now) (x .after .now)) (x .p) (a .pre) in
     (s .0, omega (arith, s .1))
 
 returns : tie.Need-returns
-returns c = 
+returns c =
     let a = c .before .before .before .before .before .before .before .before .before .before in
     let x = a .args in
     c .base-of .ensures ∙ base-lent (basesOnly (x .em) (x .class .now) (x .width .now) (x .before .now) (x .after .now)) (x .p) (a .pre)

@@ -29,7 +29,6 @@ Told a t s g f =
     Gives f (x .em) (x .base) p (x .rclass .now) (x .rwidth .now) (x .runs .now) (x .t .now) g →
     FilledBy (answer f (x .place) g) (λ w i. cond (isJ f) (jukugoRow job p w (x .ends) i) (wordRow p w (x .ends) 0 0 i)) p (x .t .now) t s
 
-
 enum-told : tie.Need-enum-told
 enum-told c = search needs
 
@@ -46,14 +45,14 @@ enum-told-4 : tie.Need-enum-told-4
 enum-told-4 c = search needs
 
 lay-single-requires : tie.Need-lay-single-requires
-lay-single-requires c κs = 
+lay-single-requires c κs =
     let t = c .before in
     let f = t .before .before in
     let a = start (f .before .before) in
     (t .if1 .taken, a .pre .1, a .pre .2 (rw (f .enum-told4 .given .1)))
 
 lay-cut-requires : tie.Need-lay-cut-requires
-lay-cut-requires c κs = 
+lay-cut-requires c κs =
     let t = c .before in
     let f = t .before .before in
     let a = start (f .before .before) in
@@ -70,7 +69,7 @@ same-length : tie.Need-same-length
 same-length c = search needs
 
 returns-3 : tie.Need-returns-3
-returns-3 c = 
+returns-3 c =
     let m = c .before .before in
     let f = m .before .before in
     let a = start (f .before .before) in
@@ -80,7 +79,7 @@ same-length-2 : tie.Need-same-length-2
 same-length-2 c = search needs
 
 returns-4 : tie.Need-returns-4
-returns-4 c = 
+returns-4 c =
     let m = c .before .before in
     let f = m .before .before .before .before in
     let a = start (f .before .before) in
@@ -90,7 +89,7 @@ same-length-3 : tie.Need-same-length-3
 same-length-3 c = search needs
 
 returns-5 : tie.Need-returns-5
-returns-5 c = 
+returns-5 c =
     let m = c .before .before in
     let f = m .before .before .before .before in
     let a = start (f .before .before) in

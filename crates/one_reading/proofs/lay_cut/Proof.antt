@@ -28,7 +28,6 @@ told : (j : tie.After-judge-jukugo) (g : Given) →
     Gives J (x .em) (x .base) (x .p) (x .rclass .now) (x .rwidth .now) (x .runs .now) (x .t .now) g → answer J (x .place) g ≡ answeredBy (j .judge-jukugo .result) (wordOf J g)
 told j g v = cut-told (entry j .args .place) (j .before .ruby-at .ensures) v (j .judge-jukugo .ensures)
 
-
 ruby-at-requires : tie.Need-ruby-at-requires
 ruby-at-requires c κs = search needs
 
@@ -45,7 +44,7 @@ held-requires : tie.Need-held-requires
 held-requires c κs = search needs
 
 returns : tie.Need-returns
-returns c = 
+returns c =
     let e = c .before .enum-told2 .given .1 in
     (refl, λ g v. judged-stops (told (c .before .before .before) g v ∙ ap (λ z. answeredBy z (wordOf J g)) e) (c .held .ensures ∙ ap (stopAt _) e))
 
@@ -56,7 +55,7 @@ same-length : tie.Need-same-length
 same-length c = search needs
 
 returns-2 : tie.Need-returns-2
-returns-2 c = 
+returns-2 c =
     let put = c .before .before in
     let e = put .before .before in
     let j = e .before .before in
@@ -64,10 +63,12 @@ returns-2 c =
     let x = a .args in
     let p = x .p in
     let f = put .put-runs .ensures in
-    let job = runsOnly (x .em) (x .rclass .now) (x .rwidth .now) (x .runs .now) in
-    (f .long, λ g v. judged-goes (told j g v ∙ ap (λ z. answeredBy z (wordOf J g)) (e .enum-told .given .1)) (f .long)
-    (filled-as (jukugoRow job p none (x .ends)) (jukugoRow job p (wordOf J g) (x .ends)) (p .base) (p .base + p .bases) (x .t .now) (put .put-runs .last .0)
-    (λ i l m. cut-row job p none (wordOf J g) (x .ends) i (a .pre .0)) f))
+    let job = runsOnly (x .em) (x .rclass .now) (x .rwidth .now) (x .runs .now) in (
+      f .long,
+      λ g v. judged-goes (told j g v ∙ ap (λ z. answeredBy z (wordOf J g)) (e .enum-told .given .1)) (f .long)
+          (filled-as (jukugoRow job p none (x .ends)) (jukugoRow job p (wordOf J g) (x .ends)) (p .base) (p .base + p .bases) (x .t .now) (put .put-runs .last .0)
+          (λ i l m. cut-row job p none (wordOf J g) (x .ends) i (a .pre .0)) f),
+    )
 
 pub lay-cut-spec : {M : Type 1} → statement M
 lay-cut-spec =

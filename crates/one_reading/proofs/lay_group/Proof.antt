@@ -26,7 +26,6 @@ told : (m : tie.After-group-answer) (g : Given) →
     Gives G (x .em) (x .base) (x .p) (x .rclass .now) (x .rwidth .now) [] (x .t .now) g → m .group-answer .result ≡ answer G (x .place) g
 told m g v = m .group-answer .ensures ∙ group-told (entry m .args .place) (m .before .ratios-at .ensures) (m .before .before .before .ruby-at .ensures) v
 
-
 ruby-at-requires : tie.Need-ruby-at-requires
 ruby-at-requires c κs = search needs
 
@@ -34,7 +33,7 @@ ratios-at-requires : tie.Need-ratios-at-requires
 ratios-at-requires c κs = search needs
 
 group-answer-requires : tie.Need-group-answer-requires
-group-answer-requires c κs = 
+group-answer-requires c κs =
     let a = c .before .before .before .before .before .before in
     (measured (a .pre) (c .before .before .ruby-at .ensures), subst Housed (sym (c .ratios-at .ensures)) (a .pre .house))
 
@@ -51,7 +50,7 @@ same-length : tie.Need-same-length
 same-length c = search needs
 
 returns : tie.Need-returns
-returns c = 
+returns c =
     let e = c .before .enum-told .given .1 in
     (refl, λ g v. judged-stops (sym (told (c .before .before .before) g v) ∙ e) (c .refused .ensures ∙ ap (stopBy _) e))
 
@@ -62,7 +61,7 @@ same-length-2 : tie.Need-same-length-2
 same-length-2 c = search needs
 
 returns-2 : tie.Need-returns-2
-returns-2 c = 
+returns-2 c =
     let put = c .before .before in
     let w = put .before .before .before in
     let f = put .put-word .ensures in

@@ -31,7 +31,6 @@ told m =
     ∙ ap₂ (λ z r. monoBy (x .place) z (getD (x .width .now) (x .p .base) 0) r) (s .before .before .blank-inside .ensures) (s .sum-of .ensures)
     ∙ mono-lent (x .place) (job a) (x .p) (a .pre .1) (a .pre .0)
 
-
 add-e : tie.Need-add-e
 add-e c = search needs
 
@@ -78,7 +77,7 @@ part-sum-of-end : tie.Need-part-sum-of-end
 part-sum-of-end c = search needs
 
 sum-of-requires : tie.Need-sum-of-requires
-sum-of-requires c κs = 
+sum-of-requires c κs =
     let a = c .before .before .before .before .before .before .before .before .before .before .before in
     let x = a .args in
     omega (arith, mono-small (x .place) (job a) (x .p) (a .pre .1) (a .pre .0) .1)
@@ -90,7 +89,7 @@ shared-slice-read-mono-answer : tie.Need-shared-slice-read-mono-answer
 shared-slice-read-mono-answer c = search needs
 
 mono-answer-requires : tie.Need-mono-answer-requires
-mono-answer-requires c κs = 
+mono-answer-requires c κs =
     let n = c .before in
     let a = c .before .before .before .before .before .before .before .before .before .before .before .before .before in
     let x = a .args in
@@ -107,7 +106,7 @@ refused-requires : tie.Need-refused-requires
 refused-requires c κs = search needs
 
 returns : tie.Need-returns
-returns c = 
+returns c =
     let e = c .before .enum-told .given .1 in
     judged-stops (sym (told (c .before .before .before)) ∙ e) (c .refused .ensures ∙ ap (stopBy _) e)
 
@@ -115,7 +114,7 @@ ends-behind-requires : tie.Need-ends-behind-requires
 ends-behind-requires c κs = let w = entry (c .before .before .before) .pre .1 in (w .some, w .few, w .flag)
 
 put-word-requires : tie.Need-put-word-requires
-put-word-requires c κs = 
+put-word-requires c κs =
     let h = entry (c .before .before .before .before .before) .pre in
     let w = h .1 in
     (w .room, omega (arith, w .few), omega (arith, w .fewRuby), omega (arith, w .fewRuby))
@@ -124,7 +123,7 @@ same-length : tie.Need-same-length
 same-length c = search needs
 
 returns-2 : tie.Need-returns-2
-returns-2 c = 
+returns-2 c =
     let put = c .before .before in
     let ends = put .before .before in
     let w = ends .before .before in

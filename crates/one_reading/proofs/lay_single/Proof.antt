@@ -30,7 +30,6 @@ told m g v =
     m .single-answer .ensures
     ∙ single-told (a .args .place) (m .before .ratios-at .ensures) (m .before .before .before .ruby-at .ensures) v (a .pre .0) (a .pre .2 .whole (a .pre .0))
 
-
 ruby-at-requires : tie.Need-ruby-at-requires
 ruby-at-requires c κs = search needs
 
@@ -38,7 +37,7 @@ ratios-at-requires : tie.Need-ratios-at-requires
 ratios-at-requires c κs = search needs
 
 single-answer-requires : tie.Need-single-answer-requires
-single-answer-requires c κs = 
+single-answer-requires c κs =
     let a = c .before .before .before .before .before .before .before in
     (measured (a .pre .1) (c .before .before .ruby-at .ensures), subst Housed (sym (c .ratios-at .ensures)) (a .pre .1 .house), a .pre .2 .ems)
 
@@ -55,7 +54,7 @@ same-length : tie.Need-same-length
 same-length c = search needs
 
 returns : tie.Need-returns
-returns c = 
+returns c =
     let e = c .before .enum-told .given .1 in
     (refl, λ g v. judged-stops (sym (told (c .before .before .before) g v) ∙ e) (c .refused .ensures ∙ ap (stopBy _) e))
 
@@ -66,7 +65,7 @@ same-length-2 : tie.Need-same-length-2
 same-length-2 c = search needs
 
 returns-2 : tie.Need-returns-2
-returns-2 c = 
+returns-2 c =
     let put = c .before .before in
     let k = put .before .before .before in
     let m = k .before .before in
@@ -77,11 +76,13 @@ returns-2 c =
     let one = a .pre .0 in
     let f = put .put-single .ensures in
     let row = singleRow p w (x .ends) (x .rclass .now) (x .rwidth .now) (x .runs .now) in
-    let job = runsOnly (x .em) (x .rclass .now) (x .rwidth .now) (x .runs .now) in
-    (f .long, λ g v. judged-goes (sym (told m g v) ∙ k .answer .given .1) (f .long)
-    (filled-as (λ i. row) (jukugoRow job p w (x .ends)) (p .base) (p .base + p .bases) (x .t .now) (put .put-single .last .0)
-    (λ i l h. single-row (x .em) (x .rclass .now) (x .rwidth .now) (x .runs .now) p w (x .ends) i one (omega (arith, one)))
-    (filled-one row (p .base) (p .base + p .bases) (x .t .now) (put .put-single .last .0) (omega (arith, one)) f)))
+    let job = runsOnly (x .em) (x .rclass .now) (x .rwidth .now) (x .runs .now) in (
+      f .long,
+      λ g v. judged-goes (sym (told m g v) ∙ k .answer .given .1) (f .long)
+          (filled-as (λ i. row) (jukugoRow job p w (x .ends)) (p .base) (p .base + p .bases) (x .t .now) (put .put-single .last .0)
+          (λ i l h. single-row (x .em) (x .rclass .now) (x .rwidth .now) (x .runs .now) p w (x .ends) i one (omega (arith, one)))
+          (filled-one row (p .base) (p .base + p .bases) (x .t .now) (put .put-single .last .0) (omega (arith, one)) f)),
+    )
 
 pub lay-single-spec : {M : Type 1} → statement M
 lay-single-spec =

@@ -34,14 +34,14 @@ part-strand-of-end-2 : tie.Need-part-strand-of-end-2
 part-strand-of-end-2 c = search needs
 
 strand-of-requires : tie.Need-strand-of-requires
-strand-of-requires c κs = 
+strand-of-requires c κs =
     let a = c .before .before .before .before .before in
     let x = a .args in
     let s = ruby-small (x .p) (x .rclass .now) (x .rwidth .now) (a .pre) in
     (s .0, omega (arith, s .1))
 
 returns : tie.Need-returns
-returns c = 
+returns c =
     let a = c .before .before .before .before .before .before in
     let x = a .args in
     c .strand-of .ensures ∙ ruby-lent (x .p) (x .rclass .now) (x .rwidth .now) (a .pre)

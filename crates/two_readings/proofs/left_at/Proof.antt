@@ -11,13 +11,13 @@ left-runs-taken-requires : tie.Need-left-runs-taken-requires
 left-runs-taken-requires c κs = search needs
 
 strand-at-requires : tie.Need-strand-at-requires
-strand-at-requires c κs = 
+strand-at-requires c κs =
     let a = c .before .before .before .before in
     let x = a .args in
     subst (λ n. StrandReady (x .p .left) (x .p .lefts) (x .p .leftrun) n (x .lclass .now) (x .lwidth .now) (x .lruns .now)) (sym (c .left-runs-taken .ensures)) (a .pre)
 
 returns : tie.Need-returns
-returns c = 
+returns c =
     let r = c .before in
     let x = r .before .before .before .before .args in
     c .strand-at .ensures ∙ ap (λ n. strandIn (x .em) (x .p .left) (x .p .lefts) (x .p .leftrun) n (x .lclass .now) (x .lwidth .now) (x .lruns .now)) (r .left-runs-taken .ensures)

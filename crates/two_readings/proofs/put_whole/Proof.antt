@@ -20,9 +20,8 @@ start c = c .before .before .before .before .before .before .before
 abbrev job : tie.Start → Job
 job a = let x = a .args in wholeOnly (x .em) (x .rclass .now) (x .rwidth .now) (x .runs .now) (x .lwidth .now) (x .lruns .now)
 
-
 put-cut-requires : tie.Need-put-cut-requires
-put-cut-requires c κs = 
+put-cut-requires c κs =
     let t = c .before in
     let a = start (t .before) in
     let h = a .pre in
@@ -37,7 +36,7 @@ same-length c = search needs
 
 returns : tie.Need-returns
 unfolding cuts
-returns c = 
+returns c =
     let put = c .before .before in
     let t = put .before .before in
     let a = start (t .before) in
@@ -52,7 +51,7 @@ same-length-2 : tie.Need-same-length-2
 same-length-2 c = search needs
 
 returns-2 : tie.Need-returns-2
-returns-2 c = 
+returns-2 c =
     let put = c .before .before in
     let t = put .before .before in
     let a = start (t .before) in

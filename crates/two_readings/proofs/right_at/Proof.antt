@@ -11,13 +11,13 @@ runs-taken-requires : tie.Need-runs-taken-requires
 runs-taken-requires c κs = search needs
 
 strand-at-requires : tie.Need-strand-at-requires
-strand-at-requires c κs = 
+strand-at-requires c κs =
     let a = c .before .before .before .before in
     let x = a .args in
     subst (λ n. StrandReady (x .p .ruby) (x .p .rubies) (x .p .run) n (x .rclass .now) (x .rwidth .now) (x .runs .now)) (sym (c .runs-taken .ensures)) (a .pre)
 
 returns : tie.Need-returns
-returns c = 
+returns c =
     let r = c .before in
     let x = r .before .before .before .before .args in
     c .strand-at .ensures ∙ ap (λ n. strandIn (x .em) (x .p .ruby) (x .p .rubies) (x .p .run) n (x .rclass .now) (x .rwidth .now) (x .runs .now)) (r .runs-taken .ensures)

@@ -50,14 +50,14 @@ part-run-strand-of-end-3 : tie.Need-part-run-strand-of-end-3
 part-run-strand-of-end-3 c = search needs
 
 run-strand-of-requires : tie.Need-run-strand-of-requires
-run-strand-of-requires c κs = 
+run-strand-of-requires c κs =
     let a = c .before .before .before .before .before .before in
     let x = a .args in
     let s = strand-small (x .em) (x .first) (x .many) (x .run) (x .taken) (x .cs .now) (x .ws .now) (x .runs .now) (a .pre) in
     (s .0, omega (arith, s .1), s .2)
 
 returns : tie.Need-returns
-returns c = 
+returns c =
     let a = c .before .before .before .before .before .before .before in
     let x = a .args in
     c .run-strand-of .ensures ∙ strand-lent (x .em) (x .first) (x .many) (x .run) (x .taken) (x .cs .now) (x .ws .now) (x .runs .now) (a .pre)

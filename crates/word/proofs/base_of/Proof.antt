@@ -29,7 +29,7 @@ str-of-requires c κs = search needs
 
 -- src/lib.rt:474:1
 returns : tie.Need-returns
-returns c = 
+returns c =
     rw (c .before .before .before .blank-inside .ensures, c .before .before .mix-of .ensures, c .before .is-uneven .ensures, c .str-of .ensures)
 
 pub base-of-spec : {M : Type 1} → statement M

@@ -37,7 +37,7 @@ is-mixed-requires c κs = search needs
 -- src/lib.rt:583:9
 returns-4 : tie.Need-returns-4
 unfolding jukugoJudged
-returns-4 c = 
+returns-4 c =
     let m = c .before in
     let n = m .before .before .before in
     rw (n .before .before .if1 .left, ← n .not-kana .ensures, m .before .before .if2 .left, m .before .if3 .left, ← m .is-mixed .ensures, c .if4 .taken)
@@ -45,7 +45,7 @@ returns-4 c =
 -- src/lib.rt:567:1
 returns-5 : tie.Need-returns-5
 unfolding jukugoJudged
-returns-5 c = 
+returns-5 c =
     let m = c .before in
     let n = m .before .before .before in
     rw (n .before .before .if1 .left, ← n .not-kana .ensures, m .before .before .if2 .left, m .before .if3 .left, ← m .is-mixed .ensures, c .if4 .left)

@@ -29,7 +29,7 @@ runs-in-requires c κs = search needs
 
 -- src/lib.rt:507:1
 returns : tie.Need-returns
-returns c = 
+returns c =
     rw (c .before .before .before .mix-of .ensures, c .before .before .str-of .ensures, c .before .first-run .ensures, c .runs-in .ensures)
 
 pub run-strand-of-spec : {M : Type 1} → statement M

@@ -34,7 +34,7 @@ script-of-requires c κs = search needs
 
 -- src/lib.rt:623:25
 single-from-requires : tie.Need-single-from-requires
-single-from-requires c κs = 
+single-from-requires c κs =
     let e = c .before .before .before in
     let j = e .before .before in
     let s = j .before .before in
@@ -43,7 +43,7 @@ single-from-requires c κs =
 -- src/lib.rt:607:1
 returns : tie.Need-returns
 unfolding singleBy
-returns c = 
+returns c =
     let j = c .before .before .before in
     let s = j .before .before .args in
     ap (λ q. answeredBy q (singleFrom (scriptBy (s .ruby .mix)) (ratiosOf (s .ratios)) (s .em) (s .base .string) (s .ruby .string))) (sym (c .before .why .given .1) ∙ j .judge-jukugo .ensures)
@@ -51,7 +51,7 @@ returns c =
 -- src/lib.rt:607:1
 returns-2 : tie.Need-returns-2
 unfolding singleBy
-returns-2 c = 
+returns-2 c =
     let b = c .before in
     let e = b .before .before .before in
     let j = e .before .before in

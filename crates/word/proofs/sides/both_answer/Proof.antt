@@ -28,7 +28,7 @@ enum-told c = search needs
 
 -- src/sides.rt:320:34
 two-from-requires : tie.Need-two-from-requires
-two-from-requires c κs = 
+two-from-requires c κs =
     let r = c .before .before in
     let s = r .before in
     let a = s .args in
@@ -39,14 +39,14 @@ two-from-requires c κs =
 -- src/sides.rt:305:1
 returns : tie.Need-returns
 unfolding bothBy
-returns c = 
+returns c =
     let r = c .before .before .before in
     rw (← r .row-of .ensures, c .before .why .given .1)
 
 -- src/sides.rt:305:1
 returns-2 : tie.Need-returns-2
 unfolding bothBy
-returns-2 c = 
+returns-2 c =
     let e = c .before in
     rw (← e .before .before .row-of .ensures, e .enum-told .given .1) (ap Set (c .two-from .ensures))
 

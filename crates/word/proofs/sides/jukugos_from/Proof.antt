@@ -32,7 +32,7 @@ is-group-requires c κs = search needs
 -- src/sides.rt:175:9
 returns : tie.Need-returns
 unfolding jukugosFrom
-returns c = 
+returns c =
     let i = c .before in
     let g = i .before in
     rw (← i .is-group .ensures, c .if1 .taken) (g .groups-of .ensures ∙ rw (g .before .before .script-of .ensures, g .before .script-of2 .ensures))
@@ -48,7 +48,7 @@ enum-told c = search needs
 -- src/sides.rt:179:9
 returns-2 : tie.Need-returns-2
 unfolding jukugosFrom
-returns-2 c = 
+returns-2 c =
     let e = c .before .before in
     let i = e .before in
     let g = i .before in
@@ -65,7 +65,7 @@ enum-told-2 c = search needs
 -- src/sides.rt:183:9
 returns-3 : tie.Need-returns-3
 unfolding jukugosFrom
-returns-3 c = 
+returns-3 c =
     let k = c .before .before in
     let e = k .before .before .before in
     let i = e .before in
@@ -74,7 +74,7 @@ returns-3 c =
 
 -- src/sides.rt:185:9
 runs-reading-requires : tie.Need-runs-reading-requires
-runs-reading-requires c κs = 
+runs-reading-requires c κs =
     let l = c in
     let k = l .before .before .before in
     let s = k .before .before .before .before .before .before .before .before .before .before in
@@ -83,7 +83,7 @@ runs-reading-requires c κs =
 
 -- src/sides.rt:186:9
 runs-reading-requires-2 : tie.Need-runs-reading-requires-2
-runs-reading-requires-2 c κs = 
+runs-reading-requires-2 c κs =
     let l = c .before in
     let k = l .before .before .before in
     let s = k .before .before .before .before .before .before .before .before .before .before in
@@ -92,14 +92,14 @@ runs-reading-requires-2 c κs =
 
 -- src/sides.rt:189:14
 mul-t20 : tie.Need-mul-t20
-mul-t20 c = 
+mul-t20 c =
     let s = c .before .before .before .before .before .before .before .before .before .before .before .before .before .before .before .before in
     omega (arith, s .pre .0 .narrow)
 
 -- src/sides.rt:158:1
 returns-4 : tie.Need-returns-4
 unfolding jukugosFrom
-returns-4 c = 
+returns-4 c =
     let q = c .before in
     let l = q .before .before in
     let k = l .before .before .before in

@@ -32,7 +32,7 @@ strings-mixed-requires c κs = search needs
 -- src/sides.rt:267:9
 returns-3 : tie.Need-returns-3
 unfolding rowOf
-returns-3 c = 
+returns-3 c =
     let m = c .before in
     let w = m .before .before in
     rw (w .before .before .if1 .left, ← w .base-wrong .ensures, m .before .if2 .left, ← m .strings-mixed .ensures, c .if3 .taken)
@@ -44,7 +44,7 @@ western-reading-requires c κs = search needs
 -- src/sides.rt:270:9
 returns-4 : tie.Need-returns-4
 unfolding rowOf
-returns-4 c = 
+returns-4 c =
     let o = c .before in
     let m = o .before .before in
     let w = m .before .before in
@@ -53,7 +53,7 @@ returns-4 c =
 -- src/sides.rt:255:1
 returns-5 : tie.Need-returns-5
 unfolding rowOf
-returns-5 c = 
+returns-5 c =
     let o = c .before in
     let m = o .before .before in
     let w = m .before .before in

@@ -56,7 +56,7 @@ enum-told-4 c = search needs
 
 -- src/sides.rt:300:20
 jukugos-from-requires : tie.Need-jukugos-from-requires
-jukugos-from-requires c κs = 
+jukugos-from-requires c κs =
     let s = c .before .before .before .before .before in
     let j = s .pre .2 (rw (c .enum-told4 .given .1)) in
     (s .pre .0, s .pre .1, j .0, j .1, j .2)
@@ -74,7 +74,7 @@ returns-2 c = rw (c .before .enum-told2 .given .1) (c .monos-of .ensures)
 -- src/sides.rt:276:1
 returns-3 : tie.Need-returns-3
 unfolding twoFrom
-returns-3 c = 
+returns-3 c =
     let s = c .before in
     rw (s .before .before .before .enum-told3 .given .1) (c .groups-of .ensures ∙ rw (s .before .before .script-of .ensures, s .before .script-of2 .ensures, s .script-of3 .ensures))
 
