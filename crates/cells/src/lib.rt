@@ -79,7 +79,7 @@ pub struct Step {
 }
 
 // The house ratios, from the head of a table.
-fn ratios_at(t: &[u32]) -> [[u32; 3]; 2]
+pub fn ratios_at(t: &[u32]) -> [[u32; 3]; 2]
     requires { ⌜ size 0 ≤ length (now t) ⌝ }
     ensures { λ r. ⌜ ratiosOf r ≡ ratiosAt (was t) ⌝ }
 {

@@ -14,6 +14,7 @@ ghost use Rattle.door.specs.Verdict.{verdict};
 ghost use Rattle.door.specs.declared.Checked.the-variants.{Passed};
 ghost use Rattle.join.specs.Rows.{Holds};
 ghost use Rattle.layout.specs.Step.{countsOf, Standing, Stepped};
+ghost use Rattle.layout.specs.Element.{isM};
 ghost use Rattle.layout.specs.Walk.{Ready};
 use refusal::Refusal;
 
@@ -35,6 +36,19 @@ fn is_plain(k: usize, elements: usize, kind: &[u32], lkind: &[u32]) -> bool
         }
     }
     false
+}
+
+// An M: its way is the shortest, since it asks for neither ratio nor class.
+fn is_mono(p: door::Piece) -> bool
+    ensures { λ t. ⌜ t ≡ isM (p .form) ⌝ }
+{
+    let form = p.form;
+    match form {
+        word::Form::P => false,
+        word::Form::M => true,
+        word::Form::G => false,
+        word::Form::J => false,
+    }
 }
 
 // Element k, a word with ruby and without a left kind, behind what those before it have taken of all that there is: numbers 5, 6, and 7 to 10 as level one gives them, or its rows.
@@ -75,21 +89,12 @@ fn lay_word(
         return door::Step::Stop(Refusal::Supply(place));
     }
     two_readings::put_bare(t, p.base, p.base + p.bases, p.left, counts.lefts);
-    one_reading::lay_alone(
-        t,
-        place,
-        p,
-        em,
-        ratios,
-        class,
-        width,
-        before,
-        after,
-        flag,
-        rclass,
-        rwidth,
-        runs,
-    )
+    if is_mono(p) {
+        return one_reading::lay_mono(t, place, p, width, before, after, flag, rwidth);
+    }
+    let base = one_reading::base_at(p, em, class, width, before, after);
+    let ends = word_rows::ends_behind(p, flag);
+    one_reading::lay_based(t, place, p, em, base, ends, rclass, rwidth, runs)
 }
 
 // The same for an element with a left kind: numbers 5, 16, 6, and 7 to 10, or its rows. Words without one do not go this way, so that a job without left readings pays nothing for them.
@@ -141,24 +146,23 @@ fn lay_both(
     if door::runs_out(p, counts.bases, counts.rubies, counts.lefts) {
         return door::Step::Stop(Refusal::Supply(place));
     }
-    two_readings::lay_left(
-        t,
-        place,
-        p,
-        ratios,
-        em,
-        class,
-        width,
-        before,
-        after,
-        flag,
-        rclass,
-        rwidth,
-        runs,
-        lclass,
-        lwidth,
-        lruns,
-    )
+    let base = one_reading::base_at(p, em, class, width, before, after);
+    let right = two_readings::right_at(p, em, rclass, rwidth, runs);
+    let left = two_readings::left_at(p, em, lclass, lwidth, lruns);
+    let form = p.form;
+    let gloss = p.gloss;
+    let house = cells::ratios_at(t);
+    let answer = word::both_answer(form, gloss, place, house, em, base, right, left);
+    let word::Answer::Set(w) = answer else {
+        return word_rows::refused(place, answer);
+    };
+    let ends = word_rows::ends_behind(p, flag);
+    if two_readings::is_apart(p) {
+        two_readings::put_characters(t, p, ends, house, em, width, rwidth, runs, lwidth, lruns);
+        return door::Step::Next(p);
+    }
+    two_readings::put_whole(t, p, w, ends, em, rclass, rwidth, runs, lwidth, lruns);
+    door::Step::Next(p)
 }
 
 // The head of the table and the rows of a job's elements, or the first of their refusals; characters have passed numbers 3 and 4.

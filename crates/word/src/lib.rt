@@ -12,10 +12,11 @@ ghost use Rattle.basics.specs.Lists.{sum, any, other};
 ghost use Rattle.spread.specs.declared.Way.the-variants.{Solid};
 ghost use Rattle.spread.specs.Ratio.{Ratios, ratiosOf, Housed};
 ghost use Rattle.word.specs.Alone.{rubyWay, baseWay, split};
-ghost use Rattle.word.specs.Word.{plain, wordBy, groupWord, jukugoWord};
+ghost use Rattle.word.specs.Word.{plain};
 ghost use Rattle.word.specs.Numbers.{wordFrom, Measured};
-ghost use Rattle.word.specs.Answer.{answer};
-ghost use Rattle.word.specs.Sized.{Small};
+ghost use Rattle.word.specs.Given.{isJ};
+ghost use Rattle.word.specs.Sides.{strOf};
+ghost use Rattle.word.specs.Summed.{baseOf, strandOf, runStrandOf, monoBy, groupFrom, groupBy, jukugoJudged, singleFrom, singleBy};
 ghost use Rattle.class.specs.Class.{kanaLike};
 ghost use Rattle.word.specs.Kinds.{mixOf, mixedBy, scriptBy, notKanaBy, with};
 ghost use Rattle.word.specs.declared.Answer.the-variants.{Set};
@@ -23,8 +24,8 @@ ghost use Rattle.word.specs.Runs.{runsOf};
 
 mod sides;
 
+pub use sides::both_answer;
 pub use sides::groups_of;
-pub use sides::measure_left;
 pub use sides::monos_of;
 pub use sides::runs_reading;
 
@@ -77,6 +78,27 @@ pub struct Str {
     pub count: u32,
 }
 
+// What level one asks of a word's base: whether some blank field is not 0 (number 7), the kinds of its characters (8 to 10), of a J whether one is not one em wide (8), and its string.
+pub struct Base {
+    pub blank: bool,
+    pub mix: Mix,
+    pub uneven: bool,
+    pub string: Str,
+}
+
+// What it asks of a reading; `RunStrand`, where it may be laid by runs, also for the length of the first run and whether one is longer than one em.
+pub struct Strand {
+    pub mix: Mix,
+    pub string: Str,
+}
+
+pub struct RunStrand {
+    pub mix: Mix,
+    pub string: Str,
+    pub first: u32,
+    pub runs: Runs,
+}
+
 // An element set within itself, or its refusal with the element's place.
 pub enum Answer {
     Set(Word),
@@ -106,12 +128,6 @@ pub struct Mix {
 // The runs of a J: the length in units of the last, where none is longer than one em.
 pub enum Runs {
     Fit(u32),
-    Longer,
-}
-
-// The runs of one side of a J, each over its own character, where none is longer than one em.
-pub enum Fits {
-    Over(Reading),
     Longer,
 }
 
@@ -356,32 +372,23 @@ fn solid_of(b: u32, r: u32) -> Word
     }
 }
 
-// The word of two strings by their lists.
-fn word_by(
-    ruby: spread::Way,
-    base: spread::Way,
-    ratios: [[u32; 3]; 2],
-    em: u32,
-    bs: &[u32],
-    rs: &[u32],
-) -> Word
-    requires { ⌜ (Small (now bs) (now rs)) × (Housed (ratiosOf ratios)) ⌝ }
-    ensures { λ r. ⌜ r ≡ wordBy ruby base (ratiosOf ratios) em (was bs) (was rs) ⌝ }
+// The word of a G, by what its strings are made of.
+fn group_from(r: Script, b: Script, ratios: [[u32; 3]; 2], em: u32, base: Str, ruby: Str) -> Word
+    requires { ⌜ (Measured (base .width) (base .count) (ruby .width) (ruby .count)) × (Housed (ratiosOf ratios)) ⌝ }
+    ensures { λ w. ⌜ w ≡ groupFrom r b (ratiosOf ratios) em base ruby ⌝ }
 {
-    let b = basics::sum_of(bs);
-    let r = basics::sum_of(rs);
-    let n = bs.len() as u32;
-    let m = rs.len() as u32;
-    word_from(ruby, base, ratios, em, b, n, r, m)
-}
-
-fn group_of(r: Script, b: Script, ratios: [[u32; 3]; 2], em: u32, bs: &[u32], rs: &[u32]) -> Word
-    requires { ⌜ (Small (now bs) (now rs)) × (Housed (ratiosOf ratios)) ⌝ }
-    ensures { λ w. ⌜ w ≡ groupWord r b (ratiosOf ratios) em (was bs) (was rs) ⌝ }
-{
-    let ruby = ruby_way(r, b);
-    let base = base_way(r, b);
-    word_by(ruby, base, ratios, em, bs, rs)
+    let over = ruby_way(r, b);
+    let under = base_way(r, b);
+    word_from(
+        over,
+        under,
+        ratios,
+        em,
+        base.width,
+        base.count,
+        ruby.width,
+        ruby.count,
+    )
 }
 
 // A J's runs against one em.
@@ -416,35 +423,8 @@ fn first_run(runs: &[u32], ws: &[u32]) -> u32
     basics::sum_of(&ws[0..n])
 }
 
-fn jukugo_of(
-    r: Script,
-    ratios: [[u32; 3]; 2],
-    em: u32,
-    bs: &[u32],
-    runs: &[u32],
-    rs: &[u32],
-) -> Word
-    requires { ⌜ (Small (now bs) (now rs)) × (sum (now runs) ≤ length (now rs)) × (em ≤ sum (now bs)) × (Housed (ratiosOf ratios)) ⌝ }
-    ensures { λ w. ⌜ w ≡ jukugoWord r (ratiosOf ratios) em (was bs) (was runs) (was rs) ⌝ }
-{
-    let b = basics::sum_of(bs);
-    match runs_in(em, runs, rs) {
-        Runs::Longer => group_of(r, Script::Kana, ratios, em, bs, rs),
-        Runs::Fit(last) => {
-            let first = first_run(runs, rs);
-            Word {
-                front: 0,
-                len: 2 * b,
-                inbase: 0,
-                right: runs_reading(em, b, first, last),
-                left: NONE,
-            }
-        }
-    }
-}
-
 // Number 7 of an element with ruby.
-fn blank_inside(before: &[u32], after: &[u32]) -> bool
+pub fn blank_inside(before: &[u32], after: &[u32]) -> bool
     ensures { λ r. ⌜ r ≡ (any (other 0) (was before) || any (other 0) (was after)) ⌝ }
 {
     if basics::any_but(0, before) {
@@ -469,87 +449,161 @@ pub fn plain_answer(b: u32) -> Answer
     Answer::Set(plain_of(b))
 }
 
-// An M: number 7, or its word.
-pub fn mono_answer(
-    place: u32,
-    ratios: [[u32; 3]; 2],
-    em: u32,
-    bs: &[u32],
-    before: &[u32],
-    after: &[u32],
-    rs: &[u32],
-) -> Answer
-    requires { ⌜ (Small (now bs) (now rs)) × (Housed (ratiosOf ratios)) ⌝ }
-    ensures { λ a. ⌜ a ≡ answer Form.M place (record { em = em; ratios = ratiosOf ratios; class = []; width = was bs; before = was before; after = was after; rubyClass = []; rubyWidth = was rs; run = [] }) ⌝ }
+// A string by its list.
+fn str_of(ws: &[u32]) -> Str
+    requires { ⌜ (length (now ws) ≤ 64) × (sum (now ws) < 2 ^ 32) ⌝ }
+    ensures { λ s. ⌜ s ≡ strOf (was ws) ⌝ }
 {
-    if blank_inside(before, after) {
+    Str {
+        width: basics::sum_of(ws),
+        count: ws.len() as u32,
+    }
+}
+
+// Whether a base character is not one em wide; only a J is asked.
+fn is_uneven(form: Form, em: u32, bs: &[u32]) -> bool
+    ensures { λ r. ⌜ r ≡ (isJ form && any (other em) (was bs)) ⌝ }
+{
+    match form {
+        Form::P => false,
+        Form::M => false,
+        Form::G => false,
+        Form::J => basics::any_but(em, bs),
+    }
+}
+
+// A word's base, as level one asks for it.
+pub fn base_of(form: Form, em: u32, bc: &[u32], bs: &[u32], before: &[u32], after: &[u32]) -> Base
+    requires { ⌜ (length (now bs) ≤ 64) × (sum (now bs) < 2 ^ 32) ⌝ }
+    ensures { λ b. ⌜ b ≡ baseOf form em (was bc) (was bs) (was before) (was after) ⌝ }
+{
+    let blank = blank_inside(before, after);
+    let mix = mix_of(bc);
+    let uneven = is_uneven(form, em, bs);
+    let string = str_of(bs);
+    Base {
+        blank,
+        mix,
+        uneven,
+        string,
+    }
+}
+
+// A reading, as level one asks for it; and one that may be laid by runs.
+pub fn strand_of(cs: &[u32], ws: &[u32]) -> Strand
+    requires { ⌜ (length (now ws) ≤ 64) × (sum (now ws) < 2 ^ 32) ⌝ }
+    ensures { λ r. ⌜ r ≡ strandOf (was cs) (was ws) ⌝ }
+{
+    let mix = mix_of(cs);
+    let string = str_of(ws);
+    Strand { mix, string }
+}
+
+pub fn run_strand_of(em: u32, cs: &[u32], ws: &[u32], runs: &[u32]) -> RunStrand
+    requires { ⌜ (length (now ws) ≤ 64) × (sum (now ws) < 2 ^ 32) × (sum (now runs) ≤ length (now ws)) ⌝ }
+    ensures { λ r. ⌜ r ≡ runStrandOf em (was cs) (was ws) (was runs) ⌝ }
+{
+    let mix = mix_of(cs);
+    let string = str_of(ws);
+    let first = first_run(runs, ws);
+    let fit = runs_in(em, runs, ws);
+    RunStrand {
+        mix,
+        string,
+        first,
+        runs: fit,
+    }
+}
+
+// An M of b and r units: number 7, or its word.
+pub fn mono_answer(place: u32, blank: bool, b: u32, r: u32) -> Answer
+    requires { ⌜ (b ≤ 131072) × (r ≤ 262144) ⌝ }
+    ensures { λ a. ⌜ a ≡ monoBy place blank b r ⌝ }
+{
+    if blank {
         return Answer::Refused(refusal::Refusal::BlankInside(place));
     }
-    let b = basics::sum_of(bs);
-    let r = basics::sum_of(rs);
     Answer::Set(solid_of(b, r))
 }
 
 // A G: numbers 7, 9 and 10, or its word.
-pub fn group_answer(
-    place: u32,
-    ratios: [[u32; 3]; 2],
-    em: u32,
-    bc: &[u32],
-    bs: &[u32],
-    before: &[u32],
-    after: &[u32],
-    rc: &[u32],
-    rs: &[u32],
-) -> Answer
-    requires { ⌜ (Small (now bs) (now rs)) × (Housed (ratiosOf ratios)) ⌝ }
-    ensures { λ a. ⌜ a ≡ answer Form.G place (record { em = em; ratios = ratiosOf ratios; class = was bc; width = was bs; before = was before; after = was after; rubyClass = was rc; rubyWidth = was rs; run = [] }) ⌝ }
+pub fn group_answer(place: u32, ratios: [[u32; 3]; 2], em: u32, base: Base, ruby: Strand) -> Answer
+    requires { ⌜ (Measured (base .string .width) (base .string .count) (ruby .string .width) (ruby .string .count)) × (Housed (ratiosOf ratios)) ⌝ }
+    ensures { λ a. ⌜ a ≡ groupBy place (ratiosOf ratios) em base ruby ⌝ }
 {
-    if blank_inside(before, after) {
+    let blank = base.blank;
+    if blank {
         return Answer::Refused(refusal::Refusal::BlankInside(place));
     }
-    let b = mix_of(bc);
+    let b = base.mix;
     if is_mixed(b) {
         return Answer::Refused(refusal::Refusal::Mixed(place));
     }
-    let r = mix_of(rc);
+    let r = ruby.mix;
     if is_mixed(r) {
         return Answer::Refused(refusal::Refusal::Mixed(place));
     }
     if western_over(r, b) {
         return Answer::Refused(refusal::Refusal::WesternOver(place));
     }
-    Answer::Set(group_of(script_of(r), script_of(b), ratios, em, bs, rs))
+    let under = base.string;
+    let over = ruby.string;
+    Answer::Set(group_from(script_of(r), script_of(b), ratios, em, under, over))
 }
 
-// A J: numbers 7, 8 and 9, or its word. Once 8 has passed its base is kana-like throughout, so 9 is about its ruby alone.
-pub fn jukugo_answer(
-    place: u32,
-    ratios: [[u32; 3]; 2],
-    em: u32,
-    bc: &[u32],
-    bs: &[u32],
-    before: &[u32],
-    after: &[u32],
-    rc: &[u32],
-    rs: &[u32],
-    runs: &[u32],
-) -> Answer
-    requires { ⌜ (Small (now bs) (now rs)) × (sum (now runs) ≤ length (now rs)) × (Housed (ratiosOf ratios)) ⌝ }
-    ensures { λ a. ⌜ a ≡ answer Form.J place (record { em = em; ratios = ratiosOf ratios; class = was bc; width = was bs; before = was before; after = was after; rubyClass = was rc; rubyWidth = was rs; run = was runs }) ⌝ }
+// Numbers 7, 8 and 9 of a J. Once 8 has passed its base is kana-like throughout, so 9 is about its ruby alone. A J of two characters or more is asked no more than this: it is measured
+// by its runs, where they are written.
+pub fn judge_jukugo(place: u32, base: Base, ruby: Mix) -> Row
+    ensures { λ r. ⌜ r ≡ jukugoJudged place base ruby ⌝ }
 {
-    if blank_inside(before, after) {
-        return Answer::Refused(refusal::Refusal::BlankInside(place));
+    let blank = base.blank;
+    if blank {
+        return Row::Holds(refusal::Refusal::BlankInside(place));
     }
-    if not_kana(mix_of(bc)) {
-        return Answer::Refused(refusal::Refusal::JukugoBase(place));
+    let b = base.mix;
+    if not_kana(b) {
+        return Row::Holds(refusal::Refusal::JukugoBase(place));
     }
-    if basics::any_but(em, bs) {
-        return Answer::Refused(refusal::Refusal::JukugoBase(place));
+    let uneven = base.uneven;
+    if uneven {
+        return Row::Holds(refusal::Refusal::JukugoBase(place));
     }
-    let r = mix_of(rc);
-    if is_mixed(r) {
-        return Answer::Refused(refusal::Refusal::Mixed(place));
+    if is_mixed(ruby) {
+        return Row::Holds(refusal::Refusal::Mixed(place));
     }
-    Answer::Set(jukugo_of(script_of(r), ratios, em, bs, runs, rs))
+    Row::None
+}
+
+// The word of a J of one character, whose only run is all of its ruby.
+fn single_from(r: Script, ratios: [[u32; 3]; 2], em: u32, base: Str, ruby: Str) -> Word
+    requires { ⌜ (Measured (base .width) (base .count) (ruby .width) (ruby .count)) × (Housed (ratiosOf ratios)) × (em ≤ base .width) ⌝ }
+    ensures { λ w. ⌜ w ≡ singleFrom r (ratiosOf ratios) em base ruby ⌝ }
+{
+    if em < ruby.width {
+        return group_from(r, Script::Kana, ratios, em, base, ruby);
+    }
+    let right = runs_reading(em, base.width, ruby.width, ruby.width);
+    Word {
+        front: 0,
+        len: 2 * base.width,
+        inbase: 0,
+        right,
+        left: NONE,
+    }
+}
+
+// A J of one character: numbers 7, 8 and 9, or its word.
+pub fn single_answer(place: u32, ratios: [[u32; 3]; 2], em: u32, base: Base, ruby: Strand) -> Answer
+    requires { ⌜ (Measured (base .string .width) (base .string .count) (ruby .string .width) (ruby .string .count)) × (Housed (ratiosOf ratios)) × (base .uneven ≡ false → em ≤ base .string .width) ⌝ }
+    ensures { λ a. ⌜ a ≡ singleBy place (ratiosOf ratios) em base ruby ⌝ }
+{
+    let r = ruby.mix;
+    match judge_jukugo(place, base, r) {
+        Row::Holds(why) => Answer::Refused(why),
+        Row::None => {
+            let under = base.string;
+            let over = ruby.string;
+            Answer::Set(single_from(script_of(r), ratios, em, under, over))
+        }
+    }
 }

@@ -5,16 +5,20 @@ use Prim.Native.Nat.{_+_}
 use lib.ListN.{getD}
 use borrow.Author.Needs.{needs}
 use native.Mathlib.Omega.{arith}
+use Rattle.word.specs.declared.Form.the-variants.{M}
 use Rattle.word.specs.Both.{takes}
+use Rattle.word.specs.Answer.{answer}
 use Rattle.door.specs.declared.Piece.{Piece}
 use Rattle.door.specs.declared.Counted.the-variants.{Is}
-use Rattle.door.specs.Job.{Job, jobOf}
+use Rattle.door.specs.Job.{Job, jobOf, given}
 use Rattle.door.specs.Elements.{right-only}
 use Rattle.door.specs.Refusals.{runOut}
 use Rattle.door.specs.Walk as walk
+use Rattle.one_reading.specs.Lay.{basedRow, FilledBy}
 use Rattle.two_readings.specs.Written.{BareReady}
 use Rattle.layout.specs.Step.{Standing, few, there, few-runs, out-is}
 use Rattle.layout.specs.Element as one
+use Rattle.layout.specs.Element.{is-m}
 use Rattle.layout.proofs.lay_word.Statement.{statement}
 use Rattle.layout.proofs.lay_word.Tie as tie
 
@@ -126,23 +130,84 @@ put-bare-requires c κs =
     subst (λ n. BareReady (p .left) (p .base) (p .base + p .bases) n (x .t .now)) (sym (ap (λ n. n .lefts) (a .pre .0)))
     (one.bare-ready (standing a) (is k) (takes-it k) (supplied e) (none k))
 
-lay-alone-requires : tie.Need-lay-alone-requires
-lay-alone-requires c κs =
-    let b = c .before .before .before in
-    let e = b .before .before .before in
-    let k = e .before .before in
-    one.alone-ready (standing (entry k)) (is k) (takes-it k) (supplied e) (none k) (b .put-bare .last .0) (b .put-bare .ensures)
+-- past the left rows
+abbrev supply : tie.After-put-bare → tie.Else1
+supply b = b .before .before .before
+
+abbrev told : tie.After-put-bare → tie.After-known-told
+told b = supply b .before .before
+
+is-mono-requires : tie.Need-is-mono-requires
+is-mono-requires c κs = tt
+
+-- an M
+abbrev bared : tie.After-is-mono → tie.After-put-bare
+bared c = c .before .before .before
+
+mono : (t : tie.Then2) → let p = piece (told (bared (t .before))) in p .form ≡ M
+mono t = is-m _ (sym (t .before .is-mono .ensures) ∙ t .if2 .taken)
+
+lay-mono-requires : tie.Need-lay-mono-requires
+lay-mono-requires c κs =
+    let t = c .before in
+    let b = bared (t .before) in
+    let k = told b in
+    one.mono-ready (standing (entry k)) (is k) (takes-it k) (supplied (supply b)) (none k) (b .put-bare .last .0) (b .put-bare .ensures) (mono t)
 
 same-length : tie.Need-same-length
-same-length c = let m = c .before .before in m .lay-alone .ensures .long ∙ m .before .before .before .before .put-bare .ensures .long
+same-length c =
+    let m = c .before .before in
+    m .lay-mono .ensures .long ∙ bared (m .before .before .before) .put-bare .ensures .long
 
 returns-3 : tie.Need-returns-3
 returns-3 c =
     let m = c .before .before in
-    let b = m .before .before .before .before in
-    let e = b .before .before .before in
-    let k = e .before .before in
-    one.alone-judged (standing (entry k)) (is k) (takes-it k) (supplied e) (none k) (b .put-bare .ensures) (m .lay-alone .ensures)
+    let t = m .before .before in
+    let b = bared (t .before) in
+    let k = told b in
+    one.mono-judged (standing (entry k)) (is k) (takes-it k) (supplied (supply b)) (none k) (b .put-bare .ensures) (mono t) (m .lay-mono .ensures)
+
+-- any other word
+base-at-requires : tie.Need-base-at-requires
+base-at-requires c κs =
+    let b = bared (c .before) in
+    let k = told b in
+    one.base-ready (standing (entry k)) (is k) (takes-it k) (supplied (supply b))
+
+ends-behind-requires : tie.Need-ends-behind-requires
+ends-behind-requires c κs =
+    let b = bared (c .before .before) in
+    let k = told b in
+    one.ends-ready (standing (entry k)) (is k) (takes-it k) (supplied (supply b))
+
+lay-based-requires : tie.Need-lay-based-requires
+lay-based-requires c κs =
+    let base = c .before .before in
+    let e = base .before in
+    let b = bared (e .before) in
+    let k = told b in
+    let r = one.based-ready (standing (entry k)) (is k) (takes-it k) (supplied (supply b)) (none k) (b .put-bare .last .0) (b .put-bare .ensures) (base .base-at .ensures) in
+    (one.based (standing (entry k)) (is k) (takes-it k) (supplied (supply b)) (none k) (sym (e .before .is-mono .ensures) ∙ e .if2 .left), r .0, r .1)
+
+same-length-2 : tie.Need-same-length-2
+same-length-2 c =
+    let m = c .before .before in
+    m .lay-based .ensures .0 ∙ bared (m .before .before .before .before .before) .put-bare .ensures .long
+
+returns-4 : tie.Need-returns-4
+returns-4 c =
+    let m = c .before .before in
+    let ends = m .before .before in
+    let base = ends .before in
+    let b = bared (base .before .before) in
+    let k = told b in
+    let a = entry k in
+    let p = piece k in
+    one.alone-judged (standing a) (is k) (takes-it k) (supplied (supply b)) (none k) (b .put-bare .ensures)
+    (subst (λ z. FilledBy (answer (p .form) (a .args .k) (given (job a) p)) (λ w. basedRow (job a) p w z) p (b .put-bare .last .0) (m .lay-based .last .0) (m .lay-based .result))
+    (ends .ends-behind .ensures)
+    (m .lay-based .ensures .1 (given (job a) p)
+    (one.gives (standing a) (is k) (takes-it k) (supplied (supply b)) (none k) (b .put-bare .last .0) (b .put-bare .ensures) (base .base-at .ensures))))
 
 pub lay-word-spec : {M : Type 1} → statement M
 lay-word-spec =
@@ -163,6 +228,12 @@ lay-word-spec =
     returns-2
     add-put-bare
     put-bare-requires
-    lay-alone-requires
+    is-mono-requires
+    lay-mono-requires
     same-length
-    returns-3)
+    returns-3
+    base-at-requires
+    ends-behind-requires
+    lay-based-requires
+    same-length-2
+    returns-4)
