@@ -84,3 +84,7 @@ unfoldable pub depthsBy : ℕ → Bool → (c width before after em : ℕ) → D
 unfolding depthsOn
 depthsBy profile first c width before after em =
     cond (eqb profile 1 && kana c) (record { before = onKana width em; after = onKana width em }) (depthsOn first c width before after em)
+
+-- whether ruby may lie on a P character of this class at all
+abbrev pub mayLie : ℕ → ℕ → Bool
+mayLie profile c = (eqb profile 1 && kana c) || (blankBefore c || (blankAfter c || blankWhole c))

@@ -12,7 +12,7 @@ use lib.ListN.{getD}
 use Rattle.class.specs.declared.Kind.{Kind}
 use Rattle.class.specs.declared.Kind.the-variants.{KanaLike, Western, Space, Outside}
 use Rattle.class.specs.declared.Depths.{Depths}
-use Rattle.class.specs.Class.{accepted, western, kanaLike, kindOf, blankBefore, blankAfter, blankWhole, deepest, depthBefore, depthAfter, opening, depthsOn, kana, onKana, depthsBy}
+use Rattle.class.specs.Class.{accepted, western, kanaLike, kindOf, blankBefore, blankAfter, blankWhole, deepest, depthBefore, depthAfter, opening, depthsOn, kana, onKana, mayLie, depthsBy}
 
 -- f at i, i + 1, .., n of them
 abbrev pub tabled {ℓ} : {A : Type ℓ} → (ℕ → A) → ℕ → ℕ → List A
@@ -188,3 +188,13 @@ pub on-sides : (first : Bool) (c width before after em : ℕ) → blankWhole c �
 unfolding depthsOn depthBefore depthAfter
 on-sides true c width before after em e = rw e
 on-sides false c width before after em e = rw e
+
+-- where no ruby may lie both depths are 0, whatever the blanks are
+pub no-depths : (profile : ℕ) (first : Bool) (c w b a em : ℕ) → mayLie profile c ≡ false → record { before = 0; after = 0 } ≡ depthsBy profile first c w b a em
+unfolding depthsBy
+no-depths profile first c w b a em e = go (eqb profile 1 && kana c) (blankBefore c || (blankAfter c || blankWhole c)) refl e
+  where
+    go : (k d : Bool) → (blankBefore c || (blankAfter c || blankWhole c)) ≡ d → (k || d) ≡ false →
+        record { before = 0; after = 0 } ≡ cond k (record { before = onKana w em; after = onKana w em }) (depthsOn first c w b a em)
+    go true d f e = absurd (true≢false e)
+    go false d f e = on-none first c w b a em (f ∙ e)

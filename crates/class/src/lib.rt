@@ -6,7 +6,7 @@
 ghost use mathlib.Core.Path.{_≡_};
 ghost use mathlib.Core.Bool.{cond, _&&_};
 ghost use Prim.Native.Nat.{_*_, min};
-ghost use Rattle.class.specs.Class.{accepted, western, kanaLike, blankBefore, blankAfter, blankWhole, kindOf, deepest, depthsOn, kana, depthsBy};
+ghost use Rattle.class.specs.Class.{accepted, western, kanaLike, blankBefore, blankAfter, blankWhole, kindOf, deepest, depthsOn, kana, mayLie, depthsBy};
 ghost use Rattle.class.specs.Entry.{entryOf, liesBefore, liesAfter, isWhole};
 ghost use lib.Dec.{eqb};
 ghost use Rattle.class.specs.Laws.{tabled, isKana, isWestern};
@@ -419,6 +419,16 @@ fn lies_on_kana(profile: u32, class: u32) -> bool
         return class == KATAKANA;
     }
     false
+}
+
+// Whether ruby may lie on a P character at all: where it may not, nobody need read its blanks.
+pub fn takes_ruby(profile: u32, class: u32) -> bool
+    ensures { λ r. ⌜ r ≡ mayLie profile class ⌝ }
+{
+    if lies_on_kana(profile, class) {
+        return true;
+    }
+    is_deep(class)
 }
 
 // How deep ruby may lie on a P character by the job's profile.

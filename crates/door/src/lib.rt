@@ -459,7 +459,7 @@ fn piece_of(form: word::Form, bases: usize, rubies: usize, at: Taken) -> Piece
 }
 
 // Number 5 of an M, a G and a J.
-fn count_mono(ruby: u32, at: Taken) -> Counted
+pub fn count_mono(ruby: u32, at: Taken) -> Counted
     ensures { λ c. ⌜ c ≡ rightAs form.M 1 ruby [] at ⌝ }
 {
     if is_outside(1, limits::ELEMENT_RUBIES, ruby) {

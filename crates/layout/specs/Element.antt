@@ -47,11 +47,12 @@ use Rattle.door.specs.Passed.{Few, FewLeft, supplied}
 use Rattle.door.specs.Walk as walk
 use Rattle.job.specs.Line.{part, wordsIn, cuts, wordOf, onP}
 use Rattle.join.specs.Rows.{isCut, none, rowBy, leftRowBy, endsBehind, rowOf, HasRows}
+use Rattle.word_rows.specs.Base.{BaseReady, basesOnly}
 use Rattle.word_rows.specs.Table.{Filled}
 use Rattle.word_rows.specs.Runs.{bothOnly, wordsOnly, runsOnly, Runs, HasRuns, jukugoRow}
 use Rattle.word_rows.specs.Word.{wordRow, word-row, jukugo-row, flagged, WordReady, Judged, judged-as}
-use Rattle.one_reading.specs.Lay.{BaseReady, RubyReady, BasedReady, RunsReady, Gives, isBased, basedRow, FilledBy, mono-any}
-use Rattle.one_reading.specs.Seen.{monoOnly, basesOnly}
+use Rattle.one_reading.specs.Lay.{RubyReady, BasedReady, RunsReady, Gives, isBased, basedRow, FilledBy, mono-any}
+use Rattle.one_reading.specs.Seen.{monoOnly}
 use Rattle.two_readings.specs.Written.{from-none, clear-upto, LeftRoom, Written, bareRow, BareReady, Bared, over-bared}
 use Rattle.two_readings.specs.Left.{leftsOnly, runs-all, ownRow, characterRow, bothRow, BothReady, WrittenBy}
 use Rattle.layout.specs.Step.{Standing, Laid, Stepped}
@@ -154,23 +155,22 @@ usual-housed = record { ruby = sound; base = sound }
     sound : Sound oneTwoOne
     sound = record { front = omega arith; middle = omega arith; rear = omega arith; some = omega arith }
 
-abbrev pub isM : Form → Bool
-isM P = false
-isM M = true
-isM G = false
-isM J = false
-
-pub is-m : (form : Form) → isM form ≡ true → form ≡ M
-is-m P e = absurd (false≢true e)
-is-m M e = refl
-is-m G e = absurd (false≢true e)
-is-m J e = absurd (false≢true e)
-
-no-mono : (form : Form) → isM form ≡ false → hasRuby form ≡ true → isBased form ≡ true
+-- what is no P and no M is a G or a J
+no-mono : (form : Form) → (form ≡ M → ⊥) → hasRuby form ≡ true → isBased form ≡ true
 no-mono P e r = absurd (false≢true r)
-no-mono M e r = absurd (true≢false e)
+no-mono M e r = absurd (e refl)
 no-mono G e r = refl
 no-mono J e r = refl
+
+-- an M by its letter
+mono-letter : (n : ℕ) → formOf n ≡ M → n ≡ 77
+mono-letter n = go (eqb n 77) (eqb n 71) (eqb n 74) refl
+  where
+    go : (m g j : Bool) → eqb n 77 ≡ m → cond m M (cond g G (cond j J P)) ≡ M → n ≡ 77
+    go true g j e h = eqb-true n 77 e
+    go false true j e h = absurd (let z : _≡_ {A = ℕ} 0 1 = cc in omega arith)
+    go false false true e h = absurd (let z : _≡_ {A = ℕ} 0 1 = cc in omega arith)
+    go false false false e h = absurd (let z : _≡_ {A = ℕ} 0 1 = cc in omega arith)
 
 -- An element's rows are its words'.
 
@@ -233,6 +233,10 @@ module _ {job : Job} {k : ℕ} {at : Taken} {was : List ℕ} (h : Standing job k
     kinds =
         let q = or-none _ _ five in
         (not-false (known (getD (job .kind) k 0)) (or-none _ _ (q .0) .0), not-false (knownLeft (getD (job .leftKind) k 0)) (or-none _ _ (q .1) .0))
+
+    pub mono-form : getD (job .kind) k 0 ≡ 77 → p .form ≡ M
+    unfolding element
+    mono-form e = ap (λ z. z .form) same ∙ rw e
 
     -- an element without a left kind takes it, and has no left characters
     module _ (bare : getD (job .leftKind) k 0 ≡ 78) where
@@ -516,8 +520,9 @@ module _ {job : Job} {k : ℕ} {at : Taken} {was : List ℕ} (h : Standing job k
               (gives-x (e ∙ ap (λ z. givenBase (z .form) (given job z)) same) mid (q .head))
 
           -- a word that is no M is a G or a J
-          pub based : isM (p .form) ≡ false → isBased (p .form) ≡ true
-          based e = no-mono (p .form) e (ap (λ z. hasRuby (z .form)) same ∙ ruby)
+          pub based : (getD (job .kind) k 0 ≡ 77 → ⊥) → isBased (p .form) ≡ true
+          unfolding element
+          based e = no-mono (p .form) (λ m. e (mono-letter (getD (job .kind) k 0) (sym (ap (λ z. z .form) same) ∙ m))) (ap (λ z. hasRuby (z .form)) same ∙ ruby)
 
           pub alone-judged : {mid t : List ℕ} {s : Step} → Bare p mid →
               FilledBy (answer (p .form) k (given (wordsOf job) p)) (λ w. basedRow (wordsOf job) p w (flagged (wordsOf job) p)) p mid t s → Stepped job k at was t s

@@ -14,7 +14,6 @@ ghost use Rattle.door.specs.Verdict.{verdict};
 ghost use Rattle.door.specs.declared.Checked.the-variants.{Passed};
 ghost use Rattle.join.specs.Rows.{Holds};
 ghost use Rattle.layout.specs.Step.{countsOf, Standing, Stepped};
-ghost use Rattle.layout.specs.Element.{isM};
 ghost use Rattle.layout.specs.Walk.{Ready};
 use refusal::Refusal;
 
@@ -36,19 +35,6 @@ fn is_plain(k: usize, elements: usize, kind: &[u32], lkind: &[u32]) -> bool
         }
     }
     false
-}
-
-// An M: its way is the shortest, since it asks for neither ratio nor class.
-fn is_mono(p: door::Piece) -> bool
-    ensures { λ t. ⌜ t ≡ isM (p .form) ⌝ }
-{
-    let form = p.form;
-    match form {
-        word::Form::P => false,
-        word::Form::M => true,
-        word::Form::G => false,
-        word::Form::J => false,
-    }
 }
 
 // Element k, a word with ruby and without a left kind, behind what those before it have taken of all that there is: numbers 5, 6, and 7 to 10 as level one gives them, or its rows.
@@ -81,6 +67,18 @@ fn lay_word(
     ensures { λ s. let job = jobWas em 0 ratios profile class width before after flag rclass rwidth lclass lwidth kind ebase eruby lkind eleft runs lruns in ⌜ Stepped job k at (was t) (now (t .exit)) s ⌝ }
 {
     let place = k as u32;
+    if kind[k] == limits::MONO {
+        // An M is counted by itself: most words are, and no other form asks for so little.
+        let mono = door::count_mono(eruby[k], at);
+        let door::Counted::Is(p) = mono else {
+            return door::Step::Stop(Refusal::Element(place));
+        };
+        if door::runs_out(p, counts.bases, counts.rubies, counts.lefts) {
+            return door::Step::Stop(Refusal::Supply(place));
+        }
+        two_readings::put_bare(t, p.base, p.base + p.bases, p.left, counts.lefts);
+        return one_reading::lay_mono(t, place, p, width, before, after, flag, rwidth);
+    }
     let counted = door::count_right(kind[k], ebase[k], eruby[k], at, runs);
     let door::Counted::Is(p) = counted else {
         return door::Step::Stop(Refusal::Element(place));
@@ -89,9 +87,6 @@ fn lay_word(
         return door::Step::Stop(Refusal::Supply(place));
     }
     two_readings::put_bare(t, p.base, p.base + p.bases, p.left, counts.lefts);
-    if is_mono(p) {
-        return one_reading::lay_mono(t, place, p, width, before, after, flag, rwidth);
-    }
     let base = one_reading::base_at(p, em, class, width, before, after);
     let ends = word_rows::ends_behind(p, flag);
     one_reading::lay_based(t, place, p, em, base, ends, rclass, rwidth, runs)
@@ -146,7 +141,7 @@ fn lay_both(
     if door::runs_out(p, counts.bases, counts.rubies, counts.lefts) {
         return door::Step::Stop(Refusal::Supply(place));
     }
-    let base = one_reading::base_at(p, em, class, width, before, after);
+    let base = two_readings::base_beside(p, em, class, width, before, after);
     let right = two_readings::right_at(p, em, rclass, rwidth, runs);
     let left = two_readings::left_at(p, em, lclass, lwidth, lruns);
     let form = p.form;

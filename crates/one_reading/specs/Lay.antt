@@ -23,7 +23,7 @@ use Rattle.word.specs.Word.{plain, wordOf}
 use Rattle.word.specs.Kinds.{mixOf}
 use Rattle.word.specs.Numbers.{Measured}
 use Rattle.word.specs.Answer.{answer}
-use Rattle.word.specs.Summed.{baseOf, strandOf, givenBase, monoBy, mono-by, groupBy, group-by, jukugoJudged, answeredBy, jukugo-judged, singleBy, single-by}
+use Rattle.word.specs.Summed.{strandOf, givenBase, monoBy, mono-by, groupBy, group-by, jukugoJudged, answeredBy, jukugo-judged, singleBy, single-by}
 use Rattle.cells.specs.declared.Cell.{Cell}
 use Rattle.cells.specs.Cells.{size, ratiosAt}
 use Rattle.door.specs.declared.Piece.{Piece}
@@ -65,33 +65,6 @@ module _ (k : ℕ) (job : Job) (x : Piece) {t : List ℕ} (h : WordReady job x t
 -- and whatever the ratios, em, classes and runs are
 pub mono-any : (k : ℕ) (v w : Given) → v .width ≡ w .width → v .before ≡ w .before → v .after ≡ w .after → v .rubyWidth ≡ w .rubyWidth → answer M k v ≡ answer M k w
 mono-any k v w a b c d = mono-by k v ∙ rw (a, b, c, d) (sym (mono-by k w))
-
--- A base within its lists.
-pub record BaseReady (job : Job) (x : Piece) : Type 0 where
-  pub few : x .base + x .bases ≤ 1024
-  pub short : x .bases ≤ 32
-  pub class : x .base + x .bases ≤ length (job .class)
-  pub width : x .base + x .bases ≤ length (job .width)
-  pub before : x .base + x .bases ≤ length (job .before)
-  pub after : x .base + x .bases ≤ length (job .after)
-  pub narrow : sum (given job x .width) ≤ 131072
-
-module _ (job : Job) (x : Piece) (h : BaseReady job x) where
-  pub base-lent :
-      baseOf (x .form) (job .em) (take (x .base + x .bases - x .base) (drop (x .base) (job .class))) (take (x .base + x .bases - x .base) (drop (x .base) (job .width)))
-      (take (x .base + x .bases - x .base) (drop (x .base) (job .before))) (take (x .base + x .bases - x .base) (drop (x .base) (job .after)))
-      ≡ givenBase (x .form) (given job x)
-  base-lent =
-      rw (
-        part-of (job .class) (x .base) (x .bases) (h .class),
-        part-of (job .width) (x .base) (x .bases) (h .width),
-        part-of (job .before) (x .base) (x .bases) (h .before),
-        part-of (job .after) (x .base) (x .bases) (h .after),
-      )
-
-  pub base-small : let ws = take (x .base + x .bases - x .base) (drop (x .base) (job .width)) in (length ws ≤ 64) × (sum ws ≤ 131072)
-  base-small =
-      rw (part-of (job .width) (x .base) (x .bases) (h .width)) (omega (arith, length-entries (job .width) (x .base) (x .bases), h .short), h .narrow)
 
 -- The ruby of a word within its lists.
 pub record RubyReady (x : Piece) (rubyClass rubyWidth : List ℕ) : Type 0 where

@@ -16,13 +16,3 @@ monoNow width before after flag rwidth = monoOnly (now width) (now before) (now 
 
 abbrev pub monoWas : Seen → Seen → Seen → Seen → Seen → Job
 monoWas width before after flag rwidth = monoOnly (was width) (was before) (was after) (was flag) (was rwidth)
-
--- and of a base these
-abbrev pub basesOnly : ℕ → List ℕ → List ℕ → List ℕ → List ℕ → Job
-basesOnly em class width before after = wordsOnly usual em class width before after [] [] [] []
-
-abbrev pub basesNow : ℕ → Ref → Ref → Ref → Ref → Job
-basesNow em class width before after = basesOnly em (now class) (now width) (now before) (now after)
-
-abbrev pub basesWas : ℕ → Seen → Seen → Seen → Seen → Job
-basesWas em class width before after = basesOnly em (was class) (was width) (was before) (was after)

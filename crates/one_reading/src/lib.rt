@@ -4,7 +4,9 @@ ghost use mathlib.Core.Path.{_≡_};
 ghost use mathlib.Core.Bool.{true};
 ghost use mathlib.Core.List.{[]};
 ghost use Prim.Native.Nat.{_<_};
-ghost use lib.ListN.{length};
+ghost use lib.Dec.{eqb};
+ghost use lib.ListN.{length, getD};
+ghost use Rattle.class.specs.Class.{depthsBy};
 ghost use Rattle.basics.specs.Seen.{was};
 ghost use Rattle.word.specs.declared.Form.the-variants as Form;
 ghost use Rattle.word.specs.Given.{Given, isJ};
@@ -12,12 +14,13 @@ ghost use Rattle.word.specs.Answer.{answer};
 ghost use Rattle.word.specs.Summed.{givenBase};
 ghost use Rattle.door.specs.Job.{given};
 ghost use Rattle.cells.specs.Put.{Puts};
+ghost use Rattle.word_rows.specs.Base.{BaseReady, basesNow, basesWas};
 ghost use Rattle.word_rows.specs.Runs.{HasRuns, jukugoRow};
 ghost use Rattle.word_rows.specs.Word.{wordRow, WordReady, flagged};
 ghost use Rattle.word_rows.specs.Seen.{runsNow, runsWas};
 ghost use Rattle.one_reading.specs.Single.{singleRow};
-ghost use Rattle.one_reading.specs.Lay.{BaseReady, RubyReady, rubyOf, BasedReady, RunsReady, Gives, isBased, basedRow, PlainReady, plainRow, FilledBy};
-ghost use Rattle.one_reading.specs.Seen.{monoNow, monoWas, basesNow, basesWas};
+ghost use Rattle.one_reading.specs.Lay.{RubyReady, rubyOf, BasedReady, RunsReady, Gives, isBased, basedRow, PlainReady, plainRow, FilledBy};
+ghost use Rattle.one_reading.specs.Seen.{monoNow, monoWas};
 use refusal::Refusal;
 
 // The row of a J of one character, which no line cuts.
@@ -62,6 +65,28 @@ fn put_single(
     );
 }
 
+// How deep ruby may lie on base character b, a P. Of most nothing is read but the class.
+fn depths_at(
+    b: usize,
+    em: u32,
+    profile: u32,
+    class: &[u32],
+    width: &[u32],
+    before: &[u32],
+    after: &[u32],
+) -> class::Depths
+    requires { ⌜ (b < 4096) × (b < length (now class)) × (b < length (now width)) × (b < length (now before)) × (b < length (now after)) ⌝ }
+    ensures { λ d. ⌜ d ≡ depthsBy profile (eqb b 0) (getD (was class) b 0) (getD (was width) b 0) (getD (was before) b 0) (getD (was after) b 0) em ⌝ }
+{
+    if class::takes_ruby(profile, class[b]) {
+        return class::depths_by(profile, b == 0, class[b], width[b], before[b], after[b], em);
+    }
+    class::Depths {
+        before: 0,
+        after: 0,
+    }
+}
+
 // The row of a P, base character b, before which r ruby characters were taken.
 pub fn put_plain(
     t: &mut [u32],
@@ -82,7 +107,7 @@ pub fn put_plain(
     let word::Answer::Set(w) = answer else {
         return; // unreachable: level one has no row for a P
     };
-    let d = class::depths_by(profile, b == 0, class[b], width[b], before[b], after[b], em);
+    let d = depths_at(b, em, profile, class, width, before, after);
     cells::put_cell(
         t,
         b,

@@ -11,8 +11,10 @@ ghost use Rattle.spread.specs.Ratio.{ratiosOf, Housed};
 ghost use Rattle.word.specs.Both.{apart};
 ghost use Rattle.word.specs.Sides.{monosWord, Strings};
 ghost use Rattle.line.specs.declared.Side.the-variants as side;
-ghost use Rattle.door.specs.Job.{takesRuns, takesLeftRuns};
+ghost use Rattle.door.specs.Job.{takesRuns, takesLeftRuns, given};
 ghost use Rattle.cells.specs.Cells.{size, beside};
+ghost use Rattle.word.specs.Summed.{givenBase};
+ghost use Rattle.word_rows.specs.Base.{BaseReady, basesNow, basesWas};
 ghost use Rattle.word_rows.specs.Runs.{bothOnly, Runs, HasRuns, ownWord, jukugoRow};
 ghost use Rattle.word_rows.specs.Word.{wordRow};
 ghost use Rattle.word_rows.specs.Seen.{runsNow, runsWas};
@@ -255,6 +257,34 @@ pub fn put_whole(
         put_cut(t, p, w, ends, em, rclass, rwidth, runs, lwidth, lruns);
     } else {
         put_uncut(t, p, w, ends);
+    }
+}
+
+// The base of an element with a left reading, as level one asks for it. `one_reading::base_at` is the same for the others: a function with two callers is put into neither, and a word
+// without a left reading would pay for that.
+pub fn base_beside(
+    p: door::Piece,
+    em: u32,
+    class: &[u32],
+    width: &[u32],
+    before: &[u32],
+    after: &[u32],
+) -> word::Base
+    requires { let job = basesNow em class width before after in ⌜ BaseReady job p ⌝ }
+    ensures { λ b. let job = basesWas em class width before after in ⌜ b ≡ givenBase (p .form) (given job p) ⌝ }
+{
+    let b = p.base;
+    let e = b + p.bases;
+    let form = p.form;
+    let blank = word::blank_inside(&before[b..e], &after[b..e]);
+    let mix = word::mix_of(&class[b..e]);
+    let uneven = word::is_uneven(form, em, &width[b..e]);
+    let string = word::str_of(&width[b..e]);
+    word::Base {
+        blank,
+        mix,
+        uneven,
+        string,
     }
 }
 

@@ -196,7 +196,7 @@ fn mix_by_kinds(cs: &[u32]) -> Mix
 }
 
 // The kinds of a string's characters. Most strings are kana-like throughout.
-fn mix_of(cs: &[u32]) -> Mix
+pub fn mix_of(cs: &[u32]) -> Mix
     ensures { λ r. ⌜ r ≡ mixOf (was cs) ⌝ }
 {
     if all_kana(cs) {
@@ -450,7 +450,7 @@ pub fn plain_answer(b: u32) -> Answer
 }
 
 // A string by its list.
-fn str_of(ws: &[u32]) -> Str
+pub fn str_of(ws: &[u32]) -> Str
     requires { ⌜ (length (now ws) ≤ 64) × (sum (now ws) < 2 ^ 32) ⌝ }
     ensures { λ s. ⌜ s ≡ strOf (was ws) ⌝ }
 {
@@ -461,7 +461,7 @@ fn str_of(ws: &[u32]) -> Str
 }
 
 // Whether a base character is not one em wide; only a J is asked.
-fn is_uneven(form: Form, em: u32, bs: &[u32]) -> bool
+pub fn is_uneven(form: Form, em: u32, bs: &[u32]) -> bool
     ensures { λ r. ⌜ r ≡ (isJ form && any (other em) (was bs)) ⌝ }
 {
     match form {

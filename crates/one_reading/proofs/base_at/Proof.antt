@@ -1,8 +1,7 @@
 -- Level one is lent the parts of the base lists. What it finds in them is what it asks of the element's base.
 use mathlib.Core.Path.{_≡_, refl, sym, ap, _∙_, subst}
 use Rattle.door.specs.Job.{Job}
-use Rattle.one_reading.specs.Lay.{base-lent, base-small}
-use Rattle.one_reading.specs.Seen.{basesOnly}
+use Rattle.word_rows.specs.Base.{basesOnly, base-lent, base-small}
 use borrow.Author.Needs.{needs}
 use native.Mathlib.Omega.{arith}
 use Rattle.one_reading.proofs.base_at.Statement.{statement}
