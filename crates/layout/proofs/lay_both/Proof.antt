@@ -148,8 +148,8 @@ ready e =
     let k = known (e .before) in
     one.both-ready (standing (entry k)) (is k) (takes-it (e .before .before)) (supplied e) (some e)
 
-base-at-requires : tie.Need-base-at-requires
-base-at-requires c κs =
+base-beside-requires : tie.Need-base-beside-requires
+base-beside-requires c κs =
     let k = known (c .before) in
     one.base-ready (standing (entry k)) (is k) (takes-it (c .before .before)) (supplied c)
 
@@ -176,7 +176,7 @@ both-answer-requires c κs =
     let e = b .before in
     let k = known (e .before) in
     let a = entry k in
-    let q = both-asks (bothOf (job a)) (piece k) (ready e) (b .base-at .ensures) (r .right-at .ensures) (l .left-at .ensures) in
+    let q = both-asks (bothOf (job a)) (piece k) (ready e) (b .base-beside .ensures) (r .right-at .ensures) (l .left-at .ensures) in
     (q .0, subst Housed (sym (house c)) (standing a .house), q .1)
 
 -- level one's answer
@@ -196,7 +196,7 @@ told m =
     let k = known (e .before) in
     let a = entry k in
     m .both-answer .ensures
-    ∙ both-told (bothOf (job a)) (piece k) (ready e) (b .base-at .ensures) (r .right-at .ensures) (l .left-at .ensures) (a .args .k) (house (m .before))
+    ∙ both-told (bothOf (job a)) (piece k) (ready e) (b .base-beside .ensures) (r .right-at .ensures) (l .left-at .ensures) (a .args .k) (house (m .before))
 
 enum-known-answer : tie.Need-enum-known-answer
 enum-known-answer c = search needs
@@ -371,7 +371,7 @@ lay-both-spec =
     returns-2
     runs-out-requires
     returns-3
-    base-at-requires
+    base-beside-requires
     right-at-requires
     left-at-requires
     ratios-at-requires
