@@ -48,6 +48,11 @@ module _ (k : ℕ) (job : Job) (x : Piece) {t : List ℕ} (h : WordReady job x t
   mono-small =
       (omega (arith, mono-width job x one, h .small .narrow), rw (part-of (job .rubyWidth) (x .ruby) (x .rubies) (h .rubyWidth)) (h .small .narrowRuby))
 
+  pub mono-even : length (take (x .base + 1 - x .base) (drop (x .base) (job .before))) ≡ length (take (x .base + 1 - x .base) (drop (x .base) (job .after)))
+  mono-even =
+      rw (part-of (job .before) (x .base) 1 (omega (arith, one, h .before)), part-of (job .after) (x .base) 1 (omega (arith, one, h .after)))
+      (length-entries (job .before) (x .base) 1 ∙ sym (length-entries (job .after) (x .base) 1))
+
   pub mono-lent :
       monoBy k (any (other 0) (take (x .base + 1 - x .base) (drop (x .base) (job .before))) || any (other 0) (take (x .base + 1 - x .base) (drop (x .base) (job .after))))
       (getD (job .width) (x .base) 0) (sum (take (x .ruby + x .rubies - x .ruby) (drop (x .ruby) (job .rubyWidth))))

@@ -423,14 +423,22 @@ fn first_run(runs: &[u32], ws: &[u32]) -> u32
     basics::sum_of(&ws[0..n])
 }
 
-// Number 7 of an element with ruby.
+// Number 7 of an element with ruby: some blank field of its characters is not 0. Both fields are looked at in one pass.
 pub fn blank_inside(before: &[u32], after: &[u32]) -> bool
+    requires { ⌜ length (now before) ≡ length (now after) ⌝ }
     ensures { λ r. ⌜ r ≡ (any (other 0) (was before) || any (other 0) (was after)) ⌝ }
 {
-    if basics::any_but(0, before) {
-        return true;
+    let mut i: usize = 0;
+    while i < before.len() {
+        if before[i] != 0 {
+            return true;
+        }
+        if after[i] != 0 {
+            return true;
+        }
+        i += 1;
     }
-    basics::any_but(0, after)
+    false
 }
 
 // Number 10, by the kinds of ruby and base.
@@ -474,7 +482,7 @@ pub fn is_uneven(form: Form, em: u32, bs: &[u32]) -> bool
 
 // A word's base, as level one asks for it.
 pub fn base_of(form: Form, em: u32, bc: &[u32], bs: &[u32], before: &[u32], after: &[u32]) -> Base
-    requires { ⌜ (length (now bs) ≤ 64) × (sum (now bs) < 2 ^ 32) ⌝ }
+    requires { ⌜ (length (now bs) ≤ 64) × (sum (now bs) < 2 ^ 32) × (length (now before) ≡ length (now after)) ⌝ }
     ensures { λ b. ⌜ b ≡ baseOf form em (was bc) (was bs) (was before) (was after) ⌝ }
 {
     let blank = blank_inside(before, after);

@@ -1,5 +1,5 @@
 -- The base of a word, as level one asks for it, within its lists.
-use mathlib.Core.Path.{_≡_}
+use mathlib.Core.Path.{_≡_, sym, _∙_}
 use mathlib.Core.List.{List, []}
 use Prim.Native.Nat.{ℕ, _+_, _-_, _≤_}
 use native.Mathlib.Omega.{arith}
@@ -49,3 +49,8 @@ module _ (job : Job) (x : Piece) (h : BaseReady job x) where
   pub base-small : let ws = take (x .base + x .bases - x .base) (drop (x .base) (job .width)) in (length ws ≤ 64) × (sum ws ≤ 131072)
   base-small =
       rw (part-of (job .width) (x .base) (x .bases) (h .width)) (omega (arith, length-entries (job .width) (x .base) (x .bases), h .short), h .narrow)
+
+  pub base-even : length (take (x .base + x .bases - x .base) (drop (x .base) (job .before))) ≡ length (take (x .base + x .bases - x .base) (drop (x .base) (job .after)))
+  base-even =
+      rw (part-of (job .before) (x .base) (x .bases) (h .before), part-of (job .after) (x .base) (x .bases) (h .after))
+      (length-entries (job .before) (x .base) (x .bases) ∙ sym (length-entries (job .after) (x .base) (x .bases)))

@@ -185,10 +185,10 @@ pub fn refused(place: u32, answer: word::Answer) -> door::Step
 pub fn held(place: u32, row: word::Row) -> door::Step
     ensures { λ s. ⌜ s ≡ stopAt place row ⌝ }
 {
-    let word::Row::Holds(told) = row else {
+    let word::Row::Holds(why) = row else {
         return door::Step::Stop(Refusal::Element(place)); // unreachable: no row holds of a J that passes
     };
-    door::Step::Stop(told)
+    door::Step::Stop(why)
 }
 
 // Whether a line may end behind an element.

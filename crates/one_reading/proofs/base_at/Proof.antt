@@ -1,7 +1,7 @@
 -- Level one is lent the parts of the base lists. What it finds in them is what it asks of the element's base.
 use mathlib.Core.Path.{_≡_, refl, sym, ap, _∙_, subst}
 use Rattle.door.specs.Job.{Job}
-use Rattle.word_rows.specs.Base.{basesOnly, base-lent, base-small}
+use Rattle.word_rows.specs.Base.{basesOnly, base-lent, base-small, base-even}
 use borrow.Author.Needs.{needs}
 use native.Mathlib.Omega.{arith}
 use Rattle.one_reading.proofs.base_at.Statement.{statement}
@@ -62,8 +62,9 @@ base-of-requires : tie.Need-base-of-requires
 base-of-requires c κs =
     let a = c .before .before .before .before .before .before .before .before .before in
     let x = a .args in
-    let s = base-small (basesOnly (x .em) (x .class .now) (x .width .now) (x .before .now) (x .after .now)) (x .p) (a .pre) in
-    (s .0, omega (arith, s .1))
+    let job = basesOnly (x .em) (x .class .now) (x .width .now) (x .before .now) (x .after .now) in
+    let s = base-small job (x .p) (a .pre) in
+    (s .0, omega (arith, s .1), base-even job (x .p) (a .pre))
 
 returns : tie.Need-returns
 returns c =

@@ -8,7 +8,7 @@ use Rattle.word.specs.Summed.{monoBy}
 use Rattle.door.specs.Job.{Job, given}
 use Rattle.word_rows.specs.Table.{Filled}
 use Rattle.word_rows.specs.Word.{wordRow, judged-stops, judged-goes, stopBy}
-use Rattle.one_reading.specs.Lay.{mono-lent, mono-small}
+use Rattle.one_reading.specs.Lay.{mono-even, mono-lent, mono-small}
 use Rattle.one_reading.specs.Seen.{monoOnly}
 use borrow.Author.Needs.{needs}
 use native.Mathlib.Omega.{arith}
@@ -62,7 +62,10 @@ part-blank-inside-end-2 : tie.Need-part-blank-inside-end-2
 part-blank-inside-end-2 c = search needs
 
 blank-inside-requires : tie.Need-blank-inside-requires
-blank-inside-requires c κs = search needs
+blank-inside-requires c κs =
+    let a = c .before .before .before .before .before .before .before .before .before in
+    let x = a .args in
+    mono-even (x .place) (job a) (x .p) (a .pre .1) (a .pre .0)
 
 mul-sum-of : tie.Need-mul-sum-of
 mul-sum-of c = search needs

@@ -1,5 +1,5 @@
 -- Level one's questions are asked of the parts of the base lists. What is found in them is what it asks of the element's base.
-use Rattle.word_rows.specs.Base.{basesOnly, base-lent, base-small}
+use Rattle.word_rows.specs.Base.{basesOnly, base-lent, base-small, base-even}
 use borrow.Author.Needs.{needs}
 use native.Mathlib.Omega.{arith}
 use Rattle.two_readings.proofs.base_beside.Statement.{statement}
@@ -37,7 +37,10 @@ part-blank-inside-end-2 : tie.Need-part-blank-inside-end-2
 part-blank-inside-end-2 c = search needs
 
 blank-inside-requires : tie.Need-blank-inside-requires
-blank-inside-requires c κs = search needs
+blank-inside-requires c κs =
+    let a = c .before .before .before .before .before .before .before in
+    let x = a .args in
+    base-even (basesOnly (x .em) (x .class .now) (x .width .now) (x .before .now) (x .after .now)) (x .p) (a .pre)
 
 mul-mix-of : tie.Need-mul-mix-of
 mul-mix-of c = search needs
