@@ -1,13 +1,12 @@
 -- A word with a reading on either side by its numbers. Every string of a word is set over the length of the longest, the base by its own way and ratio and each reading by the
 -- ruby's, so one rule serves both sides; the longest has no space to share and stands solid at 0. `SidesJoined` shows that these are the places of `Both`.
-use mathlib.Core.Path.{_≡_, refl}
-use mathlib.Core.Bool.{Bool, true, false, cond, _||_}
+use mathlib.Core.Bool.{cond, _||_}
 use native.Mathlib.Omega.{arith}
 use mathlib.Core.List.{List, map}
 use Prim.Native.Nat.{ℕ, _+_, _-_, _*_, _≤_, _<_}
 use lib.Dec.{leb}
-use lib.ListN.{length, getD}
-use Rattle.basics.specs.Lists.{sum, lastOr}
+use lib.ListN.{length}
+use Rattle.basics.specs.Lists.{sum}
 use Rattle.basics.specs.Laws.{sum-some}
 use Rattle.spread.specs.declared.Way.{Way}
 use Rattle.spread.specs.declared.Way.the-variants.{Solid}
@@ -22,10 +21,10 @@ use Rattle.word.specs.declared.Str.{Str}
 use Rattle.class.specs.Class.{western}
 use Rattle.word.specs.declared.Form.{Form}
 use Rattle.word.specs.declared.Form.the-variants as form
-use Rattle.word.specs.Given.{Given, isJ}
+use Rattle.word.specs.Given.{Given}
 use Rattle.word.specs.Sized.{Small}
 use Rattle.word.specs.Alone.{script, rubyWay, baseWay, split, anyLonger}
-use Rattle.word.specs.Word.{none, string, byRuns, plain, runStarts}
+use Rattle.word.specs.Word.{string, byRuns, plain, runStarts}
 use Rattle.word.specs.Word as one
 use Rattle.word.specs.Both.{Gloss, hasLeft, isGroup, longest}
 

@@ -1,15 +1,15 @@
 -- Level one from sums and kinds: of its strings a word asks for no more than these, so that its answer can be worked out by value. Each law says that this is the answer of document 01.
-use mathlib.Core.Path.{_≡_, refl, sym, ap, _∙_, subst}
-use mathlib.Core.Bool.{Bool, true, false, cond, not, _&&_, _||_}
+use mathlib.Core.Path.{_≡_, refl, ap, _∙_, subst}
+use mathlib.Core.Bool.{Bool, true, false, cond, _&&_, _||_}
 use mathlib.Core.List.{List, [], _∷_, map}
 use Prim.Native.Nat.{ℕ, _*_, _≤_, _<_, zero-le}
 use native.Mathlib.Omega.{arith}
-use lib.Dec.{leb, ltb}
-use lib.ListN.{length, getD, take, drop}
+use lib.Dec.{ltb}
+use lib.ListN.{length, getD}
 use lib.Seq.{take-length}
 use Rattle.basics.specs.Lists.{sum, any, other, lastOr}
 use Rattle.basics.specs.Laws.{sum-some, all-least}
-use Rattle.class.specs.Class.{western, kanaLike}
+use Rattle.class.specs.Class.{western}
 use Rattle.spread.specs.declared.Way.the-variants.{Solid}
 use Rattle.spread.specs.Gap.{gaps}
 use Rattle.spread.specs.Ratio.{Ratios, usual}
@@ -33,7 +33,7 @@ use Rattle.word.specs.declared.Answer.{Answer}
 use Rattle.word.specs.declared.Answer.the-variants.{Set, Refused}
 use Rattle.word.specs.Given.{Given, hasRuby, isG, isJ}
 use Rattle.word.specs.Alone.{rubyWay, baseWay, split, anyLonger}
-use Rattle.word.specs.Word.{none, between, plain, shortRuby, shortBase, wordBy, groupWord, overEach, jukugoWord, wordOf}
+use Rattle.word.specs.Word.{none, between, plain, wordBy, groupWord, overEach, jukugoWord, wordOf}
 use Rattle.word.specs.Numbers.{wordFrom, word-from}
 use Rattle.word.specs.Answer.{mixed, answer}
 use Rattle.word.specs.Kinds.{mixOf, mixedBy, scriptBy, notKanaBy, any-not-kana, kana-unmixed}

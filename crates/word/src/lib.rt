@@ -6,7 +6,7 @@ ghost use mathlib.Core.Path.{_≡_};
 ghost use mathlib.Core.Bool.{true, false, not, _&&_, _||_};
 ghost use Prim.Native.Nat.{ℕ, _+_, _-_, _^_, _≤_, _<_};
 ghost use lib.ListN.{length, getD};
-ghost use mathlib.Core.List.{[], map};
+ghost use mathlib.Core.List.{map};
 ghost use Rattle.basics.specs.Seen.{was};
 ghost use Rattle.basics.specs.Lists.{sum, any, other};
 ghost use Rattle.spread.specs.declared.Way.the-variants.{Solid};

@@ -1,13 +1,8 @@
 // A word with a reading on either side (R-5). Every string of a word is set over the length of the longest, so one function serves the readings of both sides.
 ghost use mathlib.Core.Path.{_≡_};
 ghost use mathlib.Core.Bool.{true, cond, _&&_, _||_};
-ghost use mathlib.Core.Logic.{_⊎_};
-ghost use Prim.Native.Nat.{_+_, _*_, _^_, _≤_, _<_, max};
+ghost use Prim.Native.Nat.{_+_, _*_, _≤_, _<_};
 ghost use lib.Dec.{leb};
-ghost use lib.ListN.{length};
-ghost use mathlib.Core.List.{[]};
-ghost use Rattle.basics.specs.Seen.{was};
-ghost use Rattle.basics.specs.Lists.{sum, any, other};
 ghost use Rattle.word.specs.Given.{isG, isJ};
 ghost use Rattle.word.specs.Both.{isGroup};
 ghost use Rattle.word.specs.Kinds.{notKanaBy, mixedBy};

@@ -1,5 +1,4 @@
 -- A kana that the profile permits takes ruby. Elsewhere the class has to have a blank.
-use mathlib.Core.Path.{_≡_}
 use borrow.Author.Needs.{needs}
 use Rattle.class.proofs.takes_ruby.Statement.{statement}
 use Rattle.class.proofs.takes_ruby.Tie as tie

@@ -21,7 +21,8 @@ use Rattle.job.specs.Line.{cuts}
 use Rattle.word_rows.specs.Runs.{bothOnly}
 use Rattle.word_rows.specs.Word.{flagged, judged-stops, judged-goes, stopBy}
 use Rattle.two_readings.specs.Written.{Written, written-as}
-use Rattle.two_readings.specs.Left.{right-as, left-as, ownRow, characterRow, bothRow, WrittenBy, cuts-by-word, BothReady, right-ready, left-ready, both-asks, both-told, characterBoth, laid-both, apart-runs}
+use Rattle.two_readings.specs.Left.{right-as, left-as, ownRow, characterRow, bothRow, WrittenBy, cuts-by-word, BothReady, right-ready, left-ready, both-asks, both-told}
+use Rattle.two_readings.specs.Left.{characterBoth, laid-both, apart-runs}
 use Rattle.layout.specs.Step.{Standing, Stepped, few, there, few-runs, out-is}
 use Rattle.layout.specs.Element as one
 use Rattle.layout.specs.Element.{bothOf}

@@ -1,6 +1,5 @@
 -- Level one is lent the parts of the base lists. What it finds in them is what it asks of the element's base.
-use mathlib.Core.Path.{_≡_, refl, sym, ap, _∙_, subst}
-use Rattle.door.specs.Job.{Job}
+use mathlib.Core.Path.{_∙_}
 use Rattle.word_rows.specs.Base.{basesOnly, base-lent, base-small, base-even}
 use borrow.Author.Needs.{needs}
 use native.Mathlib.Omega.{arith}

@@ -1,12 +1,9 @@
 -- Where ruby may not lie both depths are 0, whatever the blanks are. Elsewhere they are asked for.
-use mathlib.Core.Path.{_≡_, sym, ap, _∙_}
+use mathlib.Core.Path.{sym, _∙_}
 use Rattle.class.specs.Laws.{no-depths}
 use borrow.Author.Needs.{needs}
-use native.Mathlib.Omega.{arith}
 use Rattle.one_reading.proofs.depths_at.Statement.{statement}
 use Rattle.one_reading.proofs.depths_at.Tie as tie
-use Rattle.class.proofs.depths_by.Reads as depths-by-reads
-use Rattle.class.proofs.takes_ruby.Reads as takes-ruby-reads
 
 mul-takes-ruby : tie.Need-mul-takes-ruby
 mul-takes-ruby c = search needs

@@ -1,8 +1,6 @@
 -- By its form, and a J by whether it is cut. What each way promises of its form is what is promised of the element's.
-use mathlib.Core.Path.{_≡_, refl, sym, ap, _∙_, subst}
+use mathlib.Core.Path.{sym, ap, _∙_, subst}
 use mathlib.Core.Bool.{cond, false≢true}
-use Prim.Native.Nat.{_+_}
-use Rattle.word.specs.declared.Form.the-variants.{G, J}
 use Rattle.word.specs.declared.Form.{Form}
 use Rattle.word.specs.Given.{Given, isJ}
 use Rattle.word.specs.Answer.{answer}

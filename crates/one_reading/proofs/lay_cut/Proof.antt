@@ -1,5 +1,5 @@
 -- Level one is asked for its judgement, which is that on any element that has this base and this ruby. It is taken apart: the runs are written, whatever the word is, or the refusal is handed up.
-use mathlib.Core.Path.{_≡_, refl, sym, ap, _∙_, subst}
+use mathlib.Core.Path.{_≡_, refl, ap, _∙_}
 use Rattle.word.specs.Given.{Given}
 use Rattle.word.specs.Answer.{answer}
 use Rattle.word.specs.Word.{wordOf}
@@ -12,12 +12,8 @@ use Rattle.word_rows.specs.Word.{judged-stops, judged-goes, stopAt}
 use Rattle.one_reading.specs.Lay.{Gives, cut-told, cut-row}
 use Prim.Native.Nat.{_+_}
 use borrow.Author.Needs.{needs}
-use native.Mathlib.Omega.{arith}
 use Rattle.one_reading.proofs.lay_cut.Statement.{statement}
 use Rattle.one_reading.proofs.lay_cut.Tie as tie
-use Rattle.word.proofs.judge_jukugo.Reads as judge-jukugo-reads
-use Rattle.word_rows.proofs.held.Reads as held-reads
-use Rattle.word_rows.proofs.put_runs.Reads as put-runs-reads
 
 -- level one's judgement
 abbrev entry : tie.After-judge-jukugo → tie.Start

@@ -1,6 +1,5 @@
 -- Level one is asked by what it wants to know of the strings, and its answer is that to any element that has them. It is taken apart: the rows are written, or the refusal is handed up.
 use mathlib.Core.Path.{_≡_, refl, sym, ap, _∙_, subst}
-use Prim.Native.Nat.{_+_}
 use Rattle.spread.specs.Ratio.{Housed}
 use Rattle.word.specs.Given.{Given}
 use Rattle.word.specs.Answer.{answer}
@@ -9,13 +8,8 @@ use Rattle.word_rows.specs.Word.{judged-stops, judged-goes, stopBy}
 use Rattle.one_reading.specs.Lay.{measured, Gives, group-told}
 use mathlib.Core.List.{[]}
 use borrow.Author.Needs.{needs}
-use native.Mathlib.Omega.{arith}
 use Rattle.one_reading.proofs.lay_group.Statement.{statement}
 use Rattle.one_reading.proofs.lay_group.Tie as tie
-use Rattle.cells.proofs.ratios_at.Reads as ratios-at-reads
-use Rattle.word.proofs.group_answer.Reads as group-answer-reads
-use Rattle.word_rows.proofs.put_word.Reads as put-word-reads
-use Rattle.word_rows.proofs.refused.Reads as refused-reads
 
 -- level one's answer
 abbrev entry : tie.After-group-answer → tie.Start

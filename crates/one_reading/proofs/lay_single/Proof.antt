@@ -14,9 +14,6 @@ use borrow.Author.Needs.{needs}
 use native.Mathlib.Omega.{arith}
 use Rattle.one_reading.proofs.lay_single.Statement.{statement}
 use Rattle.one_reading.proofs.lay_single.Tie as tie
-use Rattle.cells.proofs.ratios_at.Reads as ratios-at-reads
-use Rattle.word.proofs.single_answer.Reads as single-answer-reads
-use Rattle.word_rows.proofs.refused.Reads as refused-reads
 
 -- level one's answer
 abbrev entry : tie.After-single-answer → tie.Start

@@ -1,5 +1,5 @@
 -- Level one is lent the parts of the ruby lists. What it finds in them is what it asks of the element's ruby.
-use mathlib.Core.Path.{_≡_, refl, sym, ap, _∙_, subst}
+use mathlib.Core.Path.{_∙_}
 use Rattle.one_reading.specs.Lay.{ruby-lent, ruby-small}
 use borrow.Author.Needs.{needs}
 use native.Mathlib.Omega.{arith}

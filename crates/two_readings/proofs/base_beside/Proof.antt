@@ -4,10 +4,6 @@ use borrow.Author.Needs.{needs}
 use native.Mathlib.Omega.{arith}
 use Rattle.two_readings.proofs.base_beside.Statement.{statement}
 use Rattle.two_readings.proofs.base_beside.Tie as tie
-use Rattle.word.proofs.blank_inside.Reads as blank-inside-reads
-use Rattle.word.proofs.is_uneven.Reads as is-uneven-reads
-use Rattle.word.proofs.mix_of.Reads as mix-of-reads
-use Rattle.word.proofs.str_of.Reads as str-of-reads
 
 add-e : tie.Need-add-e
 add-e c = search needs

@@ -1,5 +1,5 @@
 -- Its record says whether its runs stand over their own characters, and so whether it is cut. Each way has its rows.
-use mathlib.Core.Path.{_≡_, refl, sym, ap, ap₂, _∙_, subst}
+use mathlib.Core.Path.{ap₂, _∙_}
 use Prim.Native.Nat.{_+_}
 use Rattle.cells.specs.Cells.{beside}
 use Rattle.door.specs.Job.{Job}
@@ -10,7 +10,6 @@ use Rattle.two_readings.specs.Written.{written-as}
 use Rattle.two_readings.specs.Left.{leftRow, leftRunRow, left-word, left-run, ownRow, cut-j}
 use Rattle.two_readings.specs.Seen.{wholeOnly}
 use borrow.Author.Needs.{needs}
-use native.Mathlib.Omega.{arith}
 use Rattle.two_readings.proofs.put_whole.Statement.{statement}
 use Rattle.two_readings.proofs.put_whole.Tie as tie
 

@@ -1,11 +1,9 @@
 -- How many runs it takes is what its kinds say. The rest is the reading of one side.
-use mathlib.Core.Path.{_≡_, refl, sym, ap, ap₂, _∙_, subst}
+use mathlib.Core.Path.{sym, ap, _∙_, subst}
 use Rattle.two_readings.specs.Left.{StrandReady, strandIn}
 use borrow.Author.Needs.{needs}
-use native.Mathlib.Omega.{arith}
 use Rattle.two_readings.proofs.right_at.Statement.{statement}
 use Rattle.two_readings.proofs.right_at.Tie as tie
-use Rattle.door.proofs.runs_taken.Reads as runs-taken-reads
 
 runs-taken-requires : tie.Need-runs-taken-requires
 runs-taken-requires c κs = search needs

@@ -1,11 +1,10 @@
 -- Level one is lent the parts of the lists. What it finds in them is what it asks of the reading.
-use mathlib.Core.Path.{_≡_, refl, sym, ap, ap₂, _∙_, subst}
+use mathlib.Core.Path.{_∙_}
 use Rattle.two_readings.specs.Left.{strand-lent, strand-small}
 use borrow.Author.Needs.{needs}
 use native.Mathlib.Omega.{arith}
 use Rattle.two_readings.proofs.strand_at.Statement.{statement}
 use Rattle.two_readings.proofs.strand_at.Tie as tie
-use Rattle.word.proofs.run_strand_of.Reads as run-strand-of-reads
 
 add-e : tie.Need-add-e
 add-e c = search needs

@@ -1,40 +1,27 @@
 -- Each test is its row, in the order of the list.
-use mathlib.Core.Path.{_≡_, refl, sym, ap, _∙_}
 use Rattle.word.specs.Summed.{jukugoJudged}
-use borrow.Author.Needs.{needs}
-use native.Mathlib.Omega.{arith}
 use borrow.Author.Needs.{needs}
 use Rattle.word.proofs.judge_jukugo.Statement.{statement}
 use Rattle.word.proofs.judge_jukugo.Tie as tie
-use Rattle.word.proofs.judge_jukugo.Reads as reads
-use Rattle.word.proofs.judge_jukugo.Lts as lts
-use Rattle.word.proofs.is_mixed.Reads as is-mixed-reads
-use Rattle.word.proofs.not_kana.Reads as not-kana-reads
 
--- src/lib.rt:572:9
 returns : tie.Need-returns
 unfolding jukugoJudged
 returns c = rw (c .if1 .taken)
 
--- src/lib.rt:575:8
 not-kana-requires : tie.Need-not-kana-requires
 not-kana-requires c κs = search needs
 
--- src/lib.rt:576:9
 returns-2 : tie.Need-returns-2
 unfolding jukugoJudged
 returns-2 c = rw (c .before .before .before .if1 .left, ← c .before .not-kana .ensures, c .if2 .taken)
 
--- src/lib.rt:580:9
 returns-3 : tie.Need-returns-3
 unfolding jukugoJudged
 returns-3 c = let n = c .before .before in rw (n .before .before .if1 .left, ← n .not-kana .ensures, c .before .if2 .left, c .if3 .taken)
 
--- src/lib.rt:582:8
 is-mixed-requires : tie.Need-is-mixed-requires
 is-mixed-requires c κs = search needs
 
--- src/lib.rt:583:9
 returns-4 : tie.Need-returns-4
 unfolding jukugoJudged
 returns-4 c =
@@ -42,7 +29,6 @@ returns-4 c =
     let n = m .before .before .before in
     rw (n .before .before .if1 .left, ← n .not-kana .ensures, m .before .before .if2 .left, m .before .if3 .left, ← m .is-mixed .ensures, c .if4 .taken)
 
--- src/lib.rt:567:1
 returns-5 : tie.Need-returns-5
 unfolding jukugoJudged
 returns-5 c =

@@ -1,38 +1,25 @@
 -- The row that holds is the answer; past them all stands the word of its only run.
-use mathlib.Core.Path.{_≡_, refl, sym, ap, _∙_}
+use mathlib.Core.Path.{sym, ap, _∙_}
 use Rattle.word.specs.declared.Answer.the-variants.{Set}
 use Rattle.spread.specs.Ratio.{ratiosOf}
 use Rattle.word.specs.Kinds.{scriptBy}
-use Rattle.word.specs.declared.Row.the-variants.{None}
-use Rattle.word.specs.Summed.{jukugoJudged, answeredBy, singleFrom, singleBy, judged-even}
-use borrow.Author.Needs.{needs}
-use native.Mathlib.Omega.{arith}
+use Rattle.word.specs.Summed.{answeredBy, singleFrom, singleBy, judged-even}
 use borrow.Author.Needs.{needs}
 use Rattle.word.proofs.single_answer.Statement.{statement}
 use Rattle.word.proofs.single_answer.Tie as tie
-use Rattle.word.proofs.single_answer.Reads as reads
-use Rattle.word.proofs.single_answer.Lts as lts
-use Rattle.word.proofs.judge_jukugo.Reads as judge-jukugo-reads
-use Rattle.word.proofs.script_of.Reads as script-of-reads
-use Rattle.word.proofs.single_from.Reads as single-from-reads
 
--- src/lib.rt:618:11
 judge-jukugo-requires : tie.Need-judge-jukugo-requires
 judge-jukugo-requires c κs = search needs
 
--- src/lib.rt:619:20
 enum-known-why : tie.Need-enum-known-why
 enum-known-why c = search needs
 
--- src/lib.rt:621:17
 enum-told : tie.Need-enum-told
 enum-told c = search needs
 
--- src/lib.rt:623:37
 script-of-requires : tie.Need-script-of-requires
 script-of-requires c κs = search needs
 
--- src/lib.rt:623:25
 single-from-requires : tie.Need-single-from-requires
 single-from-requires c κs =
     let e = c .before .before .before in
@@ -40,7 +27,6 @@ single-from-requires c κs =
     let s = j .before .before in
     (s .pre .0, s .pre .1, s .pre .2 (judged-even (s .args .place) (s .args .base) (s .args .ruby .mix) (sym (j .judge-jukugo .ensures) ∙ e .enum-told .given .1)))
 
--- src/lib.rt:607:1
 returns : tie.Need-returns
 unfolding singleBy
 returns c =
@@ -48,7 +34,6 @@ returns c =
     let s = j .before .before .args in
     ap (λ q. answeredBy q (singleFrom (scriptBy (s .ruby .mix)) (ratiosOf (s .ratios)) (s .em) (s .base .string) (s .ruby .string))) (sym (c .before .why .given .1) ∙ j .judge-jukugo .ensures)
 
--- src/lib.rt:607:1
 returns-2 : tie.Need-returns-2
 unfolding singleBy
 returns-2 c =

@@ -1,32 +1,22 @@
 -- The row that holds is the answer; past them all a J is one em wide for each character, and the word is that of its strings.
-use mathlib.Core.Path.{_≡_, refl, sym, ap, _∙_}
+use mathlib.Core.Path.{_≡_, sym, ap, _∙_}
 use Rattle.word.specs.declared.Answer.the-variants.{Set}
-use Rattle.word.specs.Summed.{answeredBy, bothBy, twoFrom, rows-even}
+use Rattle.word.specs.Summed.{bothBy, rows-even}
 use mathlib.Core.Bool.{true, false}
 use Rattle.word.specs.Given.{isJ}
 use borrow.Author.Needs.{needs}
-use native.Mathlib.Omega.{arith}
-use borrow.Author.Needs.{needs}
 use Rattle.word.proofs.sides.both_answer.Statement.{statement}
 use Rattle.word.proofs.sides.both_answer.Tie as tie
-use Rattle.word.proofs.sides.both_answer.Reads as reads
-use Rattle.word.proofs.sides.both_answer.Lts as lts
-use Rattle.word.proofs.sides.row_of.Reads as row-of-reads
-use Rattle.word.proofs.sides.two_from.Reads as two-from-reads
 
--- src/sides.rt:318:11
 row-of-requires : tie.Need-row-of-requires
 row-of-requires c κs = search needs
 
--- src/sides.rt:319:20
 enum-known-why : tie.Need-enum-known-why
 enum-known-why c = search needs
 
--- src/sides.rt:320:34
 enum-told : tie.Need-enum-told
 enum-told c = search needs
 
--- src/sides.rt:320:34
 two-from-requires : tie.Need-two-from-requires
 two-from-requires c κs =
     let r = c .before .before in
@@ -36,14 +26,12 @@ two-from-requires c κs =
     = λ j. rows-even (a .form) (a .place) (a .base .blank) (a .base .mix) (a .base .uneven) (a .r .mix) (a .l .mix) j (sym (r .row-of .ensures) ∙ c .enum-told .given .1) in
     (s .pre .0, s .pre .1, λ j. (s .pre .2 j .wide (even j), s .pre .2 j .right, s .pre .2 j .left))
 
--- src/sides.rt:305:1
 returns : tie.Need-returns
 unfolding bothBy
 returns c =
     let r = c .before .before .before in
     rw (← r .row-of .ensures, c .before .why .given .1)
 
--- src/sides.rt:305:1
 returns-2 : tie.Need-returns-2
 unfolding bothBy
 returns-2 c =

@@ -1,84 +1,60 @@
 -- By the form: each arm is the word of that form.
-use mathlib.Core.Path.{_≡_, refl, sym, ap, _∙_}
+use mathlib.Core.Path.{_∙_}
 use Rattle.word.specs.Summed.{twoFrom}
-use borrow.Author.Needs.{needs}
-use native.Mathlib.Omega.{arith}
 use borrow.Author.Needs.{needs}
 use Rattle.word.proofs.sides.two_from.Statement.{statement}
 use Rattle.word.proofs.sides.two_from.Tie as tie
-use Rattle.word.proofs.sides.two_from.Reads as reads
-use Rattle.word.proofs.sides.two_from.Lts as lts
-use Rattle.word.proofs.plain_of.Reads as plain-of-reads
-use Rattle.word.proofs.script_of.Reads as script-of-reads
-use Rattle.word.proofs.sides.groups_of.Reads as groups-of-reads
-use Rattle.word.proofs.sides.jukugos_from.Reads as jukugos-from-reads
-use Rattle.word.proofs.sides.monos_of.Reads as monos-of-reads
 
--- src/sides.rt:292:20
 enum-told : tie.Need-enum-told
 enum-told c = search needs
 
--- src/sides.rt:292:20
 plain-of-requires : tie.Need-plain-of-requires
 plain-of-requires c κs = search needs
 
--- src/sides.rt:293:20
 enum-told-2 : tie.Need-enum-told-2
 enum-told-2 c = search needs
 
--- src/sides.rt:293:20
 monos-of-requires : tie.Need-monos-of-requires
 monos-of-requires c κs = search needs
 
--- src/sides.rt:295:17
 enum-told-3 : tie.Need-enum-told-3
 enum-told-3 c = search needs
 
--- src/sides.rt:295:17
 script-of-requires : tie.Need-script-of-requires
 script-of-requires c κs = search needs
 
--- src/sides.rt:296:17
 script-of-requires-2 : tie.Need-script-of-requires-2
 script-of-requires-2 c κs = search needs
 
--- src/sides.rt:297:17
 script-of-requires-3 : tie.Need-script-of-requires-3
 script-of-requires-3 c κs = search needs
 
--- src/sides.rt:298:13
 groups-of-requires : tie.Need-groups-of-requires
 groups-of-requires c κs = search needs
 
--- src/sides.rt:300:20
 enum-told-4 : tie.Need-enum-told-4
 enum-told-4 c = search needs
 
--- src/sides.rt:300:20
 jukugos-from-requires : tie.Need-jukugos-from-requires
 jukugos-from-requires c κs =
     let s = c .before .before .before .before .before in
     let j = s .pre .2 (rw (c .enum-told4 .given .1)) in
     (s .pre .0, s .pre .1, j .0, j .1, j .2)
 
--- src/sides.rt:276:1
 returns : tie.Need-returns
 unfolding twoFrom
 returns c = rw (c .before .enum-told .given .1) (c .plain-of .ensures)
 
--- src/sides.rt:276:1
 returns-2 : tie.Need-returns-2
 unfolding twoFrom
 returns-2 c = rw (c .before .enum-told2 .given .1) (c .monos-of .ensures)
 
--- src/sides.rt:276:1
 returns-3 : tie.Need-returns-3
 unfolding twoFrom
 returns-3 c =
     let s = c .before in
     rw (s .before .before .before .enum-told3 .given .1) (c .groups-of .ensures ∙ rw (s .before .before .script-of .ensures, s .before .script-of2 .ensures, s .script-of3 .ensures))
 
--- src/sides.rt:276:1
 returns-4 : tie.Need-returns-4
 unfolding twoFrom
 returns-4 c = rw (c .before .enum-told4 .given .1) (c .jukugos-from .ensures)
