@@ -20,7 +20,7 @@ use Rattle.word.specs.declared.Answer.{Answer}
 use Rattle.word.specs.Given.{Given, isG, isJ}
 use Rattle.word.specs.declared.Row.{Row}
 use Rattle.word.specs.Word.{plain, wordOf}
-use Rattle.word.specs.Kinds.{mixOf}
+use Rattle.word.specs.Kinds.{sortOf}
 use Rattle.word.specs.Numbers.{Measured}
 use Rattle.word.specs.Answer.{answer}
 use Rattle.word.specs.Summed.{strandOf, givenBase, monoBy, mono-by, groupBy, group-by, jukugoJudged, answeredBy, jukugo-judged, singleBy, single-by}
@@ -144,10 +144,10 @@ gives-group v = record { ems = v .ems; house = v .house; summed = v .summed; rub
 
 -- a J that is judged alone
 pub cut-told : {em : ℕ} {base : Base} {x : Piece} {rc rw rn t : List ℕ} {g : Given} (place : ℕ) {r : Strand} {q : Row} → r ≡ rubyOf x rc rw → Gives J em base x rc rw rn t g →
-    q ≡ jukugoJudged place base (r .mix) → answer J place g ≡ answeredBy q (wordOf J g)
+    q ≡ jukugoJudged place base (r .sort) → answer J place g ≡ answeredBy q (wordOf J g)
 cut-told {g = g} place f v e =
     jukugo-judged place g
-    ∙ ap (λ z. answeredBy z (wordOf J g)) (sym (e ∙ ap₂ (jukugoJudged place) (v .summed) (ap (λ z. z .mix) f ∙ ap mixOf (sym (v .rubyClass)))))
+    ∙ ap (λ z. answeredBy z (wordOf J g)) (sym (e ∙ ap₂ (jukugoJudged place) (v .summed) (ap (λ z. z .sort) f ∙ ap sortOf (sym (v .rubyClass)))))
 
 -- and has the same rows whatever its word is
 pub cut-row : (job : Job) (x : Piece) (v w : Word) (ends : Bool) (i : ℕ) → 1 < x .bases → jukugoRow job x v ends i ≡ jukugoRow job x w ends i

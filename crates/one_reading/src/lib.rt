@@ -259,7 +259,8 @@ fn lay_cut(
     ensures { λ s. ⌜ (length (now (t .exit)) ≡ length (was t)) × ((g : Given) → Gives Form.J em base p (was rclass) (was rwidth) (was runs) (was t) g → FilledBy (answer Form.J place g) (λ w. jukugoRow (runsWas em rclass rwidth runs) p w ends) p (was t) (now (t .exit)) s) ⌝ }
 {
     let ruby = ruby_at(p, rclass, rwidth);
-    let row = word::judge_jukugo(place, base, ruby.mix);
+    let sort = ruby.sort;
+    let row = word::judge_jukugo(place, base, sort);
     let word::Row::None = row else {
         return word_rows::held(place, row);
     };

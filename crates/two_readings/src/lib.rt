@@ -277,12 +277,12 @@ pub fn base_beside(
     let e = b + p.bases;
     let form = p.form;
     let blank = word::blank_inside(&before[b..e], &after[b..e]);
-    let mix = word::mix_of(&class[b..e]);
+    let sort = word::sort_of(&class[b..e]);
     let uneven = word::is_uneven(form, em, &width[b..e]);
     let string = word::str_of(&width[b..e]);
     word::Base {
         blank,
-        mix,
+        sort,
         uneven,
         string,
     }

@@ -8,7 +8,7 @@ use lib.Dec.{ltb}
 use lib.ListN.{length, getD}
 use lib.Seq.{take-length}
 use Rattle.basics.specs.Lists.{sum, any, other, lastOr}
-use Rattle.basics.specs.Laws.{sum-some, all-least}
+use Rattle.basics.specs.Laws.{or-none, sum-some, all-least}
 use Rattle.class.specs.Class.{western}
 use Rattle.spread.specs.declared.Way.the-variants.{Solid}
 use Rattle.spread.specs.Gap.{gaps}
@@ -20,7 +20,7 @@ use Rattle.word.specs.declared.Form.{Form}
 use Rattle.word.specs.declared.Form.the-variants.{P, M, G, J}
 use Rattle.word.specs.declared.Left.{Left}
 use Rattle.word.specs.declared.Str.{Str}
-use Rattle.word.specs.declared.Mix.{Mix}
+use Rattle.word.specs.declared.Sort.{Sort}
 use Rattle.word.specs.declared.Base.{Base}
 use Rattle.word.specs.declared.Strand.{Strand}
 use Rattle.word.specs.declared.RunStrand.{RunStrand}
@@ -36,7 +36,7 @@ use Rattle.word.specs.Alone.{rubyWay, baseWay, split, anyLonger}
 use Rattle.word.specs.Word.{none, between, plain, wordBy, groupWord, overEach, jukugoWord, wordOf}
 use Rattle.word.specs.Numbers.{wordFrom, word-from}
 use Rattle.word.specs.Answer.{mixed, answer}
-use Rattle.word.specs.Kinds.{mixOf, mixedBy, scriptBy, notKanaBy, any-not-kana, kana-unmixed}
+use Rattle.word.specs.Kinds.{sortOf, isMixed, notKana, isWestern, scriptOf, kana-unmixed, mixed-sort, kana-sort, western-sort}
 use Rattle.word.specs.Runs.{runsOf, runs-fit, first-fits, last-fits}
 use Rattle.word.specs.Both.{Gloss, hasLeft, isGroup}
 use Rattle.word.specs.Sides as sides
@@ -44,20 +44,20 @@ use Rattle.word.specs.Sides.{strOf, sided, monosWord, groupsWord, jukugo
 use Rattle.word.specs.Answered.{answerBoth}
 use Rattle.word.specs.Rows.{rowOf, answered, by-row}
 
--- what is asked of a base: some blank field that is not 0 (7), the kinds of its characters (8 to 10), of a J whether one is not one em wide (8), its width and count
+-- what is asked of a base: some blank field that is not 0 (7), what it is made of (8 to 10), of a J whether one is not one em wide (8), its width and count
 abbrev pub baseOf : Form → ℕ → List ℕ → List ℕ → List ℕ → List ℕ → Base
 baseOf form em class width before after =
-    record { blank = any (other 0) before || any (other 0) after; mix = mixOf class; uneven = isJ form && any (other em) width; string = strOf width }
+    record { blank = any (other 0) before || any (other 0) after; sort = sortOf class; uneven = isJ form && any (other em) width; string = strOf width }
 
 -- and of a reading; where it is laid by runs also whether one is longer than one em, and the lengths of the first and the last
 abbrev pub strandOf : List ℕ → List ℕ → Strand
-strandOf class width = record { mix = mixOf class; string = strOf width }
+strandOf class width = record { sort = sortOf class; string = strOf width }
 
 abbrev pub firstOf : List ℕ → List ℕ → ℕ
 firstOf runs width = getD (map sum (split runs width)) 0 0
 
 abbrev pub runStrandOf : ℕ → List ℕ → List ℕ → List ℕ → RunStrand
-runStrandOf em class width runs = record { mix = mixOf class; string = strOf width; first = firstOf runs width; runs = runsOf em runs width }
+runStrandOf em class width runs = record { sort = sortOf class; string = strOf width; first = firstOf runs width; runs = runsOf em runs width }
 
 abbrev pub givenBase : Form → Given → Base
 givenBase form w = baseOf form (w .em) (w .class) (w .width) (w .before) (w .after)
@@ -91,34 +91,54 @@ unfoldable pub groupBy : ℕ → Ratios → ℕ → Base → Strand → Answer
 unfolding groupFrom
 groupBy place h em b r =
     cond (b .blank) (Refused (BlankInside place))
-    (cond (mixedBy (b .mix) || mixedBy (r .mix)) (Refused (Mixed place))
-    (cond (r .mix .western && b .mix .western) (Refused (WesternOver place))
-    (Set (groupFrom (scriptBy (r .mix)) (scriptBy (b .mix)) h em (b .string) (r .string)))))
+    (cond (isMixed (b .sort) || isMixed (r .sort)) (Refused (Mixed place))
+    (cond (isWestern (r .sort) && isWestern (b .sort)) (Refused (WesternOver place))
+    (Set (groupFrom (scriptOf (r .sort)) (scriptOf (b .sort)) h em (b .string) (r .string)))))
+
+-- of a string that is no mixture
+script-sort : (cs : List ℕ) → isMixed (sortOf cs) ≡ false → cond (any western cs) script.Western script.Kana ≡ scriptOf (sortOf cs)
+script-sort cs e = ap (λ t. cond t script.Western script.Kana) (western-sort cs e)
 
 pub group-by : (place : ℕ) (w : Given) → answer G place w ≡ groupBy place (w .ratios) (w .em) (givenBase G w) (strandOf (w .rubyClass) (w .rubyWidth))
-unfolding answer groupBy wordOf mixOf
-group-by place w = rw (group-from (cond (any western (w .rubyClass)) script.Western script.Kana) (cond (any western (w .class)) script.Western script.Kana) (w .ratios) (w .em) (w .width) (w .rubyWidth))
+unfolding answer groupBy wordOf
+group-by place w =
+    rw (mixed-sort (w .class), mixed-sort (w .rubyClass))
+    (go (any (other 0) (w .before) || any (other 0) (w .after)) (isMixed (sortOf (w .class))) (isMixed (sortOf (w .rubyClass))) refl refl)
+  where
+    set : Script → Script → Answer
+    set r b = Set (groupFrom r b (w .ratios) (w .em) (strOf (w .width)) (strOf (w .rubyWidth)))
+
+    go : (blank m n : Bool) → isMixed (sortOf (w .class)) ≡ m → isMixed (sortOf (w .rubyClass)) ≡ n →
+        cond blank (Refused (BlankInside place)) (cond (m || n) (Refused (Mixed place)) (cond (any western (w .rubyClass) && any western (w .class)) (Refused (WesternOver place))
+        (Set (groupWord (cond (any western (w .rubyClass)) script.Western script.Kana) (cond (any western (w .class)) script.Western script.Kana) (w .ratios) (w .em) (w .width) (w .rubyWidth)))))
+        ≡ cond blank (Refused (BlankInside place)) (cond (m || n) (Refused (Mixed place))
+        (cond (isWestern (sortOf (w .rubyClass)) && isWestern (sortOf (w .class))) (Refused (WesternOver place)) (set (scriptOf (sortOf (w .rubyClass))) (scriptOf (sortOf (w .class))))))
+    go true m n e f = refl
+    go false true n e f = refl
+    go false false true e f = refl
+    go false false false e f =
+        rw (western-sort (w .class) e, western-sort (w .rubyClass) f, group-from (scriptOf (sortOf (w .rubyClass))) (scriptOf (sortOf (w .class))) (w .ratios) (w .em) (w .width) (w .rubyWidth))
 
 -- J: numbers 7, 8 and 9. Once 8 has passed its base is kana-like throughout, so 9 is about its ruby alone.
-unfoldable pub jukugoJudged : ℕ → Base → Mix → Row
+unfoldable pub jukugoJudged : ℕ → Base → Sort → Row
 jukugoJudged place b r =
     cond (b .blank) (Holds (BlankInside place))
-    (cond (notKanaBy (b .mix) || b .uneven) (Holds (JukugoBase place))
-    (cond (mixedBy r) (Holds (Mixed place))
+    (cond (notKana (b .sort) || b .uneven) (Holds (JukugoBase place))
+    (cond (isMixed r) (Holds (Mixed place))
     None))
 
 abbrev pub answeredBy : Row → Word → Answer
 answeredBy None w = Set w
 answeredBy (Holds why) w = Refused why
 
-pub jukugo-judged : (place : ℕ) (w : Given) → answer J place w ≡ answeredBy (jukugoJudged place (givenBase J w) (mixOf (w .rubyClass))) (wordOf J w)
-unfolding answer jukugoJudged mixOf
+pub jukugo-judged : (place : ℕ) (w : Given) → answer J place w ≡ answeredBy (jukugoJudged place (givenBase J w) (sortOf (w .rubyClass))) (wordOf J w)
+unfolding answer jukugoJudged
 jukugo-judged place w =
-    rw (any-not-kana (w .class))
-    (go (any (other 0) (w .before) || any (other 0) (w .after)) (notKanaBy (mixOf (w .class))) (any (other (w .em)) (w .width)) (mixed (w .class)) (mixed (w .rubyClass)) unmixed)
+    rw (kana-sort (w .class), mixed-sort (w .rubyClass))
+    (go (any (other 0) (w .before) || any (other 0) (w .after)) (notKana (sortOf (w .class))) (any (other (w .em)) (w .width)) (mixed (w .class)) (isMixed (sortOf (w .rubyClass))) unmixed)
   where
-    unmixed : notKanaBy (mixOf (w .class)) ≡ false → mixed (w .class) ≡ false
-    unmixed e = kana-unmixed (w .class) (any-not-kana (w .class) ∙ e)
+    unmixed : notKana (sortOf (w .class)) ≡ false → mixed (w .class) ≡ false
+    unmixed e = kana-unmixed (w .class) (kana-sort (w .class) ∙ e)
 
     go : (blank n u c r : Bool) → (n ≡ false → c ≡ false) →
         cond blank (Refused (BlankInside place)) (cond (n || u) (Refused (JukugoBase place)) (cond (c || r) (Refused (Mixed place)) (Set (wordOf J w))))
@@ -129,9 +149,9 @@ jukugo-judged place w =
     go false false false c true h = rw (h refl)
     go false false false c false h = rw (h refl)
 
-pub judged-even : (place : ℕ) (b : Base) (r : Mix) → jukugoJudged place b r ≡ None → b .uneven ≡ false
+pub judged-even : (place : ℕ) (b : Base) (r : Sort) → jukugoJudged place b r ≡ None → b .uneven ≡ false
 unfolding jukugoJudged
-judged-even place b r e = go (b .blank) (notKanaBy (b .mix)) (b .uneven) (mixedBy r) e
+judged-even place b r e = go (b .blank) (notKana (b .sort)) (b .uneven) (isMixed r) e
   where
     go : (blank n u c : Bool) → cond blank (Holds (BlankInside place)) (cond (n || u) (Holds (JukugoBase place)) (cond c (Holds (Mixed place)) None)) ≡ None → u ≡ false
     go blank n false c e = refl
@@ -147,7 +167,7 @@ singleFrom r h em base ruby =
 
 unfoldable pub singleBy : ℕ → Ratios → ℕ → Base → Strand → Answer
 unfolding jukugoJudged singleFrom
-singleBy place h em b r = answeredBy (jukugoJudged place b (r .mix)) (singleFrom (scriptBy (r .mix)) h em (b .string) (r .string))
+singleBy place h em b r = answeredBy (jukugoJudged place b (r .sort)) (singleFrom (scriptOf (r .sort)) h em (b .string) (r .string))
 
 single-word : (r : Script) (h : Ratios) (em : ℕ) (bs rs : List ℕ) → jukugoWord r h em bs (length rs ∷ []) rs ≡ singleFrom r h em (strOf bs) (strOf rs)
 unfolding jukugoWord singleFrom overEach
@@ -159,15 +179,31 @@ single-word r h em bs rs = rw (take-length rs) (go (ltb em (sum rs)))
     go true = group-from r script.Kana h em bs rs
     go false = refl
 
+-- a judgement that passes leaves no mixture
+judged-unmixed : (place : ℕ) (b : Base) (r : Sort) → jukugoJudged place b r ≡ None → isMixed r ≡ false
+unfolding jukugoJudged
+judged-unmixed place b r e = go (b .blank) (notKana (b .sort) || b .uneven) (isMixed r) e
+  where
+    go : (blank j c : Bool) → cond blank (Holds (BlankInside place)) (cond j (Holds (JukugoBase place)) (cond c (Holds (Mixed place)) None)) ≡ None → c ≡ false
+    go blank j false e = refl
+    go true j true e = absurd (let z : _≡_ {A = ℕ} 0 1 = cc in omega arith)
+    go false true true e = absurd (let z : _≡_ {A = ℕ} 0 1 = cc in omega arith)
+    go false false true e = absurd (let z : _≡_ {A = ℕ} 0 1 = cc in omega arith)
+
+-- the word matters only where no row holds
+same-word : (q : Row) {u v : Word} → (q ≡ None → u ≡ v) → answeredBy q u ≡ answeredBy q v
+same-word None h = ap Set (h refl)
+same-word (Holds why) h = refl
+
 pub single-by : (place : ℕ) (w : Given) → w .run ≡ length (w .rubyWidth) ∷ [] → answer J place w ≡ singleBy place (w .ratios) (w .em) (givenBase J w) (strandOf (w .rubyClass) (w .rubyWidth))
-unfolding singleBy wordOf mixOf
+unfolding singleBy wordOf
 single-by place w e =
     jukugo-judged place w
-    ∙ ap (answeredBy (jukugoJudged place (givenBase J w) (mixOf (w .rubyClass))))
-    (ap (λ runs. jukugoWord r (w .ratios) (w .em) (w .width) runs (w .rubyWidth)) e ∙ single-word r (w .ratios) (w .em) (w .width) (w .rubyWidth))
-  where
-    r : Script
-    r = cond (any western (w .rubyClass)) script.Western script.Kana
+    ∙ same-word (jukugoJudged place (givenBase J w) (sortOf (w .rubyClass)))
+    (λ q.
+    ap (λ runs. jukugoWord (cond (any western (w .rubyClass)) script.Western script.Kana) (w .ratios) (w .em) (w .width) runs (w .rubyWidth)) e
+    ∙ single-word (cond (any western (w .rubyClass)) script.Western script.Kana) (w .ratios) (w .em) (w .width) (w .rubyWidth)
+    ∙ ap (λ s. singleFrom s (w .ratios) (w .em) (strOf (w .width)) (strOf (w .rubyWidth))) (script-sort (w .rubyClass) (judged-unmixed place (givenBase J w) (sortOf (w .rubyClass)) q)))
 
 -- The word with a left reading, by the strings of its base and either reading, and what is known of their runs.
 
@@ -199,26 +235,26 @@ overBoth em B group first firstLeft (Fit x) (Fit y) =
 unfoldable pub jukugosFrom : Left → Ratios → ℕ → Str → RunStrand → RunStrand → Word
 unfolding sided
 jukugosFrom left h em base r l =
-    let group = groupsWord (scriptBy (r .mix)) (scriptBy (l .mix)) script.Kana h em base (r .string) (l .string) in
+    let group = groupsWord (scriptOf (r .sort)) (scriptOf (l .sort)) script.Kana h em base (r .string) (l .string) in
     cond (isGroup left) group (overBoth em (base .width) group (r .first) (l .first) (r .runs) (l .runs))
 
 unfoldable pub twoFrom : Form → Left → Ratios → ℕ → Base → RunStrand → RunStrand → Word
 unfolding plain sided jukugosFrom
 twoFrom P left h em b r l = plain (b .string .width)
 twoFrom M left h em b r l = monosWord h em (b .string) (r .string) (l .string)
-twoFrom G left h em b r l = groupsWord (scriptBy (r .mix)) (scriptBy (l .mix)) (scriptBy (b .mix)) h em (b .string) (r .string) (l .string)
+twoFrom G left h em b r l = groupsWord (scriptOf (r .sort)) (scriptOf (l .sort)) (scriptOf (b .sort)) h em (b .string) (r .string) (l .string)
 twoFrom J left h em b r l = jukugosFrom left h em (b .string) r l
 
 unfoldable pub bothBy : Form → Left → ℕ → Ratios → ℕ → Base → RunStrand → RunStrand → Answer
 unfolding rowOf twoFrom
-bothBy form left place h em b r l = answeredBy (rowOf form place (b .blank) (b .mix) (b .uneven) (r .mix) (l .mix)) (twoFrom form left h em b r l)
+bothBy form left place h em b r l = answeredBy (rowOf form place (b .blank) (b .sort) (b .uneven) (r .sort) (l .sort)) (twoFrom form left h em b r l)
 
 -- past all rows a J's base characters are one em wide each
-pub rows-even : (form : Form) (place : ℕ) (blank : Bool) (b : Mix) (uneven : Bool) (r l : Mix) → isJ form ≡ true → rowOf form place blank b uneven r l ≡ None → uneven ≡ false
+pub rows-even : (form : Form) (place : ℕ) (blank : Bool) (b : Sort) (uneven : Bool) (r l : Sort) → isJ form ≡ true → rowOf form place blank b uneven r l ≡ None → uneven ≡ false
 unfolding rowOf
 rows-even form place blank b uneven r l j e =
-    go (isJ form) blank (notKanaBy b) uneven ((isG form || isJ form) && ((mixedBy b || mixedBy r) || mixedBy l))
-    (isG form && ((r .western && b .western) || (l .western && b .western))) j e
+    go (isJ form) blank (notKana b) uneven ((isG form || isJ form) && ((isMixed b || isMixed r) || isMixed l))
+    (isG form && ((isWestern r && isWestern b) || (isWestern l && isWestern b))) j e
   where
     go : (j blank n u c d : Bool) → j ≡ true →
         cond blank (Holds (BlankInside place)) (cond (j && (n || u)) (Holds (JukugoBase place)) (cond c (Holds (Mixed place)) (cond d (Holds (WesternOver place)) None))) ≡ None → u ≡ false
@@ -235,15 +271,24 @@ module _ (w : Given) (g : Gloss) where
   abbrev left : RunStrand
   left = runStrandOf (w .em) (g .class) (g .width) (g .run)
 
-  two-from : (form : Form) → wordTwo form w g ≡ twoFrom form (g .kind) (w .ratios) (w .em) (givenBase form w) right left
-  unfolding wordTwo twoBy twoFrom mixOf jukugosBy jukugosWord jukugosFrom runsOf
-  two-from P = refl
-  two-from M = refl
-  two-from G = refl
-  two-from J = go (isGroup (g .kind)) (anyLonger (w .em) (split (w .run) (w .rubyWidth))) (anyLonger (w .em) (split (g .run) (g .width)))
+  -- the word, where 9 has let its strings pass
+  two-from : (form : Form) → ((isG form || isJ form) && ((isMixed (sortOf (w .class)) || isMixed (sortOf (w .rubyClass))) || isMixed (sortOf (g .class)))) ≡ false →
+      wordTwo form w g ≡ twoFrom form (g .kind) (w .ratios) (w .em) (givenBase form w) right left
+  unfolding wordTwo twoBy twoFrom jukugosBy jukugosWord jukugosFrom runsOf
+  two-from P e = refl
+  two-from M e = refl
+  two-from G e =
+      let p = or-none (isMixed (sortOf (w .class)) || isMixed (sortOf (w .rubyClass))) (isMixed (sortOf (g .class))) e in
+      let q = or-none (isMixed (sortOf (w .class))) (isMixed (sortOf (w .rubyClass))) (p .0) in
+      rw (western-sort (w .class) (q .0), western-sort (w .rubyClass) (q .1), western-sort (g .class) (p .1))
+  two-from J e =
+      let p = or-none (isMixed (sortOf (w .class)) || isMixed (sortOf (w .rubyClass))) (isMixed (sortOf (g .class))) e in
+      let q = or-none (isMixed (sortOf (w .class))) (isMixed (sortOf (w .rubyClass))) (p .0) in
+      rw (western-sort (w .rubyClass) (q .1), western-sort (g .class) (p .1))
+      (go (isGroup (g .kind)) (anyLonger (w .em) (split (w .run) (w .rubyWidth))) (anyLonger (w .em) (split (g .run) (g .width))))
     where
       group : Word
-      group = groupsWord (scriptBy (mixOf (w .rubyClass))) (scriptBy (mixOf (g .class))) script.Kana (w .ratios) (w .em) (strOf (w .width)) (strOf (w .rubyWidth)) (strOf (g .width))
+      group = groupsWord (scriptOf (sortOf (w .rubyClass))) (scriptOf (sortOf (g .class))) script.Kana (w .ratios) (w .em) (strOf (w .width)) (strOf (w .rubyWidth)) (strOf (g .width))
 
       lasts : List ℕ → List ℕ → ℕ
       lasts runs ws = lastOr 0 (map sum (split runs ws))
@@ -267,12 +312,27 @@ module _ (w : Given) (g : Gloss) where
       go false false false = refl
 
   -- the row that holds does not ask for widths but of a J
-  same-row : (form : Form) (place : ℕ) (blank : Bool) (b : Mix) (u : Bool) (r l : Mix) → rowOf form place blank b u r l ≡ rowOf form place blank b (isJ form && u) r l
+  same-row : (form : Form) (place : ℕ) (blank : Bool) (b : Sort) (u : Bool) (r l : Sort) → rowOf form place blank b u r l ≡ rowOf form place blank b (isJ form && u) r l
   unfolding rowOf
   same-row P place blank b u r l = refl
   same-row M place blank b u r l = refl
   same-row G place blank b u r l = refl
   same-row J place blank b u r l = refl
+
+  -- and where none holds 9 has passed
+  row-unmixed : (form : Form) (place : ℕ) (blank : Bool) (b : Sort) (u : Bool) (r l : Sort) → rowOf form place blank b u r l ≡ None →
+      ((isG form || isJ form) && ((isMixed b || isMixed r) || isMixed l)) ≡ false
+  unfolding rowOf
+  row-unmixed form place blank b u r l e =
+      go blank (isJ form && (notKana b || u)) ((isG form || isJ form) && ((isMixed b || isMixed r) || isMixed l))
+      (isG form && ((isWestern r && isWestern b) || (isWestern l && isWestern b))) e
+    where
+      go : (blank j c d : Bool) →
+          cond blank (Holds (BlankInside place)) (cond j (Holds (JukugoBase place)) (cond c (Holds (Mixed place)) (cond d (Holds (WesternOver place)) None))) ≡ None → c ≡ false
+      go blank j false d e = refl
+      go true j true d e = absurd (let z : _≡_ {A = ℕ} 0 1 = cc in omega arith)
+      go false true true d e = absurd (let z : _≡_ {A = ℕ} 0 1 = cc in omega arith)
+      go false false true d e = absurd (let z : _≡_ {A = ℕ} 0 1 = cc in omega arith)
 
   pub both-by : (form : Form) (place : ℕ) → hasRuby form ≡ true → hasLeft (g .kind) ≡ true →
       answerBoth form place w g ≡ bothBy form (g .kind) place (w .ratios) (w .em) (givenBase form w) right left
@@ -280,11 +340,13 @@ module _ (w : Given) (g : Gloss) where
   both-by form place ruby here =
       let blank = any (other 0) (w .before) || any (other 0) (w .after) in
       let u = any (other (w .em)) (w .width) in
+      let q = rowOf form place blank (sortOf (w .class)) u (sortOf (w .rubyClass)) (sortOf (g .class)) in
       by-row form place w g ruby
-      ∙ by (rowOf form place blank (mixOf (w .class)) u (mixOf (w .rubyClass)) (mixOf (g .class)))
-      ∙ ap (λ q. answeredBy q (twoFrom form (g .kind) (w .ratios) (w .em) (givenBase form w) right left))
-      (same-row form place blank (mixOf (w .class)) u (mixOf (w .rubyClass)) (mixOf (g .class)))
+      ∙ by q
+      ∙ same-word q (λ e. rw here (two-from form (row-unmixed form place blank (sortOf (w .class)) u (sortOf (w .rubyClass)) (sortOf (g .class)) e)))
+      ∙ ap (λ z. answeredBy z (twoFrom form (g .kind) (w .ratios) (w .em) (givenBase form w) right left))
+      (same-row form place blank (sortOf (w .class)) u (sortOf (w .rubyClass)) (sortOf (g .class)))
     where
-      by : (q : Row) → answered form place w g ruby q ≡ answeredBy q (twoFrom form (g .kind) (w .ratios) (w .em) (givenBase form w) right left)
-      by None = ap Set (rw here (two-from form))
+      by : (q : Row) → answered form place w g ruby q ≡ answeredBy q (sides.wordOf form w g)
+      by None = refl
       by (Holds why) = refl

@@ -18,7 +18,7 @@ ghost use Rattle.word.specs.Given.{isJ};
 ghost use Rattle.word.specs.Sides.{strOf};
 ghost use Rattle.word.specs.Summed.{baseOf, strandOf, runStrandOf, monoBy, groupFrom, groupBy, jukugoJudged, singleFrom, singleBy};
 ghost use Rattle.class.specs.Class.{kanaLike};
-ghost use Rattle.word.specs.Kinds.{mixOf, mixedBy, scriptBy, notKanaBy, with};
+ghost use Rattle.word.specs.Kinds.{mixOf, mixedBy, with, sortBy, sortOf, isMixed, notKana, isWestern, scriptOf};
 ghost use Rattle.word.specs.declared.Answer.the-variants.{Set};
 ghost use Rattle.word.specs.Runs.{runsOf};
 
@@ -78,22 +78,22 @@ pub struct Str {
     pub count: u32,
 }
 
-// What level one asks of a word's base: whether some blank field is not 0 (number 7), the kinds of its characters (8 to 10), of a J whether one is not one em wide (8), and its string.
+// What level one asks of a word's base: whether some blank field is not 0 (number 7), what it is made of (8 to 10), of a J whether one is not one em wide (8), and its string.
 pub struct Base {
     pub blank: bool,
-    pub mix: Mix,
+    pub sort: Sort,
     pub uneven: bool,
     pub string: Str,
 }
 
 // What it asks of a reading; `RunStrand`, where it may be laid by runs, also for the length of the first run and whether one is longer than one em.
 pub struct Strand {
-    pub mix: Mix,
+    pub sort: Sort,
     pub string: Str,
 }
 
 pub struct RunStrand {
-    pub mix: Mix,
+    pub sort: Sort,
     pub string: Str,
     pub first: u32,
     pub runs: Runs,
@@ -115,6 +115,14 @@ pub enum Row {
 pub enum Script {
     Kana,
     Western,
+}
+
+// What a string is made of: kana-like characters alone; Western ones, and no kana-like; a mixture, which number 9 refuses; anything else, of which no job has any.
+pub enum Sort {
+    Kana,
+    Western,
+    Mixed,
+    Other,
 }
 
 // The kinds that a string has; `outside` are those that no job may have.
@@ -195,23 +203,8 @@ fn mix_by_kinds(cs: &[u32]) -> Mix
     m
 }
 
-// The kinds of a string's characters. Most strings are kana-like throughout.
-pub fn mix_of(cs: &[u32]) -> Mix
-    ensures { λ r. ⌜ r ≡ mixOf (was cs) ⌝ }
-{
-    if all_kana(cs) {
-        return Mix {
-            kana: 0 < cs.len(),
-            western: false,
-            space: false,
-            outside: false,
-        };
-    }
-    mix_by_kinds(cs)
-}
-
-// Number 9 of one string.
-fn is_mixed(m: Mix) -> bool
+// Number 9 of one string, by the kinds that it has.
+fn mixes(m: Mix) -> bool
     ensures { λ r. ⌜ r ≡ mixedBy m ⌝ }
 {
     let space = m.space;
@@ -222,27 +215,76 @@ fn is_mixed(m: Mix) -> bool
     if western { m.kana } else { false }
 }
 
-// Some character is not kana-like.
-fn not_kana(m: Mix) -> bool
-    ensures { λ r. ⌜ r ≡ notKanaBy m ⌝ }
+// What a string with these kinds is made of.
+fn sort_by(m: Mix) -> Sort
+    ensures { λ s. ⌜ s ≡ sortBy m ⌝ }
 {
-    let western = m.western;
-    let space = m.space;
-    if western {
-        return true;
+    if mixes(m) {
+        return Sort::Mixed;
     }
-    if space { true } else { m.outside }
+    let western = m.western;
+    if western {
+        return Sort::Western;
+    }
+    let outside = m.outside;
+    if outside {
+        return Sort::Other;
+    }
+    Sort::Kana
 }
 
-fn script_of(m: Mix) -> Script
-    ensures { λ r. ⌜ r ≡ scriptBy m ⌝ }
+// What a string is made of. Most are kana-like throughout.
+pub fn sort_of(cs: &[u32]) -> Sort
+    ensures { λ s. ⌜ s ≡ sortOf (was cs) ⌝ }
 {
-    let western = m.western;
-    if western {
-        Script::Western
-    } else {
-        Script::Kana
+    if all_kana(cs) {
+        return Sort::Kana;
     }
+    sort_by(mix_by_kinds(cs))
+}
+
+// Number 9 of one string.
+fn is_mixed(s: Sort) -> bool
+    ensures { λ r. ⌜ r ≡ isMixed s ⌝ }
+{
+    match s {
+        Sort::Kana => false,
+        Sort::Western => false,
+        Sort::Mixed => true,
+        Sort::Other => false,
+    }
+}
+
+// Some character is not kana-like.
+fn not_kana(s: Sort) -> bool
+    ensures { λ r. ⌜ r ≡ notKana s ⌝ }
+{
+    match s {
+        Sort::Kana => false,
+        Sort::Western => true,
+        Sort::Mixed => true,
+        Sort::Other => true,
+    }
+}
+
+fn is_western(s: Sort) -> bool
+    ensures { λ r. ⌜ r ≡ isWestern s ⌝ }
+{
+    match s {
+        Sort::Kana => false,
+        Sort::Western => true,
+        Sort::Mixed => false,
+        Sort::Other => false,
+    }
+}
+
+fn script_of(s: Sort) -> Script
+    ensures { λ r. ⌜ r ≡ scriptOf s ⌝ }
+{
+    if is_western(s) {
+        return Script::Western;
+    }
+    Script::Kana
 }
 
 // How the ruby of a G is set where it is the shorter.
@@ -441,12 +483,14 @@ pub fn blank_inside(before: &[u32], after: &[u32]) -> bool
     false
 }
 
-// Number 10, by the kinds of ruby and base.
-fn western_over(r: Mix, b: Mix) -> bool
-    ensures { λ t. ⌜ t ≡ (r .western && b .western) ⌝ }
+// Number 10, by what ruby and base are made of.
+fn western_over(r: Sort, b: Sort) -> bool
+    ensures { λ t. ⌜ t ≡ (isWestern r && isWestern b) ⌝ }
 {
-    let over = r.western;
-    if over { b.western } else { false }
+    if is_western(r) {
+        return is_western(b);
+    }
+    false
 }
 
 // A P: its word.
@@ -486,12 +530,12 @@ pub fn base_of(form: Form, em: u32, bc: &[u32], bs: &[u32], before: &[u32], afte
     ensures { λ b. ⌜ b ≡ baseOf form em (was bc) (was bs) (was before) (was after) ⌝ }
 {
     let blank = blank_inside(before, after);
-    let mix = mix_of(bc);
+    let sort = sort_of(bc);
     let uneven = is_uneven(form, em, bs);
     let string = str_of(bs);
     Base {
         blank,
-        mix,
+        sort,
         uneven,
         string,
     }
@@ -502,21 +546,21 @@ pub fn strand_of(cs: &[u32], ws: &[u32]) -> Strand
     requires { ⌜ (length (now ws) ≤ 64) × (sum (now ws) < 2 ^ 32) ⌝ }
     ensures { λ r. ⌜ r ≡ strandOf (was cs) (was ws) ⌝ }
 {
-    let mix = mix_of(cs);
+    let sort = sort_of(cs);
     let string = str_of(ws);
-    Strand { mix, string }
+    Strand { sort, string }
 }
 
 pub fn run_strand_of(em: u32, cs: &[u32], ws: &[u32], runs: &[u32]) -> RunStrand
     requires { ⌜ (length (now ws) ≤ 64) × (sum (now ws) < 2 ^ 32) × (sum (now runs) ≤ length (now ws)) ⌝ }
     ensures { λ r. ⌜ r ≡ runStrandOf em (was cs) (was ws) (was runs) ⌝ }
 {
-    let mix = mix_of(cs);
+    let sort = sort_of(cs);
     let string = str_of(ws);
     let first = first_run(runs, ws);
     let fit = runs_in(em, runs, ws);
     RunStrand {
-        mix,
+        sort,
         string,
         first,
         runs: fit,
@@ -543,11 +587,11 @@ pub fn group_answer(place: u32, ratios: [[u32; 3]; 2], em: u32, base: Base, ruby
     if blank {
         return Answer::Refused(refusal::Refusal::BlankInside(place));
     }
-    let b = base.mix;
+    let b = base.sort;
     if is_mixed(b) {
         return Answer::Refused(refusal::Refusal::Mixed(place));
     }
-    let r = ruby.mix;
+    let r = ruby.sort;
     if is_mixed(r) {
         return Answer::Refused(refusal::Refusal::Mixed(place));
     }
@@ -561,14 +605,14 @@ pub fn group_answer(place: u32, ratios: [[u32; 3]; 2], em: u32, base: Base, ruby
 
 // Numbers 7, 8 and 9 of a J. Once 8 has passed its base is kana-like throughout, so 9 is about its ruby alone. A J of two characters or more is asked no more than this: it is measured
 // by its runs, where they are written.
-pub fn judge_jukugo(place: u32, base: Base, ruby: Mix) -> Row
+pub fn judge_jukugo(place: u32, base: Base, ruby: Sort) -> Row
     ensures { λ r. ⌜ r ≡ jukugoJudged place base ruby ⌝ }
 {
     let blank = base.blank;
     if blank {
         return Row::Holds(refusal::Refusal::BlankInside(place));
     }
-    let b = base.mix;
+    let b = base.sort;
     if not_kana(b) {
         return Row::Holds(refusal::Refusal::JukugoBase(place));
     }
@@ -605,7 +649,7 @@ pub fn single_answer(place: u32, ratios: [[u32; 3]; 2], em: u32, base: Base, rub
     requires { ⌜ (Measured (base .string .width) (base .string .count) (ruby .string .width) (ruby .string .count)) × (Housed (ratiosOf ratios)) × (base .uneven ≡ false → em ≤ base .string .width) ⌝ }
     ensures { λ a. ⌜ a ≡ singleBy place (ratiosOf ratios) em base ruby ⌝ }
 {
-    let r = ruby.mix;
+    let r = ruby.sort;
     match judge_jukugo(place, base, r) {
         Row::Holds(why) => Answer::Refused(why),
         Row::None => {

@@ -5,7 +5,7 @@ ghost use Prim.Native.Nat.{_+_, _*_, _≤_, _<_};
 ghost use lib.Dec.{leb};
 ghost use Rattle.word.specs.Given.{isG, isJ};
 ghost use Rattle.word.specs.Both.{isGroup};
-ghost use Rattle.word.specs.Kinds.{notKanaBy, mixedBy};
+ghost use Rattle.word.specs.Kinds.{notKana, isMixed, isWestern};
 ghost use Rattle.word.specs.Rows.{rowOf};
 ghost use Rattle.word.specs.Summed.{RunsFit, JukugosReady, jukugosFrom, twoFrom, bothBy};
 ghost use Rattle.spread.specs.Ratio.{ratiosOf, Housed};
@@ -17,12 +17,12 @@ use super::Answer;
 use super::Base;
 use super::Form;
 use super::Left;
-use super::Mix;
 use super::Reading;
 use super::Row;
 use super::RunStrand;
 use super::Runs;
 use super::Script;
+use super::Sort;
 use super::Str;
 use super::Word;
 use refusal::Refusal;
@@ -163,8 +163,10 @@ fn jukugos_from(
 {
     let over = r.string;
     let under = l.string;
-    let right = super::script_of(r.mix);
-    let below = super::script_of(l.mix);
+    let over_sort = r.sort;
+    let under_sort = l.sort;
+    let right = super::script_of(over_sort);
+    let below = super::script_of(under_sort);
     let group = groups_of(right, below, Script::Kana, ratios, em, base, over, under);
     if is_group(left) {
         return group;
@@ -188,8 +190,8 @@ fn jukugos_from(
     }
 }
 
-fn any_mixed(b: Mix, r: Mix, l: Mix) -> bool
-    ensures { λ t. ⌜ t ≡ ((mixedBy b || mixedBy r) || mixedBy l) ⌝ }
+fn any_mixed(b: Sort, r: Sort, l: Sort) -> bool
+    ensures { λ t. ⌜ t ≡ ((isMixed b || isMixed r) || isMixed l) ⌝ }
 {
     if super::is_mixed(b) {
         return true;
@@ -200,9 +202,9 @@ fn any_mixed(b: Mix, r: Mix, l: Mix) -> bool
     super::is_mixed(l)
 }
 
-// Number 8, by the kinds of the base.
-fn base_wrong(form: Form, b: Mix, uneven: bool) -> bool
-    ensures { λ r. ⌜ r ≡ (isJ form && (notKanaBy b || uneven)) ⌝ }
+// Number 8, by what the base is made of.
+fn base_wrong(form: Form, b: Sort, uneven: bool) -> bool
+    ensures { λ r. ⌜ r ≡ (isJ form && (notKana b || uneven)) ⌝ }
 {
     match form {
         Form::P => false,
@@ -218,8 +220,8 @@ fn base_wrong(form: Form, b: Mix, uneven: bool) -> bool
 }
 
 // Number 9 of base and either reading, right first.
-fn strings_mixed(form: Form, b: Mix, r: Mix, l: Mix) -> bool
-    ensures { λ t. ⌜ t ≡ ((isG form || isJ form) && ((mixedBy b || mixedBy r) || mixedBy l)) ⌝ }
+fn strings_mixed(form: Form, b: Sort, r: Sort, l: Sort) -> bool
+    ensures { λ t. ⌜ t ≡ ((isG form || isJ form) && ((isMixed b || isMixed r) || isMixed l)) ⌝ }
 {
     match form {
         Form::P => false,
@@ -230,8 +232,8 @@ fn strings_mixed(form: Form, b: Mix, r: Mix, l: Mix) -> bool
 }
 
 // Number 10 of either reading.
-fn western_reading(form: Form, b: Mix, r: Mix, l: Mix) -> bool
-    ensures { λ t. ⌜ t ≡ (isG form && ((r .western && b .western) || (l .western && b .western))) ⌝ }
+fn western_reading(form: Form, b: Sort, r: Sort, l: Sort) -> bool
+    ensures { λ t. ⌜ t ≡ (isG form && ((isWestern r && isWestern b) || (isWestern l && isWestern b))) ⌝ }
 {
     match form {
         Form::P => false,
@@ -247,14 +249,14 @@ fn western_reading(form: Form, b: Mix, r: Mix, l: Mix) -> bool
 }
 
 // The first of numbers 7 to 10 that holds of a word with readings on both sides.
-fn row_of(form: Form, place: u32, base: Base, r: Mix, l: Mix) -> Row
-    ensures { λ q. ⌜ q ≡ rowOf form place (base .blank) (base .mix) (base .uneven) r l ⌝ }
+fn row_of(form: Form, place: u32, base: Base, r: Sort, l: Sort) -> Row
+    ensures { λ q. ⌜ q ≡ rowOf form place (base .blank) (base .sort) (base .uneven) r l ⌝ }
 {
     let blank = base.blank;
     if blank {
         return Row::Holds(Refusal::BlankInside(place));
     }
-    let b = base.mix;
+    let b = base.sort;
     if base_wrong(form, b, base.uneven) {
         return Row::Holds(Refusal::JukugoBase(place));
     }
@@ -287,9 +289,12 @@ fn two_from(
         Form::P => super::plain_of(b.width),
         Form::M => monos_of(ratios, em, b, over, under),
         Form::G => {
-            let right = super::script_of(r.mix);
-            let below = super::script_of(l.mix);
-            let beside = super::script_of(base.mix);
+            let over_sort = r.sort;
+            let under_sort = l.sort;
+            let base_sort = base.sort;
+            let right = super::script_of(over_sort);
+            let below = super::script_of(under_sort);
+            let beside = super::script_of(base_sort);
             groups_of(right, below, beside, ratios, em, b, over, under)
         }
         Form::J => jukugos_from(left, ratios, em, b, r, l),
@@ -310,7 +315,9 @@ pub fn both_answer(
     requires { ⌜ (Strings (base .string) (r .string) (l .string)) × (Housed (ratiosOf ratios)) × (isJ form ≡ true → JukugosReady em base r l) ⌝ }
     ensures { λ a. ⌜ a ≡ bothBy form left place (ratiosOf ratios) em base r l ⌝ }
 {
-    match row_of(form, place, base, r.mix, l.mix) {
+    let over_sort = r.sort;
+    let under_sort = l.sort;
+    match row_of(form, place, base, over_sort, under_sort) {
         Row::Holds(why) => Answer::Refused(why),
         Row::None => Answer::Set(two_from(form, left, ratios, em, base, r, l)),
     }

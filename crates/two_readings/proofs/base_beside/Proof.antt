@@ -38,20 +38,20 @@ blank-inside-requires c κs =
     let x = a .args in
     base-even (basesOnly (x .em) (x .class .now) (x .width .now) (x .before .now) (x .after .now)) (x .p) (a .pre)
 
-mul-mix-of : tie.Need-mul-mix-of
-mul-mix-of c = search needs
+mul-sort-of : tie.Need-mul-sort-of
+mul-sort-of c = search needs
 
-sub-mix-of : tie.Need-sub-mix-of
-sub-mix-of c = search needs
+sub-sort-of : tie.Need-sub-sort-of
+sub-sort-of c = search needs
 
-part-mix-of-start : tie.Need-part-mix-of-start
-part-mix-of-start c = search needs
+part-sort-of-start : tie.Need-part-sort-of-start
+part-sort-of-start c = search needs
 
-part-mix-of-end : tie.Need-part-mix-of-end
-part-mix-of-end c = search needs
+part-sort-of-end : tie.Need-part-sort-of-end
+part-sort-of-end c = search needs
 
-mix-of-requires : tie.Need-mix-of-requires
-mix-of-requires c κs = search needs
+sort-of-requires : tie.Need-sort-of-requires
+sort-of-requires c κs = search needs
 
 mul-is-uneven : tie.Need-mul-is-uneven
 mul-is-uneven c = search needs
@@ -94,7 +94,7 @@ returns c =
     let b = m .before .before in
     let a = c .before .before .before .before .before .before .before .before .before .before .before .before .before .before in
     let x = a .args in
-    rw (b .blank-inside .ensures, m .mix-of .ensures, u .is-uneven .ensures, c .str-of .ensures)
+    rw (b .blank-inside .ensures, m .sort-of .ensures, u .is-uneven .ensures, c .str-of .ensures)
     (base-lent (basesOnly (x .em) (x .class .now) (x .width .now) (x .before .now) (x .after .now)) (x .p) (a .pre))
 
 pub base-beside-spec : {M : Type 1} → statement M
@@ -111,11 +111,11 @@ base-beside-spec =
     part-blank-inside-start-2
     part-blank-inside-end-2
     blank-inside-requires
-    mul-mix-of
-    sub-mix-of
-    part-mix-of-start
-    part-mix-of-end
-    mix-of-requires
+    mul-sort-of
+    sub-sort-of
+    part-sort-of-start
+    part-sort-of-end
+    sort-of-requires
     mul-is-uneven
     sub-is-uneven
     part-is-uneven-start

@@ -6,8 +6,8 @@ use Rattle.word.proofs.base_of.Tie as tie
 blank-inside-requires : tie.Need-blank-inside-requires
 blank-inside-requires c κs = search needs
 
-mix-of-requires : tie.Need-mix-of-requires
-mix-of-requires c κs = search needs
+sort-of-requires : tie.Need-sort-of-requires
+sort-of-requires c κs = search needs
 
 is-uneven-requires : tie.Need-is-uneven-requires
 is-uneven-requires c κs = search needs
@@ -17,9 +17,9 @@ str-of-requires c κs = search needs
 
 returns : tie.Need-returns
 returns c =
-    rw (c .before .before .before .blank-inside .ensures, c .before .before .mix-of .ensures, c .before .is-uneven .ensures, c .str-of .ensures)
+    rw (c .before .before .before .blank-inside .ensures, c .before .before .sort-of .ensures, c .before .is-uneven .ensures, c .str-of .ensures)
 
 pub base-of-spec : {M : Type 1} → statement M
 base-of-spec =
     tie.close
-    (tie.spec blank-inside-requires mix-of-requires is-uneven-requires str-of-requires returns)
+    (tie.spec blank-inside-requires sort-of-requires is-uneven-requires str-of-requires returns)

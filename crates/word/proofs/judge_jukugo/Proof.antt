@@ -13,11 +13,11 @@ not-kana-requires c κs = search needs
 
 returns-2 : tie.Need-returns-2
 unfolding jukugoJudged
-returns-2 c = rw (c .before .before .before .if1 .left, ← c .before .not-kana .ensures, c .if2 .taken)
+returns-2 c = rw (c .before .before .if1 .left, ← c .before .not-kana .ensures, c .if2 .taken)
 
 returns-3 : tie.Need-returns-3
 unfolding jukugoJudged
-returns-3 c = let n = c .before .before in rw (n .before .before .if1 .left, ← n .not-kana .ensures, c .before .if2 .left, c .if3 .taken)
+returns-3 c = let n = c .before .before in rw (n .before .if1 .left, ← n .not-kana .ensures, c .before .if2 .left, c .if3 .taken)
 
 is-mixed-requires : tie.Need-is-mixed-requires
 is-mixed-requires c κs = search needs
@@ -27,14 +27,14 @@ unfolding jukugoJudged
 returns-4 c =
     let m = c .before in
     let n = m .before .before .before in
-    rw (n .before .before .if1 .left, ← n .not-kana .ensures, m .before .before .if2 .left, m .before .if3 .left, ← m .is-mixed .ensures, c .if4 .taken)
+    rw (n .before .if1 .left, ← n .not-kana .ensures, m .before .before .if2 .left, m .before .if3 .left, ← m .is-mixed .ensures, c .if4 .taken)
 
 returns-5 : tie.Need-returns-5
 unfolding jukugoJudged
 returns-5 c =
     let m = c .before in
     let n = m .before .before .before in
-    rw (n .before .before .if1 .left, ← n .not-kana .ensures, m .before .before .if2 .left, m .before .if3 .left, ← m .is-mixed .ensures, c .if4 .left)
+    rw (n .before .if1 .left, ← n .not-kana .ensures, m .before .before .if2 .left, m .before .if3 .left, ← m .is-mixed .ensures, c .if4 .left)
 
 pub judge-jukugo-spec : {M : Type 1} → statement M
 judge-jukugo-spec =

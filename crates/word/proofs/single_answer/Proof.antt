@@ -2,7 +2,7 @@
 use mathlib.Core.Path.{sym, ap, _∙_}
 use Rattle.word.specs.declared.Answer.the-variants.{Set}
 use Rattle.spread.specs.Ratio.{ratiosOf}
-use Rattle.word.specs.Kinds.{scriptBy}
+use Rattle.word.specs.Kinds.{scriptOf}
 use Rattle.word.specs.Summed.{answeredBy, singleFrom, singleBy, judged-even}
 use borrow.Author.Needs.{needs}
 use Rattle.word.proofs.single_answer.Statement.{statement}
@@ -24,15 +24,15 @@ single-from-requires : tie.Need-single-from-requires
 single-from-requires c κs =
     let e = c .before .before .before in
     let j = e .before .before in
-    let s = j .before .before in
-    (s .pre .0, s .pre .1, s .pre .2 (judged-even (s .args .place) (s .args .base) (s .args .ruby .mix) (sym (j .judge-jukugo .ensures) ∙ e .enum-told .given .1)))
+    let s = j .before in
+    (s .pre .0, s .pre .1, s .pre .2 (judged-even (s .args .place) (s .args .base) (s .args .ruby .sort) (sym (j .judge-jukugo .ensures) ∙ e .enum-told .given .1)))
 
 returns : tie.Need-returns
 unfolding singleBy
 returns c =
     let j = c .before .before .before in
-    let s = j .before .before .args in
-    ap (λ q. answeredBy q (singleFrom (scriptBy (s .ruby .mix)) (ratiosOf (s .ratios)) (s .em) (s .base .string) (s .ruby .string))) (sym (c .before .why .given .1) ∙ j .judge-jukugo .ensures)
+    let s = j .before .args in
+    ap (λ q. answeredBy q (singleFrom (scriptOf (s .ruby .sort)) (ratiosOf (s .ratios)) (s .em) (s .base .string) (s .ruby .string))) (sym (c .before .why .given .1) ∙ j .judge-jukugo .ensures)
 
 returns-2 : tie.Need-returns-2
 unfolding singleBy

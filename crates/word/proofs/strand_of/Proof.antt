@@ -3,14 +3,14 @@ use borrow.Author.Needs.{needs}
 use Rattle.word.proofs.strand_of.Statement.{statement}
 use Rattle.word.proofs.strand_of.Tie as tie
 
-mix-of-requires : tie.Need-mix-of-requires
-mix-of-requires c κs = search needs
+sort-of-requires : tie.Need-sort-of-requires
+sort-of-requires c κs = search needs
 
 str-of-requires : tie.Need-str-of-requires
 str-of-requires c κs = search needs
 
 returns : tie.Need-returns
-returns c = rw (c .before .mix-of .ensures, c .str-of .ensures)
+returns c = rw (c .before .sort-of .ensures, c .str-of .ensures)
 
 pub strand-of-spec : {M : Type 1} → statement M
-strand-of-spec = tie.close (tie.spec mix-of-requires str-of-requires returns)
+strand-of-spec = tie.close (tie.spec sort-of-requires str-of-requires returns)

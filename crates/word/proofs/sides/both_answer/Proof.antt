@@ -23,7 +23,7 @@ two-from-requires c κs =
     let s = r .before in
     let a = s .args in
     let even : isJ (a .form) ≡ true → a .base .uneven ≡ false
-    = λ j. rows-even (a .form) (a .place) (a .base .blank) (a .base .mix) (a .base .uneven) (a .r .mix) (a .l .mix) j (sym (r .row-of .ensures) ∙ c .enum-told .given .1) in
+    = λ j. rows-even (a .form) (a .place) (a .base .blank) (a .base .sort) (a .base .uneven) (a .r .sort) (a .l .sort) j (sym (r .row-of .ensures) ∙ c .enum-told .given .1) in
     (s .pre .0, s .pre .1, λ j. (s .pre .2 j .wide (even j), s .pre .2 j .right, s .pre .2 j .left))
 
 returns : tie.Need-returns

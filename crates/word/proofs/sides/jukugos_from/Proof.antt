@@ -70,8 +70,8 @@ runs-reading-requires-2 c κs =
     let f = s .pre .4 .fit _ (l .before .fits2 .given .1) in
     (f .0, f .1, s .pre .2, s .pre .0 .narrow)
 
-mul-t20 : tie.Need-mul-t20
-mul-t20 c =
+mul-t22 : tie.Need-mul-t22
+mul-t22 c =
     let s = c .before .before .before .before .before .before .before .before .before .before .before .before .before .before .before .before in
     omega (arith, s .pre .0 .narrow)
 
@@ -101,5 +101,5 @@ jukugos-from-spec =
     returns-3
     runs-reading-requires
     runs-reading-requires-2
-    mul-t20
+    mul-t22
     returns-4)

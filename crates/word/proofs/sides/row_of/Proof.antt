@@ -13,7 +13,7 @@ base-wrong-requires c κs = search needs
 
 returns-2 : tie.Need-returns-2
 unfolding rowOf
-returns-2 c = let w = c .before in rw (w .before .before .if1 .left, ← w .base-wrong .ensures, c .if2 .taken)
+returns-2 c = let w = c .before in rw (w .before .if1 .left, ← w .base-wrong .ensures, c .if2 .taken)
 
 strings-mixed-requires : tie.Need-strings-mixed-requires
 strings-mixed-requires c κs = search needs
@@ -23,7 +23,7 @@ unfolding rowOf
 returns-3 c =
     let m = c .before in
     let w = m .before .before in
-    rw (w .before .before .if1 .left, ← w .base-wrong .ensures, m .before .if2 .left, ← m .strings-mixed .ensures, c .if3 .taken)
+    rw (w .before .if1 .left, ← w .base-wrong .ensures, m .before .if2 .left, ← m .strings-mixed .ensures, c .if3 .taken)
 
 western-reading-requires : tie.Need-western-reading-requires
 western-reading-requires c κs = search needs
@@ -34,7 +34,7 @@ returns-4 c =
     let o = c .before in
     let m = o .before .before in
     let w = m .before .before in
-    rw (w .before .before .if1 .left, ← w .base-wrong .ensures, m .before .if2 .left, ← m .strings-mixed .ensures, o .before .if3 .left, ← o .western-reading .ensures, c .if4 .taken)
+    rw (w .before .if1 .left, ← w .base-wrong .ensures, m .before .if2 .left, ← m .strings-mixed .ensures, o .before .if3 .left, ← o .western-reading .ensures, c .if4 .taken)
 
 returns-5 : tie.Need-returns-5
 unfolding rowOf
@@ -42,7 +42,7 @@ returns-5 c =
     let o = c .before in
     let m = o .before .before in
     let w = m .before .before in
-    rw (w .before .before .if1 .left, ← w .base-wrong .ensures, m .before .if2 .left, ← m .strings-mixed .ensures, o .before .if3 .left, ← o .western-reading .ensures, c .if4 .left)
+    rw (w .before .if1 .left, ← w .base-wrong .ensures, m .before .if2 .left, ← m .strings-mixed .ensures, o .before .if3 .left, ← o .western-reading .ensures, c .if4 .left)
 
 pub row-of-spec : {M : Type 1} → statement M
 row-of-spec =
