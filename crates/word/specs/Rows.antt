@@ -9,7 +9,6 @@ use Rattle.refusal.specs.declared.Refusal.the-variants.{BlankInside, JukugoBase
 use Rattle.word.specs.declared.Form.{Form}
 use Rattle.word.specs.declared.Answer.{Answer}
 use Rattle.word.specs.declared.Answer.the-variants.{Set, Refused}
-use Rattle.word.specs.declared.Word.{Word}
 use Rattle.word.specs.declared.Sort.{Sort}
 use Rattle.word.specs.declared.Row.{Row}
 use Rattle.word.specs.declared.Row.the-variants.{None, Holds}

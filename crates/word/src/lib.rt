@@ -126,11 +126,11 @@ pub enum Sort {
 }
 
 // The kinds that a string has; `outside` are those that no job may have.
-pub struct Mix {
-    pub kana: bool,
-    pub western: bool,
-    pub space: bool,
-    pub outside: bool,
+struct Mix {
+    kana: bool,
+    western: bool,
+    space: bool,
+    outside: bool,
 }
 
 // The runs of a J: the length in units of the last, where none is longer than one em.
