@@ -109,7 +109,7 @@ pub fn fill_job(
 }
 
 // The job set by a table and lists of this size, for its rows and the ends and extents of its lines. It takes the steps of `fill_job` itself and does not call it, for speed alone:
-// the check of characters, the layout and the filling then have two callers each and are compiled as functions of their own. With one caller the compiler puts them all into
+// the layout and the filling then have two callers each and are compiled as functions of their own. With one caller the compiler puts them all into
 // `fill_job`, whose lists are too many for registers and lie in memory (3 to 14 instructions more for a base character).
 fn set_table(
     t: &mut [u32],
