@@ -1,7 +1,6 @@
 // A job sheet of either form in, its account out: bytes to bytes, and nothing is asked of the caller. A page that can be set is told line by line, with the reason for each gap; one that can't is
 // refused as the setting refuses it, and where a line is too long the account says how far. It relies on `sheet` for the reading, on `sheet_job` for the job's table and lines, on `job_account` for
 // the account, on `shortest` for what a declined line needs, and on `account_text` for the text.
-ghost use mathlib.Core.Path.{_≡_};
 ghost use Prim.Native.Nat.{_≤_};
 ghost use lib.ListN.{length};
 ghost use Rattle.basics.specs.Seen.{was};
@@ -9,18 +8,15 @@ ghost use Rattle.sheet.specs.Seen.{tablesNow, tablesWas};
 ghost use Rattle.account_sheet.specs.Seen.{listsNow, listsWas, Answers};
 ghost use Rattle.text.specs.Print.{Wrote};
 ghost use Rattle.refusal.specs.Refusal.{placeOf};
-ghost use Rattle.sheet_job.specs.Tables.{TablesLong, tablesJob};
 ghost use Rattle.setter.specs.Answer.{Fits};
 ghost use Rattle.shortest.specs.Shortest.{neededOf};
 ghost use Rattle.job_account.specs.Walk.{LinesReady};
-ghost use Rattle.job_account.specs.Outcome.{room};
-ghost use Rattle.account_text.specs.Short.{longest};
-ghost use Rattle.account_sheet.specs.Answer.{refusedText, Told};
+ghost use Rattle.account_sheet.specs.Answer.{refusedText};
 ghost use Rattle.account_sheet.specs.Needs.{Declined};
 ghost use Rattle.account_sheet.specs.Tell.{Listed, clearText, ClearReady};
 
-// A refusal by its number and place; of a line that is too long also the extent that it needs, by the n rows of the job's table, and the measure. The table is lent as an array here and below: a
-// local one that was filled by a call is known to have its length only behind a reference to it.
+// A refusal by its number and place; of a line that is too long also the extent that it needs, by the n rows of the job's table, and the measure. The table is lent as an array here and
+// below, so that nothing is asked of its length.
 fn write_declined(
     why: refusal::Refusal,
     t: &[u32; engine::TABLE],
@@ -81,50 +77,6 @@ fn write_clear(
     account_text::write_account(n, elements, readings, rows, told, extents, out)
 }
 
-// The account of the job that the tables hold (`sheet::read_sheet`), in text. Its lists have room for as many base characters as a job can have.
-fn tell_tables(
-    n: sheet::Counts,
-    set: &[u32],
-    base: &[u32],
-    ruby: &[u32],
-    left: &[u32],
-    elem: &[u32],
-    runs: &[u32],
-    lruns: &[u32],
-    rows: &mut [u32],
-    told: &mut [u32],
-    extents: &mut [u32],
-    out: &mut [u8],
-) -> usize
-    requires { ⌜ TablesLong n (tablesNow set base ruby left elem runs lruns) ⌝ }
-    requires { ⌜ 1024 ≡ room (now rows) (now told) (now extents) ⌝ }
-    requires { ⌜ longest ≤ length (now out) ⌝ }
-    ensures { λ r. let job = tablesJob n (tablesWas set base ruby left elem runs lruns) in ⌜ Told job (listsWas rows told extents) (was out) r (listsNow (rows .exit) (told .exit) (extents .exit)) (now (out .exit)) ⌝ }
-{
-    let mut t = [0; engine::TABLE];
-    let mut ends = [0; limits::MOST_BASES];
-    let mut found = [0; limits::MOST_BASES];
-    match sheet_job::fill_tables(
-        &mut t,
-        &mut ends,
-        &mut found,
-        n,
-        set,
-        base,
-        ruby,
-        left,
-        elem,
-        runs,
-        lruns,
-    ) {
-        filling::Lines::Refused(why) => write_declined(why, &t, n.bases, set[0], set[1], out),
-        filling::Lines::Filled(k) => {
-            put_lists(&t, k, &ends, &found, set[0], rows, told, extents);
-            write_clear(k, n.elements, elem, rows, told, extents, out)
-        }
-    }
-}
-
 // The account of a sheet. The answer is how many bytes of `out` its text has.
 pub fn account_sheet(
     s: &[u8],
@@ -145,19 +97,35 @@ pub fn account_sheet(
 {
     match sheet::read_sheet(s, set, base, ruby, left, elem, runs, lruns) {
         sheet::Reading::Refused(why) => result::write_refusal(why, out),
-        sheet::Reading::Sound(n) => tell_tables(
-            n,
-            set,
-            base,
-            ruby,
-            left,
-            elem,
-            runs,
-            lruns,
-            rows,
-            told,
-            extents,
-            out,
-        ),
+        sheet::Reading::Sound(n) => {
+            // Slices from here on: a list's length is known once a slice is made of it.
+            let rows: &mut [u32] = rows;
+            let told: &mut [u32] = told;
+            let extents: &mut [u32] = extents;
+            let mut t = [0; engine::TABLE];
+            let mut ends = [0; limits::MOST_BASES];
+            let mut found = [0; limits::MOST_BASES];
+            match sheet_job::fill_tables(
+                &mut t,
+                &mut ends,
+                &mut found,
+                n,
+                set,
+                base,
+                ruby,
+                left,
+                elem,
+                runs,
+                lruns,
+            ) {
+                filling::Lines::Refused(why) => {
+                    write_declined(why, &t, n.bases, set[0], set[1], out)
+                }
+                filling::Lines::Filled(k) => {
+                    put_lists(&t, k, &ends, &found, set[0], rows, told, extents);
+                    write_clear(k, n.elements, elem, rows, told, extents, out)
+                }
+            }
+        }
     }
 }

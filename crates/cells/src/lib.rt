@@ -79,7 +79,7 @@ pub struct Step {
 }
 
 // The house ratios, from the head of a table.
-fn ratios_at(t: &[u32]) -> [[u32; 3]; 2]
+pub fn ratios_at(t: &[u32]) -> [[u32; 3]; 2]
     requires { ⌜ size 0 ≤ length (now t) ⌝ }
     ensures { λ r. ⌜ ratiosOf r ≡ ratiosAt (was t) ⌝ }
 {
@@ -600,6 +600,15 @@ pub fn advance_cut(t: &[u32], i: usize, c: usize, em: u32, st: line::State) -> S
     step_of(word_upto(t, i, c, em), 0, 0, st)
 }
 
+// A word that does not stand in its row, after the line so far. A function of its own: `word_upto` stays a call, and where the table lies is put into memory for it at the
+// start of the function that makes the call, so here and not in `advance`, where every P would pay for it.
+fn found_at(t: &[u32], i: usize, c: usize, em: u32, st: line::State) -> Step
+    requires { ⌜ (hasRuby (cellAt (now t) i) ≡ true) × (Advances em (now t) st i c) ⌝ }
+    ensures { λ r. ⌜ r ≡ stepAt em (was t) st i c ⌝ }
+{
+    step_of(word_upto(t, i, c, em), 0, 0, st)
+}
+
 // The piece from i up to c after the line so far. Most pieces are a P, or a word in a job without left readings: these have ways of their own, which read no more of the
 // row than they need. It is as short as that so that it still becomes a part of the loops that call it: a step that came back from a call would be kept in memory, and
 // so would every line that is taken on by it.
@@ -611,7 +620,7 @@ pub fn advance(t: &[u32], i: usize, c: usize, em: u32, st: line::State) -> Step
         if in_row(t, i) {
             return right_at(t, i, st);
         }
-        return step_of(word_upto(t, i, c, em), 0, 0, st);
+        return found_at(t, i, c, em, st);
     }
     plain_at(t, i, st)
 }

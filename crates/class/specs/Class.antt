@@ -4,7 +4,6 @@ use Prim.Native.Nat.{ℕ, _*_, _/_, min}
 use lib.Dec.{leb, eqb}
 use Rattle.class.specs.declared.Kind.{Kind}
 use Rattle.class.specs.declared.Kind.the-variants.{KanaLike, Western, Space, Outside}
-use Rattle.class.specs.declared.Row.{Row}
 use Rattle.class.specs.declared.Depths.{Depths}
 
 -- a to b
@@ -44,11 +43,6 @@ blankWhole c = eqb c 14
 unfoldable pub quarters : ℕ → ℕ
 unfolding blankBefore blankAfter blankWhole
 quarters c = cond (eqb c 5) 1 (cond (blankBefore c || (blankAfter c || blankWhole c)) 2 0)
-
--- the table's entry: "whether it is accepted, its kind, and the sides on which it may carry a blank", and the depth
-unfoldable pub rowOf : ℕ → Row
-unfolding accepted kindOf blankBefore blankAfter blankWhole quarters
-rowOf c = record { accepted = accepted c; kind = kindOf c; before = blankBefore c; after = blankAfter c; whole = blankWhole c; quarters = quarters c }
 
 -- the blank on a side, in units: the field as given where the class may carry one there, in class 14 the whole width
 abbrev pub blankOn : Bool → ℕ → ℕ → ℕ → ℕ
@@ -90,3 +84,7 @@ unfoldable pub depthsBy : ℕ → Bool → (c width before after em : ℕ) → D
 unfolding depthsOn
 depthsBy profile first c width before after em =
     cond (eqb profile 1 && kana c) (record { before = onKana width em; after = onKana width em }) (depthsOn first c width before after em)
+
+-- whether ruby may lie on a P character of this class at all
+abbrev pub mayLie : ℕ → ℕ → Bool
+mayLie profile c = (eqb profile 1 && kana c) || (blankBefore c || (blankAfter c || blankWhole c))

@@ -1,11 +1,10 @@
--- The code's entry for a class, "accepted, kind, blank sides and depth", and what it says of each side. `Laws` joins it to the definitions of `Class`.
+-- The code's entry for a class, "accepted, kind, blank sides and depth", and what it says of each side and of the depth. `Marks` joins it to the definitions of `Class`.
 use mathlib.Core.Bool.{Bool, true, false}
 use Prim.Native.Nat.{ℕ}
 use Rattle.class.specs.declared.Sides.{Sides}
 use Rattle.class.specs.declared.Sides.the-variants.{Before, After, Both, Neither, Whole}
 use Rattle.class.specs.declared.Entry.{Entry}
-use Rattle.class.specs.declared.Row.{Row}
-use Rattle.class.specs.Class.{rowOf}
+use Rattle.class.specs.Class.{accepted, kindOf, blankBefore, blankAfter, blankWhole, quarters}
 
 -- the sides in one word: may there be a blank before, may there be one after, is the whole width blank
 abbrev sidesBy : Bool → Bool → Bool → Sides
@@ -15,13 +14,10 @@ sidesBy true true false = Both
 sidesBy false false false = Neither
 sidesBy b a true = Whole
 
-abbrev pub entryBy : Row → Entry
-entryBy r = record { accepted = r .accepted; kind = r .kind; sides = sidesBy (r .before) (r .after) (r .whole); quarters = r .quarters }
-
--- the entry of a class
+-- the table's entry: "whether it is accepted, its kind, and the sides on which it may carry a blank", and the depth
 unfoldable pub entryOf : ℕ → Entry
-unfolding rowOf
-entryOf c = entryBy (rowOf c)
+unfolding accepted kindOf blankBefore blankAfter blankWhole quarters
+entryOf c = record { accepted = accepted c; kind = kindOf c; sides = sidesBy (blankBefore c) (blankAfter c) (blankWhole c); quarters = quarters c }
 
 -- and what an entry says: may there be a blank before
 abbrev pub liesBefore : Sides → Bool
@@ -46,14 +42,3 @@ isWhole After = false
 isWhole Both = false
 isWhole Neither = false
 isWhole Whole = true
-
-abbrev pub rowBy : Entry → Row
-rowBy e =
-    record {
-      accepted = e .accepted;
-      kind = e .kind;
-      before = liesBefore (e .sides);
-      after = liesAfter (e .sides);
-      whole = isWhole (e .sides);
-      quarters = e .quarters;
-    }

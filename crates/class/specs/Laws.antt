@@ -1,10 +1,9 @@
--- What those above may use of the classes: a class has the kind that its entry names, a depth lies within the character, and an
--- entry's depth is document 01's.
+-- What those above may use of the classes: a class has the kind that its entry names, and a depth lies within the character.
 use mathlib.Core.Path.{_≡_, refl, _∙_, ap, sym}
-use mathlib.Core.Bool.{Bool, true, false, cond, _&&_, _||_}
+use mathlib.Core.Bool.{Bool, true, false, true≢false, cond, _&&_, _||_}
 use mathlib.Core.List.{List, [], _∷_}
-use Prim.Native.Nat.{ℕ, zero, suc, _+_, _*_, _/_, _<_, _≤_, min, suc-le-suc}
-use native.Mathlib.Nat.{add-zero, zero-add, add-suc, suc-add, lt-of-not-le, le-of-suc-le-suc, not-suc-le-zero, one-mul}
+use Prim.Native.Nat.{ℕ, zero, suc, _+_, _*_, _<_, _≤_, min, suc-le-suc}
+use native.Mathlib.Nat.{add-zero, zero-add, add-suc, suc-add, lt-of-not-le, le-of-suc-le-suc, not-suc-le-zero}
 use native.Mathlib.Decide.{decLt}
 use native.Mathlib.Omega.{arith}
 use borrow.Author.Tests.{le-leb, lt-leb, ne-eqb}
@@ -12,11 +11,8 @@ use lib.Dec.{lit≤, eqb}
 use lib.ListN.{getD}
 use Rattle.class.specs.declared.Kind.{Kind}
 use Rattle.class.specs.declared.Kind.the-variants.{KanaLike, Western, Space, Outside}
-use Rattle.class.specs.declared.Row.{Row}
 use Rattle.class.specs.declared.Depths.{Depths}
-use Rattle.class.specs.Class.{accepted, western, kanaLike, kindOf, blankBefore, blankAfter, blankWhole, quarters, rowOf, deepest, depthBefore, depthAfter, opening, depthsOn, kana, onKana, depthsBy}
-use Rattle.class.specs.Depth.{depthBy}
-use Rattle.class.specs.Entry.{rowBy, entryBy, entryOf}
+use Rattle.class.specs.Class.{accepted, western, kanaLike, kindOf, blankBefore, blankAfter, blankWhole, deepest, depthBefore, depthAfter, opening, depthsOn, kana, onKana, mayLie, depthsBy}
 
 -- f at i, i + 1, .., n of them
 abbrev pub tabled {ℓ} : {A : Type ℓ} → (ℕ → A) → ℕ → ℕ → List A
@@ -40,31 +36,37 @@ agree f g e h c = go (decLt c 31)
     go (yes l) = sym (tabled-at f (f 0) 31 _ refl c l) ∙ tabled-at g (f 0) 31 _ e c l
     go (no n) = h c (lt-of-not-le (λ (l : c ≤ 30). n (suc-le-suc l)))
 
--- past the table a class is outside
-pub past : (c : ℕ) → 30 < c → rowOf c ≡ record { accepted = false; kind = Outside; before = false; after = false; whole = false; quarters = 0 }
-unfolding rowOf accepted western kanaLike kindOf blankBefore blankAfter blankWhole quarters
-past c h =
-    simp (
-      le-leb 1 c (omega arith),
-      lt-leb c 19 (omega arith),
-      le-leb 24 c (omega arith),
-      lt-leb c 27 (omega arith),
-      ne-eqb c 24 (λ e. omega arith),
-      ne-eqb c 25 (λ e. omega arith),
-      ne-eqb c 27 (λ e. omega arith),
-      ne-eqb c 26 (λ e. omega arith),
-      ne-eqb c 1 (λ e. omega arith),
-      ne-eqb c 5 (λ e. omega arith),
-      ne-eqb c 2 (λ e. omega arith),
-      ne-eqb c 6 (λ e. omega arith),
-      ne-eqb c 7 (λ e. omega arith),
-      ne-eqb c 14 (λ e. omega arith),
-    )
+-- past the table a class is outside, and has no blank
+far : (c d : ℕ) → 30 < c → d ≤ 30 → eqb c d ≡ false
+far c d h l = ne-eqb c d (λ e. omega arith)
 
--- an entry says what the rule says
-pub entry-law : (c : ℕ) → rowBy (entryOf c) ≡ rowOf c
-unfolding rowOf accepted western kanaLike kindOf blankBefore blankAfter blankWhole quarters entryOf
-entry-law = agree (λ (c : ℕ). rowBy (entryOf c)) rowOf refl (λ c h. ap (λ (r : Row). rowBy (entryBy r)) (past c h) ∙ sym (past c h))
+pub accepted-past : (c : ℕ) → 30 < c → accepted c ≡ false
+unfolding accepted
+accepted-past c h = simp (le-leb 1 c (omega arith), lt-leb c 19 (omega arith), le-leb 24 c (omega arith), lt-leb c 27 (omega arith))
+
+pub kana-past : (c : ℕ) → 30 < c → kanaLike c ≡ false
+unfolding kanaLike
+kana-past c h = rw (accepted-past c h)
+
+pub western-past : (c : ℕ) → 30 < c → western c ≡ false
+unfolding western
+western-past c h = simp (far c 24 h (lit≤ tt), far c 25 h (lit≤ tt), far c 27 h (lit≤ tt))
+
+pub kind-past : (c : ℕ) → 30 < c → kindOf c ≡ Outside
+unfolding kindOf
+kind-past c h = simp (western-past c h, kana-past c h, far c 26 h (lit≤ tt))
+
+pub before-past : (c : ℕ) → 30 < c → blankBefore c ≡ false
+unfolding blankBefore
+before-past c h = simp (far c 1 h (lit≤ tt), far c 5 h (lit≤ tt))
+
+pub after-past : (c : ℕ) → 30 < c → blankAfter c ≡ false
+unfolding blankAfter
+after-past c h = simp (far c 2 h (lit≤ tt), far c 6 h (lit≤ tt), far c 7 h (lit≤ tt), far c 5 h (lit≤ tt))
+
+pub whole-past : (c : ℕ) → 30 < c → blankWhole c ≡ false
+unfolding blankWhole
+whole-past c h = far c 14 h (lit≤ tt)
 
 -- Kinds.
 
@@ -86,18 +88,6 @@ isSpace Western = false
 isSpace Space = true
 isSpace Outside = false
 
-pub kind-past : (c : ℕ) → 30 < c → kindOf c ≡ Outside
-unfolding rowOf
-kind-past c h = ap (λ (r : Row). r .kind) (past c h)
-
-kana-past : (c : ℕ) → 30 < c → kanaLike c ≡ false
-unfolding rowOf kanaLike
-kana-past c h = rw (ap (λ (r : Row). r .accepted) (past c h))
-
-western-past : (c : ℕ) → 30 < c → western c ≡ false
-unfolding western
-western-past c h = simp (ne-eqb c 24 (λ e. omega arith), ne-eqb c 25 (λ e. omega arith), ne-eqb c 27 (λ e. omega arith))
-
 pub kana-law : (c : ℕ) → kanaLike c ≡ isKana (kindOf c)
 unfolding accepted western kanaLike kindOf
 kana-law = agree kanaLike (λ (c : ℕ). isKana (kindOf c)) refl (λ c h. kana-past c h ∙ sym (ap isKana (kind-past c h)))
@@ -110,66 +100,18 @@ pub space-law : (c : ℕ) → eqb 26 c ≡ isSpace (kindOf c)
 unfolding accepted western kanaLike kindOf
 space-law = agree (eqb 26) (λ (c : ℕ). isSpace (kindOf c)) refl (λ c h. ne-eqb 26 c (λ e. omega arith) ∙ sym (ap isSpace (kind-past c h)))
 
+-- a kind by three questions
+abbrev pub kindBy : Bool → Bool → Bool → Kind
+kindBy kana western accepted = cond kana KanaLike (cond western Western (cond accepted Space Outside))
+
+by-past : (c : ℕ) → 30 < c → kindBy (kanaLike c) (western c) (accepted c) ≡ kindOf c
+by-past c h = rw (kana-past c h, western-past c h, accepted-past c h, kind-past c h)
+
+pub kind-law : (c : ℕ) → kindBy (kanaLike c) (western c) (accepted c) ≡ kindOf c
+unfolding accepted western kanaLike kindOf
+kind-law = agree (λ (c : ℕ). kindBy (kanaLike c) (western c) (accepted c)) kindOf refl by-past
+
 -- Depths.
-
--- no blank is deeper than half an em
-pub quarters-most : (c : ℕ) → quarters c ≤ 2
-unfolding quarters
-quarters-most c = go (eqb c 5) (blankBefore c || (blankAfter c || blankWhole c))
-  where
-    go : (a b : Bool) → cond a 1 (cond b 2 0) ≤ 2
-    go true b = lit≤ tt
-    go false true = lit≤ tt
-    go false false = lit≤ tt
-
--- an entry's depth is document 01's: its quarters are half an em or a quarter em wherever there is a blank
-by-share : (five whole side others : Bool) (width blank em : ℕ) → (cond whole true side || others) ≡ others →
-    min (2 * cond whole width (cond side blank 0)) (cond five 1 (cond others 2 0) * em / 2) ≡ min (2 * cond whole width (cond side blank 0)) (cond five (em / 2) em)
-by-share true whole side others width blank em h = rw one-mul
-by-share false whole side true width blank em h = omega arith
-by-share false false false false width blank em h = omega arith
-by-share false true side false width blank em h = absurd (let z : _≡_ {A = ℕ} 0 1 = cc in omega arith)
-by-share false false true false width blank em h = absurd (let z : _≡_ {A = ℕ} 0 1 = cc in omega arith)
-
-pub before-share : (c width blank em : ℕ) → depthBy (blankWhole c) (blankBefore c) (quarters c) width blank em ≡ depthBefore c width blank em
-unfolding quarters depthBefore
-before-share c width blank em =
-    by-share (eqb c 5) (blankWhole c) (blankBefore c) (blankBefore c || (blankAfter c || blankWhole c)) width blank em (go (blankWhole c) (blankBefore c) (blankAfter c))
-  where
-    go : (w b a : Bool) → (cond w true b || (b || (a || w))) ≡ (b || (a || w))
-    go true true a = refl
-    go true false true = refl
-    go true false false = refl
-    go false true a = refl
-    go false false a = refl
-
-pub after-share : (c width blank em : ℕ) → depthBy (blankWhole c) (blankAfter c) (quarters c) width blank em ≡ depthAfter c width blank em
-unfolding quarters depthAfter
-after-share c width blank em =
-    by-share (eqb c 5) (blankWhole c) (blankAfter c) (blankBefore c || (blankAfter c || blankWhole c)) width blank em (go (blankWhole c) (blankBefore c) (blankAfter c))
-  where
-    go : (w b a : Bool) → (cond w true a || (b || (a || w))) ≡ (b || (a || w))
-    go true true a = refl
-    go true false true = refl
-    go true false false = refl
-    go false true true = refl
-    go false true false = refl
-    go false false true = refl
-    go false false false = refl
-
--- the depths by the table's row: none on the job's opening space, and an entry's on every other P
-pub none-on : (first : Bool) (c width before after em : ℕ) → (first && rowOf c .whole) ≡ true → record { before = 0; after = 0 } ≡ depthsOn first c width before after em
-unfolding depthsOn rowOf
-none-on first c width before after em e = rw e
-
-pub some-on : (first : Bool) (c width before after em : ℕ) → (first && rowOf c .whole) ≡ false →
-    record {
-      before = depthBy (rowOf c .whole) (rowOf c .before) (rowOf c .quarters) width before em;
-      after = depthBy (rowOf c .whole) (rowOf c .after) (rowOf c .quarters) width after em;
-    }
-    ≡ depthsOn first c width before after em
-unfolding depthsOn rowOf
-some-on first c width before after em e = rw (e, before-share c width before em, after-share c width after em)
 
 -- a depth lies within the character: what lines ask of a neighbour
 on-width : (whole side : Bool) (width blank most : ℕ) → blank ≤ width → min (2 * cond whole width (cond side blank 0)) most ≤ 2 * width
@@ -211,19 +153,19 @@ pub by-first : (first : Bool) (c width before after em : ℕ) → depthsBy 0 fir
 unfolding depthsBy
 by-first first c width before after em = refl
 
--- where an entry's depth is 0, no ruby lies on the character
-pub no-depth : (first : Bool) (c width before after em : ℕ) → quarters c ≡ 0 → record { before = 0; after = 0 } ≡ depthsOn first c width before after em
-unfolding depthsOn depthBefore depthAfter quarters
-no-depth first c width before after em e =
-    let (b, a, w) = by (eqb c 5) (blankBefore c) (blankAfter c) (blankWhole c) e in
+-- the depths by the questions that are asked of the class: none where it has no blank
+pub on-none : (first : Bool) (c width before after em : ℕ) → (blankBefore c || (blankAfter c || blankWhole c)) ≡ false →
+    record { before = 0; after = 0 } ≡ depthsOn first c width before after em
+unfolding depthsOn depthBefore depthAfter
+on-none first c width before after em e =
+    let (b, a, w) = by (blankBefore c) (blankAfter c) (blankWhole c) e in
     rw (w, a, b, none (deepest c em)) (go (first && false))
   where
-    by : (t b a w : Bool) → _≡_ {A = ℕ} (cond t 1 (cond (b || (a || w)) 2 0)) 0 → (b ≡ false) × (a ≡ false) × (w ≡ false)
-    by false false false false e = (refl, refl, refl)
-    by true b a w e = absurd (omega arith)
-    by false true a w e = absurd (omega arith)
-    by false false true w e = absurd (omega arith)
-    by false false false true e = absurd (omega arith)
+    by : (b a w : Bool) → (b || (a || w)) ≡ false → (b ≡ false) × (a ≡ false) × (w ≡ false)
+    by false false false e = (refl, refl, refl)
+    by true a w e = absurd (true≢false e)
+    by false true w e = absurd (true≢false e)
+    by false false true e = absurd (true≢false e)
 
     none : (n : ℕ) → min (2 * 0) n ≡ 0
     none n = omega arith
@@ -231,3 +173,28 @@ no-depth first c width before after em e =
     go : (t : Bool) → _≡_ {A = Depths} (record { before = 0; after = 0 }) (record { before = cond t 0 0; after = cond t 0 0 })
     go true = refl
     go false = refl
+
+-- on a class whose whole width is blank, none if it is the job's first, and one depth on both sides if not
+pub on-space : (first : Bool) (c width before after em : ℕ) → blankWhole c ≡ true →
+    record { before = cond first 0 (min (2 * width) (deepest c em)); after = cond first 0 (min (2 * width) (deepest c em)) } ≡ depthsOn first c width before after em
+unfolding depthsOn depthBefore depthAfter
+on-space true c width before after em e = rw e
+on-space false c width before after em e = rw e
+
+-- on all others by the sides
+pub on-sides : (first : Bool) (c width before after em : ℕ) → blankWhole c ≡ false →
+    record { before = min (2 * cond (blankBefore c) before 0) (deepest c em); after = min (2 * cond (blankAfter c) after 0) (deepest c em) }
+    ≡ depthsOn first c width before after em
+unfolding depthsOn depthBefore depthAfter
+on-sides true c width before after em e = rw e
+on-sides false c width before after em e = rw e
+
+-- where no ruby may lie both depths are 0, whatever the blanks are
+pub no-depths : (profile : ℕ) (first : Bool) (c w b a em : ℕ) → mayLie profile c ≡ false → record { before = 0; after = 0 } ≡ depthsBy profile first c w b a em
+unfolding depthsBy
+no-depths profile first c w b a em e = go (eqb profile 1 && kana c) (blankBefore c || (blankAfter c || blankWhole c)) refl e
+  where
+    go : (k d : Bool) → (blankBefore c || (blankAfter c || blankWhole c)) ≡ d → (k || d) ≡ false →
+        record { before = 0; after = 0 } ≡ cond k (record { before = onKana w em; after = onKana w em }) (depthsOn first c w b a em)
+    go true d f e = absurd (true≢false e)
+    go false d f e = on-none first c w b a em (f ∙ e)

@@ -1,5 +1,4 @@
 pub mod Class
-pub mod Depth
 pub mod Laws
 pub mod Entry
-pub mod Digits
+pub mod Marks

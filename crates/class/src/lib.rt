@@ -1,17 +1,16 @@
 // The class table of document 01: for each class from 0 to 30 whether it is accepted, its kind, the sides on which it may carry a
 // blank, and how deep ruby may lie on that blank. Every check and every rule of clearance consults this table; that it says what
-// document 01 says is proved of each of its readers (specs/Class.antt; proofs/entry_of, code_at, is_deep). Beside it stands what a
-// job's profile permits (`depths_by`, R-8), and nothing above knows of profiles. All functions here are total: any u32 is asked as
-// it is. It relies on no other crate.
+// document 01 says is proved where it is handed out (specs/Class.antt; proofs/table). Beside it stands what a job's profile permits
+// (`depths_by`, R-8), and nothing above knows of profiles. All functions here are total: any u32 is asked as it is. It relies on no
+// other crate.
 ghost use mathlib.Core.Path.{_≡_};
-ghost use mathlib.Core.Bool.{_&&_};
-ghost use Prim.Native.Nat.{_<_, _≤_};
-ghost use Rattle.class.specs.Class.{accepted, western, kanaLike, blankBefore, blankAfter, rowOf, kindOf, quarters, depthsOn, kana, onKana, depthsBy};
-ghost use Rattle.class.specs.Depth.{blankBy, depthBy};
-ghost use Rattle.class.specs.Entry.{entryOf, rowBy, liesBefore, liesAfter, isWhole};
-ghost use lib.Dec.{ltb, eqb};
-ghost use Rattle.class.specs.Laws.{tabled};
-ghost use Rattle.class.specs.Digits.{codeOf, kindCode, digits, digitAt};
+ghost use mathlib.Core.Bool.{cond, _&&_};
+ghost use Prim.Native.Nat.{_*_, min};
+ghost use Rattle.class.specs.Class.{accepted, western, kanaLike, blankBefore, blankAfter, blankWhole, kindOf, deepest, depthsOn, kana, mayLie, depthsBy};
+ghost use Rattle.class.specs.Entry.{entryOf, liesBefore, liesAfter, isWhole};
+ghost use lib.Dec.{eqb};
+ghost use Rattle.class.specs.Laws.{tabled, isKana, isWestern};
+ghost use Rattle.class.specs.Marks.{marked, says, isDeep, isShallow, setOf, hasAt};
 
 pub enum Kind {
     KanaLike,
@@ -38,16 +37,6 @@ struct Entry {
     kind: Kind,
     sides: Sides,
     quarters: u8,
-}
-
-// What those above are told of a class: the entry with its sides asked one by one.
-pub struct Row {
-    pub accepted: bool,
-    pub kind: Kind,
-    pub before: bool,
-    pub after: bool,
-    pub whole: bool,
-    pub quarters: u32,
 }
 
 // Depths in quarter ems.
@@ -149,15 +138,33 @@ const TABLE: [Entry; 31] = [
     OUTSIDE, // 30 characters in tate-chu-yoko
 ];
 
-// The entry of any class; past the table as for a class that is not accepted.
-fn entry_of(class: u32) -> Entry
-    ensures { λ r. ⌜ r ≡ entryOf class ⌝ }
+// The table as it is read.
+fn table() -> [Entry; 31]
+    ensures { λ r. ⌜ r ≡ tabled entryOf 0 31 ⌝ }
 {
-    if 30 < class {
-        return OUTSIDE;
+    TABLE
+}
+
+fn means_kana(k: Kind) -> bool
+    ensures { λ r. ⌜ r ≡ isKana k ⌝ }
+{
+    match k {
+        Kind::KanaLike => true,
+        Kind::Western => false,
+        Kind::Space => false,
+        Kind::Outside => false,
     }
-    let i = class as usize;
-    TABLE[i]
+}
+
+fn means_western(k: Kind) -> bool
+    ensures { λ r. ⌜ r ≡ isWestern k ⌝ }
+{
+    match k {
+        Kind::KanaLike => false,
+        Kind::Western => true,
+        Kind::Space => false,
+        Kind::Outside => false,
+    }
 }
 
 fn lies_before(s: Sides) -> bool
@@ -196,190 +203,165 @@ fn is_whole(s: Sides) -> bool
     }
 }
 
-fn wide(b: u8) -> u32
-    ensures { λ r. ⌜ r ≡ b ⌝ }
-{
-    b as u32
+// What is asked of a class, of its entry.
+enum Mark {
+    Accepted,
+    Kana,
+    Western,
+    Before,
+    After,
+    Whole,
+    // May ruby lie on it at all?
+    Deep,
+    // And to a quarter em at most?
+    Shallow,
 }
 
-// What an entry says.
-fn row_by(e: Entry) -> Row
-    ensures { λ r. ⌜ r ≡ rowBy e ⌝ }
+fn marks(e: Entry, which: Mark) -> bool
+    ensures { λ r. ⌜ r ≡ marked which e ⌝ }
 {
     let kind = e.kind;
     let sides = e.sides;
-    Row {
-        accepted: e.accepted,
-        kind,
-        before: lies_before(sides),
-        after: lies_after(sides),
-        whole: is_whole(sides),
-        quarters: wide(e.quarters),
+    match which {
+        Mark::Accepted => e.accepted,
+        Mark::Kana => means_kana(kind),
+        Mark::Western => means_western(kind),
+        Mark::Before => lies_before(sides),
+        Mark::After => lies_after(sides),
+        Mark::Whole => is_whole(sides),
+        Mark::Deep => NONE < e.quarters,
+        Mark::Shallow => e.quarters == QUARTER,
     }
 }
 
-// What the table says of any class.
-pub fn row_of(class: u32) -> Row
-    ensures { λ r. ⌜ r ≡ rowOf class ⌝ }
+// A loop over characters would have the table laid out anew for each of them. So a class is looked up in the set of those that have a mark, read off the table
+// as a number, one binary digit for each class, class 0 lowest. Where the mark is named at the call, as it is below, the compiler works that number out, and
+// leaves it where the loop over the table was; a mark that is handed on leaves the loop in.
+
+fn worth(has: bool, place: u32) -> u32
+    ensures { λ r. ⌜ r ≡ cond has place 0 ⌝ }
 {
-    row_by(entry_of(class))
+    if has { place } else { 0 }
 }
 
-// A loop over characters would have the table laid out anew for each of them. So what such loops ask is asked of the table as a number, two binary digits
-// for each class, class 0 lowest; the compiler works that number out, and leaves it where the loop over the table was.
-
-fn code_of(k: Kind) -> u64
-    ensures { λ r. ⌜ r ≡ codeOf k ⌝ }
-{
-    match k {
-        Kind::KanaLike => 0,
-        Kind::Western => 1,
-        Kind::Space => 2,
-        Kind::Outside => 3,
-    }
-}
-
-// The kinds of all classes of the table.
-fn kinds_in(table: [Entry; 31]) -> u64
+// The classes of the table that have a mark.
+fn marked_in(table: [Entry; 31], which: Mark) -> u32
     requires { ⌜ table ≡ tabled entryOf 0 31 ⌝ }
-    ensures { λ r. ⌜ r ≡ digits kindCode 31 ⌝ }
+    ensures { λ r. ⌜ r ≡ setOf (says which) 31 ⌝ }
 {
-    let mut kinds: u64 = 0;
-    let mut place: u64 = 1;
+    let mut set: u32 = 0;
+    let mut place: u32 = 1;
     let mut class: u32 = 0;
     while class < 31 {
         let e = table[class as usize];
-        let kind = e.kind;
-        kinds = kinds + code_of(kind) * place;
-        place = place * 4;
+        set = set + worth(marks(e, which), place);
+        place = place * 2;
         class += 1;
     }
-    kinds
+    set
 }
 
-fn depth_of(e: Entry) -> u64
-    ensures { λ r. ⌜ r ≡ e .quarters ⌝ }
+// Past the table no class has any mark.
+fn has(set: u32, class: u32) -> bool
+    ensures { λ r. ⌜ r ≡ hasAt set class ⌝ }
 {
-    e.quarters as u64
-}
-
-// The depths of all classes of the table, in quarter ems.
-fn quarters_in(table: [Entry; 31]) -> u64
-    requires { ⌜ table ≡ tabled entryOf 0 31 ⌝ }
-    ensures { λ r. ⌜ r ≡ digits quarters 31 ⌝ }
-{
-    let mut depths: u64 = 0;
-    let mut place: u64 = 1;
-    let mut class: u32 = 0;
-    while class < 31 {
-        let e = table[class as usize];
-        depths = depths + depth_of(e) * place;
-        place = place * 4;
-        class += 1;
+    if class < 31 {
+        (set >> class) % 2 == 1
+    } else {
+        false
     }
-    depths
-}
-
-// The digit of a class below 31.
-fn digit_at(number: u64, class: u32) -> u64
-    requires { ⌜ class < 31 ⌝ }
-    ensures { λ r. ⌜ r ≡ digitAt number class ⌝ }
-{
-    (number >> (2 * class)) % 4
-}
-
-fn code_at(class: u32) -> u64
-    ensures { λ r. ⌜ r ≡ kindCode class ⌝ }
-{
-    if 30 < class {
-        return 3;
-    }
-    digit_at(kinds_in(TABLE), class)
-}
-
-pub fn kind_of(class: u32) -> Kind
-    ensures { λ r. ⌜ r ≡ kindOf class ⌝ }
-{
-    let c = code_at(class);
-    if c == 0 {
-        return Kind::KanaLike;
-    }
-    if c == 1 {
-        return Kind::Western;
-    }
-    if c == 2 {
-        return Kind::Space;
-    }
-    Kind::Outside
 }
 
 pub fn is_accepted(class: u32) -> bool
     ensures { λ r. ⌜ r ≡ accepted class ⌝ }
 {
-    code_at(class) < 3
+    has(marked_in(table(), Mark::Accepted), class)
 }
 
 pub fn is_kana(class: u32) -> bool
     ensures { λ r. ⌜ r ≡ kanaLike class ⌝ }
 {
-    code_at(class) == 0
+    has(marked_in(table(), Mark::Kana), class)
 }
 
 pub fn is_western(class: u32) -> bool
     ensures { λ r. ⌜ r ≡ western class ⌝ }
 {
-    code_at(class) == 1
+    has(marked_in(table(), Mark::Western), class)
+}
+
+// What is accepted and neither of the two is the word space.
+pub fn kind_of(class: u32) -> Kind
+    ensures { λ r. ⌜ r ≡ kindOf class ⌝ }
+{
+    if is_kana(class) {
+        return Kind::KanaLike;
+    }
+    if is_western(class) {
+        return Kind::Western;
+    }
+    if is_accepted(class) {
+        Kind::Space
+    } else {
+        Kind::Outside
+    }
 }
 
 // May there be a blank before, or after?
 pub fn may_have_before(class: u32) -> bool
     ensures { λ r. ⌜ r ≡ blankBefore class ⌝ }
 {
-    let e = entry_of(class);
-    let sides = e.sides;
-    lies_before(sides)
+    has(marked_in(table(), Mark::Before), class)
 }
 
 pub fn may_have_after(class: u32) -> bool
     ensures { λ r. ⌜ r ≡ blankAfter class ⌝ }
 {
-    let e = entry_of(class);
-    let sides = e.sides;
-    lies_after(sides)
+    has(marked_in(table(), Mark::After), class)
 }
 
-// May ruby lie on a class at all?
+fn is_blank(class: u32) -> bool
+    ensures { λ r. ⌜ r ≡ blankWhole class ⌝ }
+{
+    has(marked_in(table(), Mark::Whole), class)
+}
+
 fn is_deep(class: u32) -> bool
-    ensures { λ r. ⌜ r ≡ ltb 0 (quarters class) ⌝ }
+    ensures { λ r. ⌜ r ≡ isDeep class ⌝ }
 {
-    if 30 < class {
-        return false;
-    }
-    0 < digit_at(quarters_in(TABLE), class)
+    has(marked_in(table(), Mark::Deep), class)
 }
 
-// The blank on a side of a P character, in units.
-fn blank_by(whole: bool, side: bool, width: u32, blank: u32) -> u32
-    ensures { λ r. ⌜ r ≡ blankBy whole side width blank ⌝ }
+fn is_shallow(class: u32) -> bool
+    ensures { λ r. ⌜ r ≡ isShallow class ⌝ }
 {
-    if whole {
-        return width;
-    }
-    if side { blank } else { 0 }
+    has(marked_in(table(), Mark::Shallow), class)
 }
 
-// The depth that an entry's `whole`, side and `quarters` give, in half units. In u64, so that no width and no em is too large.
-fn depth_by(whole: bool, side: bool, quarters: u32, width: u32, blank: u32, em: u32) -> u32
-    requires { ⌜ quarters ≤ 2 ⌝ }
-    ensures { λ r. ⌜ r ≡ depthBy whole side quarters width blank em ⌝ }
+// How deep ruby may lie on a class with a blank, in half units: half an em or a quarter em.
+fn deepest_on(class: u32, em: u32) -> u32
+    ensures { λ r. ⌜ r ≡ deepest class em ⌝ }
 {
-    let most = quarters as u64 * em as u64 / 2;
-    let lies = 2 * blank_by(whole, side, width, blank) as u64;
-    if lies <= most {
+    if is_shallow(class) { em / 2 } else { em }
+}
+
+// How deep it lies on this blank, in half units. In u64, so that no width and no em is too large.
+fn depth_on(blank: u32, most: u32) -> u32
+    ensures { λ r. ⌜ r ≡ min (2 * blank) most ⌝ }
+{
+    let lies = 2 * blank as u64;
+    if lies <= most as u64 {
         lies as u32
     } else {
-        most as u32
+        most
     }
+}
+
+// The blank of a side counts only where the class may have one there.
+fn side_depth(side: bool, blank: u32, most: u32) -> u32
+    ensures { λ r. ⌜ r ≡ min (2 * cond side blank 0) most ⌝ }
+{
+    if side { depth_on(blank, most) } else { 0 }
 }
 
 // The profile for older children (document 02, R-8), and the classes of kana that it names.
@@ -395,13 +377,6 @@ pub struct Depths {
     pub after: u32,
 }
 
-// "a class 14 character that is the job's first element takes no ruby at all" (document 02, R-1).
-fn is_opening(first: bool, whole: bool) -> bool
-    ensures { λ r. ⌜ r ≡ first && whole ⌝ }
-{
-    if first { whole } else { false }
-}
-
 // How deep ruby may lie on a P character by document 01 with R-1; `first`: it is base character 0 of the job.
 fn depths_on(first: bool, class: u32, width: u32, before: u32, after: u32, em: u32) -> Depths
     ensures { λ r. ⌜ r ≡ depthsOn first class width before after em ⌝ }
@@ -412,16 +387,24 @@ fn depths_on(first: bool, class: u32, width: u32, before: u32, after: u32, em: u
             after: 0,
         };
     }
-    let r = row_of(class);
-    if is_opening(first, r.whole) {
+    if is_blank(class) {
+        // "a class 14 character that is the job's first element takes no ruby at all" (document 02, R-1).
+        if first {
+            return Depths {
+                before: 0,
+                after: 0,
+            };
+        }
+        let d = depth_on(width, deepest_on(class, em));
         return Depths {
-            before: 0,
-            after: 0,
+            before: d,
+            after: d,
         };
     }
+    let most = deepest_on(class, em);
     Depths {
-        before: depth_by(r.whole, r.before, r.quarters, width, before, em),
-        after: depth_by(r.whole, r.after, r.quarters, width, after, em),
+        before: side_depth(may_have_before(class), before, most),
+        after: side_depth(may_have_after(class), after, most),
     }
 }
 
@@ -438,12 +421,14 @@ fn lies_on_kana(profile: u32, class: u32) -> bool
     false
 }
 
-// "to a depth of at most one ruby em (half the em) and at most its width", in half units.
-fn kana_depth(width: u32, em: u32) -> u32
-    ensures { λ r. ⌜ r ≡ onKana width em ⌝ }
+// Whether ruby may lie on a P character at all: where it may not, nobody need read its blanks.
+pub fn takes_ruby(profile: u32, class: u32) -> bool
+    ensures { λ r. ⌜ r ≡ mayLie profile class ⌝ }
 {
-    let wide = 2 * width as u64;
-    if wide <= em as u64 { wide as u32 } else { em }
+    if lies_on_kana(profile, class) {
+        return true;
+    }
+    is_deep(class)
 }
 
 // How deep ruby may lie on a P character by the job's profile.
@@ -459,7 +444,8 @@ pub fn depths_by(
     ensures { λ r. ⌜ r ≡ depthsBy profile first class width before after em ⌝ }
 {
     if lies_on_kana(profile, class) {
-        let d = kana_depth(width, em);
+        // "to a depth of at most one ruby em (half the em) and at most its width", in half units
+        let d = depth_on(width, em);
         return Depths {
             before: d,
             after: d,

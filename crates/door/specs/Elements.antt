@@ -127,6 +127,11 @@ unfoldable pub countedBy : ℕ → ℕ → ℕ → ℕ → ℕ → List ℕ → 
 unfolding rightBy glossedBy
 countedBy kind base ruby lkind left runs lruns at = andThen (rightBy kind base ruby runs at) (λ p. glossedBy p lkind left lruns)
 
+-- an M is counted by itself
+pub mono-only : (kind base ruby : ℕ) (runs : List ℕ) (at : Taken) → kind ≡ 77 → rightAs M 1 ruby [] at ≡ rightBy kind base ruby runs at
+unfolding rightBy
+mono-only kind base ruby runs at e = rw e
+
 -- without a left reading the right one is all
 pub right-only : (kind base ruby lkind left : ℕ) (runs lruns : List ℕ) (at : Taken) → lkind ≡ 78 → rightBy kind base ruby runs at ≡ countedBy kind base ruby lkind left runs lruns at
 unfolding countedBy

@@ -6,15 +6,17 @@ use mathlib.Core.List.{List, [], _++_}
 use Prim.Native.Nat.{ℕ, _+_, _%_, _≤_}
 use lib.ListN.{length}
 use lib.Dec.{eqb, ltb}
-use Rattle.basics.specs.Lists.{sum, any}
+use Rattle.basics.specs.Lists.{sum, any, each, count}
 use Rattle.class.specs.Class.{accepted, blankBefore, blankAfter}
 use Rattle.spread.specs.Ratio.{Ratios, usual}
 use Rattle.refusal.specs.declared.Refusal.{Refusal}
 use Rattle.refusal.specs.declared.Refusal.the-variants.{Range, Ratio, Profile, Count, Short, Character, Blanks}
+use Rattle.door.specs.declared.Sizes.{Sizes}
+use Rattle.door.specs.declared.Results.{Results}
 use Rattle.door.specs.declared.Runs.{Runs}
 use Rattle.door.specs.declared.Runs.the-variants.{Sum, Wrong}
 use Rattle.door.specs.Job.{Job, entries}
-use Rattle.door.specs.Refusals.{outside, ratioWrong, _when_}
+use Rattle.door.specs.Refusals.{outside, ratioWrong, _when_, baseFaults, readingFaults}
 
 -- numbers 1, 15 and 20
 abbrev pub houseRows : ℕ → ℕ → Ratios → ℕ → List Refusal
@@ -26,13 +28,13 @@ houseRows em measure ratios profile =
     ++ Profile when ltb 1 profile
 
 -- numbers 2 and 12, by the counts and the lengths of the result lists
-abbrev pub sizeRows : ℕ → ℕ → ℕ → ℕ → ℕ → ℕ → ℕ → ℕ → List Refusal
-sizeRows bases rubies elements lefts base ruby left lines =
-    Count 0 when ltb 1024 bases
-    ++ Count 1 when ltb 2048 rubies
-    ++ Count 2 when ltb 1024 elements
-    ++ Count 3 when ltb 2048 lefts
-    ++ Short when (ltb base bases || (ltb lines bases || (ltb ruby rubies || ltb left lefts)))
+abbrev pub sizeRows : Sizes → Results → List Refusal
+sizeRows sizes results =
+    Count 0 when ltb 1024 (sizes .bases)
+    ++ Count 1 when ltb 2048 (sizes .rubies)
+    ++ Count 2 when ltb 1024 (sizes .elements)
+    ++ Count 3 when ltb 2048 (sizes .lefts)
+    ++ Short when (ltb (results .base) (sizes .bases) || (ltb (results .lines) (sizes .bases) || (ltb (results .ruby) (sizes .rubies) || ltb (results .left) (sizes .lefts))))
 
 -- number 3 of a character; a ruby character or a left one has no flag, which is as good as 0
 abbrev pub characterWrong : ℕ → ℕ → ℕ → Bool
@@ -87,6 +89,17 @@ pub record ReadingHolds (n : ℕ) (cs ws : List ℕ) : Type 0 where
   pub most : n ≤ 2048
   pub class : n ≤ length cs
   pub width : n ≤ length ws
+
+pub record CharactersHold (sizes : Sizes) (cs ws bs xs fs rcs rws lcs lws : List ℕ) : Type 0 where
+  pub base : BaseHolds (sizes .bases) cs ws bs xs fs
+  pub ruby : ReadingHolds (sizes .rubies) rcs rws
+  pub left : ReadingHolds (sizes .lefts) lcs lws
+
+-- numbers 3 and 4 of as many characters as are counted: base characters, then ruby ones, then left ones
+abbrev pub characterRows : Sizes → List ℕ → List ℕ → List ℕ → List ℕ → List ℕ → List ℕ → List ℕ → List ℕ → List ℕ → List Refusal
+characterRows sizes cs ws bs xs fs rcs rws lcs lws =
+    each (baseFaults (basesOnly cs ws bs xs fs)) (count 0 (sizes .bases))
+    ++ (each (readingFaults 1024 rcs rws) (count 0 (sizes .rubies)) ++ each (readingFaults 3072 lcs lws) (count 0 (sizes .lefts)))
 
 pub runs-wrong : (runs : List ℕ) (u n : ℕ) → runsFrom runs u n ≡ Wrong → (any (eqb 0) (entries runs u n) || ltb 64 (sum (entries runs u n))) ≡ true
 unfolding runsFrom

@@ -1,18 +1,18 @@
--- The door's groups one after the other: what each asks for, and what it decides of the whole.
-use mathlib.Core.Path.{_≡_, refl, sym, ap, _∙_}
+-- What is judged before any element, by the door's two checks in turn: what the second asks for, and what either decides of the whole.
+use mathlib.Core.Path.{_≡_, sym, ap, _∙_, subst}
 use mathlib.Core.List.{List, [], _++_, append-assoc}
 use Prim.Native.Nat.{ℕ, _≤_, min}
 use native.Mathlib.Omega.{arith}
 use lib.Dec.{ltb}
 use lib.ListN.{length}
-use Rattle.basics.specs.Lists.{each, count}
 use Rattle.refusal.specs.declared.Refusal.{Refusal}
 use Rattle.refusal.specs.declared.Refusal.the-variants.{Count, Short}
+use Rattle.door.specs.declared.Sizes.{Sizes}
 use Rattle.door.specs.declared.Checked.the-variants.{Passed, Refused}
 use Rattle.door.specs.Job.{Job, baseCount, rubyCount, leftCount, elementCount}
-use Rattle.door.specs.Refusals.{_when_, listShort, baseFaults, rubyFaults, glossFaults, jobFaults, charFaults}
+use Rattle.door.specs.Refusals.{_when_, listShort, jobFaults, charFaults}
 use Rattle.door.specs.Verdict.{verdict, passed-none, front-refused, front-passed}
-use Rattle.door.specs.Values.{houseRows, sizeRows, basesOnly, BaseHolds, ReadingHolds}
+use Rattle.door.specs.Values.{houseRows, sizeRows, characterRows, CharactersHold}
 use Rattle.door.specs.Passed.{limits}
 
 -- counts lie within their lists
@@ -38,29 +38,31 @@ pub element-within : (job : Job) → (elementCount job ≤ length (job .kind)) �
 unfolding elementCount
 element-within job = within-five _ _ _ _ _
 
+-- the counts of a job
+abbrev pub sizesOf : Job → Sizes
+sizesOf job = record { bases = baseCount job; rubies = rubyCount job; elements = elementCount job; lefts = leftCount job }
+
+-- what `check_settings` judges of a job, by counts that were worked out and the lengths of the result lists
+abbrev pub settings : Job → ℕ → ℕ → ℕ → ℕ → Sizes → List Refusal
+settings job base ruby left lines sizes =
+    houseRows (job .em) (job .measure) (job .ratios) (job .profile) ++ sizeRows sizes (record { base = base; ruby = ruby; left = left; lines = lines })
+
+-- what `check_characters` judges of it, and what it asks for
+abbrev pub characters : Job → Sizes → List Refusal
+characters job sizes = characterRows sizes (job .class) (job .width) (job .before) (job .after) (job .flag) (job .rubyClass) (job .rubyWidth) (job .leftClass) (job .leftWidth)
+
+abbrev pub CharactersOf : Job → Sizes → Type 0
+CharactersOf job sizes = CharactersHold sizes (job .class) (job .width) (job .before) (job .after) (job .flag) (job .rubyClass) (job .rubyWidth) (job .leftClass) (job .leftWidth)
+
 module _ (job : Job) (base ruby left lines : ℕ) where
-  abbrev pub house : List Refusal
-  house = houseRows (job .em) (job .measure) (job .ratios) (job .profile)
-
-  abbrev pub sizes : List Refusal
-  sizes = sizeRows (baseCount job) (rubyCount job) (elementCount job) (leftCount job) base ruby left lines
-
-  abbrev pub bases : List Refusal
-  bases = each (baseFaults (basesOnly (job .class) (job .width) (job .before) (job .after) (job .flag))) (count 0 (baseCount job))
-
-  abbrev pub rights : List Refusal
-  rights = each (rubyFaults job) (count 0 (rubyCount job))
-
-  abbrev pub lefts : List Refusal
-  lefts = each (glossFaults job) (count 0 (leftCount job))
-
-  -- what is judged before any element: the five groups in turn
+  -- what is judged before any element
   abbrev pub ahead : List Refusal
   ahead = jobFaults job base ruby left lines ++ charFaults job
 
-  own : jobFaults job base ruby left lines ≡ house ++ sizes
+  own : jobFaults job base ruby left lines ≡ settings job base ruby left lines (sizesOf job)
   unfolding jobFaults
   own =
+      let house = houseRows (job .em) (job .measure) (job .ratios) (job .profile) in
       let c = Count 0 when ltb 1024 (baseCount job) in
       let d = Count 1 when ltb 2048 (rubyCount job) in
       let e = Count 2 when ltb 1024 (elementCount job) in
@@ -69,44 +71,36 @@ module _ (job : Job) (base ruby left lines : ℕ) where
       ap (λ (l : List Refusal). l ++ e ++ f ++ s) (append-assoc house c d) ∙ ap (λ (l : List Refusal). l ++ f ++ s) (append-assoc house (c ++ d) e)
       ∙ ap (λ (l : List Refusal). l ++ s) (append-assoc house (c ++ d ++ e) f) ∙ append-assoc house (c ++ d ++ e ++ f) s
 
-  groups : ahead ≡ house ++ (sizes ++ (bases ++ (rights ++ lefts)))
+  -- both in turn, by the job's own counts
+  parts : ahead ≡ settings job base ruby left lines (sizesOf job) ++ characters job (sizesOf job)
   unfolding charFaults
-  groups = ap (λ (l : List Refusal). l ++ (bases ++ (rights ++ lefts))) own ∙ append-assoc house sizes (bases ++ (rights ++ lefts))
+  parts = ap (λ (l : List Refusal). l ++ characters job (sizesOf job)) own
 
-  pub house-end : {q : Refusal} → verdict house ≡ Refused q → Refused q ≡ verdict ahead
-  house-end e = sym (ap verdict groups ∙ front-refused house _ e)
+  module _ {sizes : Sizes} (counted : sizes ≡ sizesOf job) where
+    both : ahead ≡ settings job base ruby left lines sizes ++ characters job sizes
+    both = parts ∙ ap (λ (n : Sizes). settings job base ruby left lines n ++ characters job n) (sym counted)
 
-  module _ (one : verdict house ≡ Passed) where
-    after-house : verdict ahead ≡ verdict (sizes ++ (bases ++ (rights ++ lefts)))
-    after-house = ap verdict groups ∙ front-passed house _ one
+    -- settings that are refused decide
+    pub by-settings : {q : Refusal} → verdict (settings job base ruby left lines sizes) ≡ Refused q → verdict ahead ≡ Refused q
+    by-settings e = ap verdict both ∙ front-refused (settings job base ruby left lines sizes) (characters job sizes) e
 
-    pub sizes-end : {q : Refusal} → verdict sizes ≡ Refused q → Refused q ≡ verdict ahead
-    sizes-end e = sym (after-house ∙ front-refused sizes _ e)
+    -- where they pass, the characters do, and what their check asks for is there
+    module _ (passes : verdict (settings job base ruby left lines sizes) ≡ Passed) where
+      pub by-characters : verdict ahead ≡ verdict (characters job sizes)
+      by-characters = ap verdict both ∙ front-passed (settings job base ruby left lines sizes) (characters job sizes) passes
 
-    module _ (two : verdict sizes ≡ Passed) where
-      limited : jobFaults job base ruby left lines ≡ []
-      limited = own ∙ rw (passed-none house one, passed-none sizes two)
+      no-own : jobFaults job base ruby left lines ≡ []
+      no-own = own ∙ ap (settings job base ruby left lines) (sym counted) ∙ passed-none (settings job base ruby left lines sizes) passes
 
-      pub base-holds : BaseHolds (baseCount job) (job .class) (job .width) (job .before) (job .after) (job .flag)
-      base-holds =
-          let w = base-within job in
-          record { most = limits job base ruby left lines limited .bases; class = w .0; width = w .1; before = w .2; after = w .3; flag = w .4 }
-
-      pub ruby-holds : ReadingHolds (rubyCount job) (job .rubyClass) (job .rubyWidth)
-      ruby-holds = let w = ruby-within job in record { most = limits job base ruby left lines limited .rubies; class = w .0; width = w .1 }
-
-      pub left-holds : ReadingHolds (leftCount job) (job .leftClass) (job .leftWidth)
-      left-holds = let w = left-within job in record { most = limits job base ruby left lines limited .lefts; class = w .0; width = w .1 }
-
-      after-sizes : verdict ahead ≡ verdict (bases ++ (rights ++ lefts))
-      after-sizes = after-house ∙ front-passed sizes _ two
-
-      pub bases-end : {q : Refusal} → verdict bases ≡ Refused q → Refused q ≡ verdict ahead
-      bases-end e = sym (after-sizes ∙ front-refused bases _ e)
-
-      module _ (three : verdict bases ≡ Passed) where
-        pub rights-end : {q : Refusal} → verdict rights ≡ Refused q → Refused q ≡ verdict ahead
-        rights-end e = sym (after-sizes ∙ front-passed bases _ three ∙ front-refused rights _ e)
-
-        pub lefts-end : verdict rights ≡ Passed → verdict lefts ≡ verdict ahead
-        lefts-end four = sym (after-sizes ∙ front-passed bases _ three ∙ front-passed rights _ four)
+      pub characters-hold : CharactersOf job sizes
+      characters-hold =
+          let l = limits job base ruby left lines no-own in
+          let b = base-within job in
+          let r = ruby-within job in
+          let g = left-within job in
+          subst (CharactersOf job) (sym counted)
+          (record {
+            base = record { most = l .bases; class = b .0; width = b .1; before = b .2; after = b .3; flag = b .4 };
+            ruby = record { most = l .rubies; class = r .0; width = r .1 };
+            left = record { most = l .lefts; class = g .0; width = g .1 };
+          })

@@ -4,25 +4,40 @@
 
 ghost use mathlib.Core.Path.{_≡_};
 ghost use mathlib.Core.Bool.{not, _&&_, _||_};
-ghost use mathlib.Core.List.{[]};
+ghost use mathlib.Core.List.{[], _++_};
 ghost use Prim.Native.Nat.{_+_, _%_, _^_, _≤_, _<_, min};
 ghost use lib.Dec.{ltb, eqb};
 ghost use lib.ListN.{length, getD};
 ghost use Rattle.basics.specs.Seen.{was};
 ghost use Rattle.basics.specs.Lists.{each, count};
-ghost use Rattle.spread.specs.Ratio.{ratioOf, ratiosOf, Housed};
+ghost use Rattle.spread.specs.Ratio.{ratioOf, ratiosOf};
 ghost use Rattle.class.specs.Class.{accepted, blankBefore, blankAfter};
 ghost use Rattle.word.specs.Both.{takes};
 ghost use Rattle.door.specs.Job as jobs;
-ghost use Rattle.door.specs.Job.{known, knownLeft, formOf, leftOf, leftByRuns, leftByCount, takesRuns, takesLeftRuns, jobOf};
+ghost use Rattle.door.specs.Job.{known, knownLeft, formOf, leftOf, leftByRuns, leftByCount, takesRuns, takesLeftRuns};
 ghost use Rattle.door.specs.Refusals.{outside, ratioWrong, _when_, baseFaults, readingFaults};
 ghost use Rattle.refusal.specs.declared.Refusal.the-variants.{Character};
 ghost use Rattle.door.specs.Verdict.{verdict};
-ghost use Rattle.door.specs.Values.{houseRows, sizeRows, characterWrong, baseRows, runsFrom, basesOnly, BaseHolds, ReadingHolds};
+ghost use Rattle.door.specs.Values.{houseRows, sizeRows, characterWrong, baseRows, characterRows, runsFrom, basesOnly, BaseHolds, ReadingHolds, CharactersHold};
 ghost use Rattle.word.specs.declared.Form.the-variants as form;
 ghost use Rattle.door.specs.Elements.{alone, withLeft, rightAs, rightBy, glossedBy, countedBy};
-ghost use Rattle.door.specs.Whole.{ahead};
 use refusal::Refusal;
+
+// How many base characters, ruby characters, elements and left characters a job has.
+pub struct Sizes {
+    pub bases: usize,
+    pub rubies: usize,
+    pub elements: usize,
+    pub lefts: usize,
+}
+
+// How long its result lists are, of positions and of lines.
+pub struct Results {
+    pub base: usize,
+    pub ruby: usize,
+    pub left: usize,
+    pub lines: usize,
+}
 
 // What the elements before one have taken: base characters, ruby characters and runs, left characters and their runs.
 pub struct Taken {
@@ -100,27 +115,19 @@ fn em_wrong(em: u32) -> bool
 }
 
 // Number 12: some result list is below its count.
-fn too_short(
-    base: usize,
-    ruby: usize,
-    left: usize,
-    lines: usize,
-    bases: usize,
-    rubies: usize,
-    lefts: usize,
-) -> bool
-    ensures { λ r. ⌜ r ≡ (ltb base bases || (ltb lines bases || (ltb ruby rubies || ltb left lefts))) ⌝ }
+fn too_short(sizes: Sizes, results: Results) -> bool
+    ensures { λ r. ⌜ r ≡ (ltb (results .base) (sizes .bases) || (ltb (results .lines) (sizes .bases) || (ltb (results .ruby) (sizes .rubies) || ltb (results .left) (sizes .lefts)))) ⌝ }
 {
-    if base < bases {
+    if results.base < sizes.bases {
         return true;
     }
-    if lines < bases {
+    if results.lines < sizes.bases {
         return true;
     }
-    if ruby < rubies {
+    if results.ruby < sizes.rubies {
         return true;
     }
-    left < lefts
+    results.left < sizes.lefts
 }
 
 // Number 15 of one ratio.
@@ -167,34 +174,43 @@ fn check_house(em: u32, measure: u32, ratios: [[u32; 3]; 2], profile: u32) -> Ch
 }
 
 // Numbers 2 and 12.
-fn check_sizes(
-    bases: usize,
-    rubies: usize,
-    elements: usize,
-    lefts: usize,
-    base: usize,
-    ruby: usize,
-    left: usize,
-    lines: usize,
-) -> Checked
-    ensures { λ r. ⌜ r ≡ verdict (sizeRows bases rubies elements lefts base ruby left lines) ⌝ }
+fn check_sizes(sizes: Sizes, results: Results) -> Checked
+    ensures { λ r. ⌜ r ≡ verdict (sizeRows sizes results) ⌝ }
 {
-    if limits::MOST_BASES < bases {
+    if limits::MOST_BASES < sizes.bases {
         return Checked::Refused(Refusal::Count(0));
     }
-    if limits::MOST_RUBIES < rubies {
+    if limits::MOST_RUBIES < sizes.rubies {
         return Checked::Refused(Refusal::Count(1));
     }
-    if limits::MOST_ELEMENTS < elements {
+    if limits::MOST_ELEMENTS < sizes.elements {
         return Checked::Refused(Refusal::Count(2));
     }
-    if limits::MOST_LEFTS < lefts {
+    if limits::MOST_LEFTS < sizes.lefts {
         return Checked::Refused(Refusal::Count(3));
     }
-    if too_short(base, ruby, left, lines, bases, rubies, lefts) {
+    if too_short(sizes, results) {
         return Checked::Refused(Refusal::Short);
     }
     Checked::Passed
+}
+
+// What is judged first: numbers 1, 15 and 20, then 2 and 12.
+pub fn check_settings(
+    em: u32,
+    measure: u32,
+    ratios: [[u32; 3]; 2],
+    profile: u32,
+    sizes: Sizes,
+    results: Results,
+) -> Checked
+    ensures { λ c. ⌜ c ≡ verdict (houseRows em measure (ratiosOf ratios) profile ++ sizeRows sizes results) ⌝ }
+{
+    let house = check_house(em, measure, ratios, profile);
+    let Checked::Passed = house else {
+        return house;
+    };
+    check_sizes(sizes, results)
 }
 
 // Number 3 of one character; a ruby character has the flag 0.
@@ -307,6 +323,34 @@ fn check_readings(first: u32, n: usize, class: &[u32], width: &[u32]) -> Checked
     Checked::Passed
 }
 
+// What is judged next, before any element: numbers 3 and 4 of base characters, then of ruby ones, then of left ones. Their counts are within the lists and, where `check_settings`
+// passes, within the limits.
+pub fn check_characters(
+    sizes: Sizes,
+    class: &[u32],
+    width: &[u32],
+    before: &[u32],
+    after: &[u32],
+    flag: &[u32],
+    rclass: &[u32],
+    rwidth: &[u32],
+    lclass: &[u32],
+    lwidth: &[u32],
+) -> Checked
+    requires { ⌜ CharactersHold sizes (now class) (now width) (now before) (now after) (now flag) (now rclass) (now rwidth) (now lclass) (now lwidth) ⌝ }
+    ensures { λ c. ⌜ c ≡ verdict (characterRows sizes (was class) (was width) (was before) (was after) (was flag) (was rclass) (was rwidth) (was lclass) (was lwidth)) ⌝ }
+{
+    let bases = check_bases(sizes.bases, class, width, before, after, flag);
+    let Checked::Passed = bases else {
+        return bases;
+    };
+    let rubies = check_readings(limits::FIRST_RUBY, sizes.rubies, rclass, rwidth);
+    let Checked::Passed = rubies else {
+        return rubies;
+    };
+    check_readings(limits::FIRST_LEFT, sizes.lefts, lclass, lwidth)
+}
+
 fn is_known(kind: u32) -> bool
     ensures { λ r. ⌜ r ≡ known kind ⌝ }
 {
@@ -415,7 +459,7 @@ fn piece_of(form: word::Form, bases: usize, rubies: usize, at: Taken) -> Piece
 }
 
 // Number 5 of an M, a G and a J.
-fn count_mono(ruby: u32, at: Taken) -> Counted
+pub fn count_mono(ruby: u32, at: Taken) -> Counted
     ensures { λ c. ⌜ c ≡ rightAs form.M 1 ruby [] at ⌝ }
 {
     if is_outside(1, limits::ELEMENT_RUBIES, ruby) {
@@ -709,55 +753,4 @@ pub fn element_count(
 {
     let counts = fewer(eruby.len(), fewer(lkind.len(), eleft.len()));
     fewer(kind.len(), fewer(ebase.len(), counts))
-}
-
-// What is judged before any element: numbers 1, 15, 20, 2 and 12, then the characters, left ones after ruby ones. `base`, `ruby`, `left` and `lines` are the lengths of the result
-// lists.
-pub fn check_characters(
-    em: u32,
-    measure: u32,
-    ratios: [[u32; 3]; 2],
-    profile: u32,
-    class: &[u32],
-    width: &[u32],
-    before: &[u32],
-    after: &[u32],
-    flag: &[u32],
-    rclass: &[u32],
-    rwidth: &[u32],
-    lclass: &[u32],
-    lwidth: &[u32],
-    kind: &[u32],
-    ebase: &[u32],
-    eruby: &[u32],
-    lkind: &[u32],
-    eleft: &[u32],
-    base: usize,
-    ruby: usize,
-    left: usize,
-    lines: usize,
-) -> Checked
-    ensures { λ c. let job = jobOf em measure ratios profile (was class) (was width) (was before) (was after) (was flag) (was rclass) (was rwidth) (was lclass) (was lwidth) (was kind) (was ebase) (was eruby) (was lkind) (was eleft) [] [] in ⌜ c ≡ verdict (ahead job base ruby left lines) ⌝ }
-{
-    let house = check_house(em, measure, ratios, profile);
-    let Checked::Passed = house else {
-        return house;
-    };
-    let bases = base_count(class, width, before, after, flag);
-    let rubies = ruby_count(rclass, rwidth);
-    let lefts = left_count(lclass, lwidth);
-    let elements = element_count(kind, ebase, eruby, lkind, eleft);
-    let sizes = check_sizes(bases, rubies, elements, lefts, base, ruby, left, lines);
-    let Checked::Passed = sizes else {
-        return sizes;
-    };
-    let characters = check_bases(bases, class, width, before, after, flag);
-    let Checked::Passed = characters else {
-        return characters;
-    };
-    let rights = check_readings(limits::FIRST_RUBY, rubies, rclass, rwidth);
-    let Checked::Passed = rights else {
-        return rights;
-    };
-    check_readings(limits::FIRST_LEFT, lefts, lclass, lwidth)
 }

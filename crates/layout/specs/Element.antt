@@ -16,6 +16,8 @@ use Rattle.word.specs.declared.Form.{Form}
 use Rattle.word.specs.declared.Form.the-variants.{P, M, G, J}
 use Rattle.word.specs.declared.Left.{Left}
 use Rattle.word.specs.declared.Left.the-variants as left
+use Rattle.spread.specs.Ratio.{Housed, Sound, oneTwoOne, usual}
+use Rattle.word.specs.declared.Base.{Base}
 use Rattle.word.specs.declared.Word.{Word}
 use Rattle.word.specs.declared.Answer.{Answer}
 use Rattle.word.specs.declared.Answer.the-variants as answered
@@ -27,10 +29,11 @@ use Rattle.word.specs.Both.{Gloss, hasLeft, takes, apart}
 use Rattle.word.specs.Sides as sides
 use Rattle.word.specs.Answered.{answerBoth}
 use Rattle.word.specs.Answered as both
+use Rattle.word.specs.Summed.{givenBase, ems-wide}
 use Rattle.word.specs.Sized.{Small}
 use Rattle.word.specs.Sized as size
 use Rattle.line.specs.declared.Side.the-variants.{Left as LeftSide}
-use Rattle.cells.specs.Cells.{beside, cellAt}
+use Rattle.cells.specs.Cells.{ratiosAt, beside, cellAt}
 use Rattle.door.specs.declared.Piece.{Piece}
 use Rattle.door.specs.declared.Taken.{Taken}
 use Rattle.door.specs.declared.Counted.the-variants.{Is, Out}
@@ -38,15 +41,18 @@ use Rattle.door.specs.declared.Step.{Step}
 use Rattle.door.specs.declared.Step.the-variants.{Next, Stop}
 use Rattle.door.specs.Job.{Job, baseCount, rubyCount, leftCount, entries, known, knownLeft, formOf, leftOf, leftByRuns, takesBase, element, given, glossOf}
 use Rattle.door.specs.Refusals.{countsWrong, runOut}
+use Rattle.door.specs.Entries.{length-entries}
 use Rattle.door.specs.Elements.{Reads}
 use Rattle.door.specs.Passed.{Few, FewLeft, supplied}
 use Rattle.door.specs.Walk as walk
 use Rattle.job.specs.Line.{part, wordsIn, cuts, wordOf, onP}
 use Rattle.join.specs.Rows.{isCut, none, rowBy, leftRowBy, endsBehind, rowOf, HasRows}
+use Rattle.word_rows.specs.Base.{BaseReady, basesOnly}
 use Rattle.word_rows.specs.Table.{Filled}
 use Rattle.word_rows.specs.Runs.{bothOnly, wordsOnly, runsOnly, Runs, HasRuns, jukugoRow}
-use Rattle.word_rows.specs.Word.{wordRow, word-row, jukugo-row, flagged, WordReady, Judged}
-use Rattle.one_reading.specs.Lay.{aloneRow, AloneReady, FilledBy}
+use Rattle.word_rows.specs.Word.{wordRow, word-row, jukugo-row, flagged, WordReady, Judged, judged-as}
+use Rattle.one_reading.specs.Lay.{RubyReady, BasedReady, RunsReady, Gives, isBased, basedRow, FilledBy, mono-any}
+use Rattle.one_reading.specs.Seen.{monoOnly}
 use Rattle.two_readings.specs.Written.{from-none, clear-upto, LeftRoom, Written, bareRow, BareReady, Bared, over-bared}
 use Rattle.two_readings.specs.Left.{leftsOnly, runs-all, ownRow, characterRow, bothRow, BothReady, WrittenBy}
 use Rattle.layout.specs.Step.{Standing, Laid, Stepped}
@@ -137,6 +143,35 @@ runsOf job = runsOnly (job .em) (job .rubyClass) (job .rubyWidth) (job .run)
 abbrev pub leftsOf : Job → Job
 leftsOf job = leftsOnly (job .leftWidth) (job .leftRun)
 
+abbrev pub monoOf : Job → Job
+monoOf job = monoOnly (job .width) (job .before) (job .after) (job .flag) (job .rubyWidth)
+
+abbrev pub basesOf : Job → Job
+basesOf job = basesOnly (job .em) (job .class) (job .width) (job .before) (job .after)
+
+usual-housed : Housed usual
+usual-housed = record { ruby = sound; base = sound }
+  where
+    sound : Sound oneTwoOne
+    sound = record { front = omega arith; middle = omega arith; rear = omega arith; some = omega arith }
+
+-- what is no P and no M is a G or a J
+no-mono : (form : Form) → (form ≡ M → ⊥) → hasRuby form ≡ true → isBased form ≡ true
+no-mono P e r = absurd (false≢true r)
+no-mono M e r = absurd (e refl)
+no-mono G e r = refl
+no-mono J e r = refl
+
+-- an M by its letter
+mono-letter : (n : ℕ) → formOf n ≡ M → n ≡ 77
+mono-letter n = go (eqb n 77) (eqb n 71) (eqb n 74) refl
+  where
+    go : (m g j : Bool) → eqb n 77 ≡ m → cond m M (cond g G (cond j J P)) ≡ M → n ≡ 77
+    go true g j e h = eqb-true n 77 e
+    go false true j e h = absurd (let z : _≡_ {A = ℕ} 0 1 = cc in omega arith)
+    go false false true e h = absurd (let z : _≡_ {A = ℕ} 0 1 = cc in omega arith)
+    go false false false e h = absurd (let z : _≡_ {A = ℕ} 0 1 = cc in omega arith)
+
 -- An element's rows are its words'.
 
 picked : {A : Type 0} (t : Bool) (a b : A) → t ≡ true → cond t a b ≡ a
@@ -198,6 +233,10 @@ module _ {job : Job} {k : ℕ} {at : Taken} {was : List ℕ} (h : Standing job k
     kinds =
         let q = or-none _ _ five in
         (not-false (known (getD (job .kind) k 0)) (or-none _ _ (q .0) .0), not-false (knownLeft (getD (job .leftKind) k 0)) (or-none _ _ (q .1) .0))
+
+    pub mono-form : getD (job .kind) k 0 ≡ 77 → p .form ≡ M
+    unfolding element
+    mono-form e = ap (λ z. z .form) same ∙ rw e
 
     -- an element without a left kind takes it, and has no left characters
     module _ (bare : getD (job .leftKind) k 0 ≡ 78) where
@@ -303,17 +342,84 @@ module _ {job : Job} {k : ℕ} {at : Taken} {was : List ℕ} (h : Standing job k
         unfolding element
         one-base e = ap (λ f. takesBase f (getD (job .elementBase) k 0)) e
 
-        alone-ready-x : (t : List ℕ) → length t ≡ length was → AloneReady (wordsOf job) x t
-        alone-ready-x t long =
-            let w = word-ready t long (job .class) (job .rubyClass) (job .run) [] [] [] in
+        -- an M, by the lists that it asks for
+        mono-ready-x : (t : List ℕ) → length t ≡ length was → x .form ≡ M → (x .bases ≡ 1) × WordReady (monoOf job) x t
+        mono-ready-x t long e =
+            let w = word-ready t long [] [] [] [] [] [] in (
+              one-base e,
+              record {
+                some = w .some;
+                few = w .few;
+                fewRuby = w .fewRuby;
+                width = w .width;
+                before = w .before;
+                after = w .after;
+                flag = w .flag;
+                rubyWidth = w .rubyWidth;
+                small = w .small;
+                house = usual-housed;
+                room = w .room;
+              },
+            )
+
+        -- a G or a J, by what level one asks of its base
+        base-ready-x : BaseReady (basesOf job) x
+        base-ready-x =
             record {
-              ruby = ruby;
+              few = omega (arith, held .0, h .stands .clean .few);
+              short = few .few;
               class = reads .class;
-              rubyClass = reads .rubyClass;
-              one = one-base;
-              jukugo = λ j. record { class = reads .class; rubyClass = reads .rubyClass; whole = omega (arith, few .whole j); runs = right-runs t long j; word = w };
-              word = w;
+              width = reads .width;
+              before = reads .before;
+              after = reads .after;
+              narrow = reads .sized .narrow;
             }
+
+        pub base-ready : BaseReady (basesOf job) p
+        base-ready = subst (BaseReady (basesOf job)) (sym same) base-ready-x
+
+        -- the flag behind it is there
+        pub ends-ready : (0 < p .bases) × (p .base + p .bases ≤ 1024) × (p .base + p .bases ≤ length (job .flag))
+        ends-ready =
+            subst (λ z. (0 < z .bases) × (z .base + z .bases ≤ 1024) × (z .base + z .bases ≤ length (job .flag))) (sym same)
+            (few .some, omega (arith, held .0, h .stands .clean .few), reads .flag)
+
+        ruby-ready-x : RubyReady x (job .rubyClass) (job .rubyWidth)
+        ruby-ready-x =
+            record {
+              some = few .reads ruby;
+              few = omega (arith, held .1, h .stands .clean .fewRuby);
+              short = few .fewRuby;
+              class = reads .rubyClass;
+              width = reads .rubyWidth;
+              narrow = reads .sized .narrowRuby;
+            }
+
+        module _ {b : Base} (sums : b ≡ givenBase (x .form) (given job x)) where
+          based-ready-x : (t : List ℕ) → length t ≡ length was → ratiosAt t ≡ ratiosAt was → BasedReady (job .em) b x (job .rubyClass) (job .rubyWidth) t
+          based-ready-x t long top =
+              let n = length-entries (job .width) (x .base) (x .bases) in
+              record {
+                few = base-ready-x .few;
+                some = subst (λ z. 0 < z .string .count) (sym sums) (omega (arith, n, few .some));
+                short = subst (λ z. z .string .count ≤ 4096) (sym sums) (omega (arith, n, few .few));
+                narrow = subst (λ z. z .string .width ≤ 131072) (sym sums) (reads .sized .narrow);
+                ruby = ruby-ready-x;
+                house = subst Housed (sym (top ∙ h .head)) (h .house);
+                room = omega (arith, held .0, h .room, long);
+              }
+
+          runs-ready-x : (t : List ℕ) → length t ≡ length was → isJ (x .form) ≡ true → RunsReady (job .em) b x (job .rubyClass) (job .rubyWidth) (job .run) t
+          runs-ready-x t long j =
+              record {
+                some = few .some;
+                ems = subst (λ z. z .uneven ≡ false → job .em ≤ z .string .width) (sym sums) (ems-wide (x .form) (job .em) (given job x .width) (reads .sized .some) j);
+                runs = right-runs t long j;
+                whole = λ one. sym (few .whole j ∙ ap (λ n. sum (entries (job .run) (x .run) n)) one ∙ add-zero (getD (job .run) (x .run) 0));
+              }
+
+          gives-x : (t : List ℕ) → ratiosAt t ≡ ratiosAt was → Gives (x .form) (job .em) b x (job .rubyClass) (job .rubyWidth) (job .run) t (given job x)
+          gives-x t top = record { ems = refl; house = sym (top ∙ h .head); summed = sums; rubyClass = refl; rubyWidth = refl; run = λ j. refl }
 
         -- level one's answer taken apart
         steps : {a : Answer} {Done : Word → Type 0} {mid t : List ℕ} {s : Step} → length mid ≡ length was → answerBoth (x .form) k (given job x) (glossOf job x) ≡ a →
@@ -365,7 +471,7 @@ module _ {job : Job} {k : ℕ} {at : Taken} {was : List ℕ} (h : Standing job k
               go true = refl
               go false = refl
 
-          alone-row : (w : Word) (i : ℕ) → aloneRow (wordsOf job) x w (flagged job x) i ≡ rowBy job x w (flagged job x) 0 0 i
+          alone-row : (w : Word) (i : ℕ) → basedRow (wordsOf job) x w (flagged job x) i ≡ rowBy job x w (flagged job x) 0 0 i
           alone-row w i = go (isJ (x .form)) cuts-x
             where
               go : (t : Bool) → cuts job x ≡ t → cond t (jukugoRow job x w (flagged job x) i) (wordRow x w (flagged job x) 0 0 i) ≡ rowBy job x w (flagged job x) 0 0 i
@@ -376,10 +482,10 @@ module _ {job : Job} {k : ℕ} {at : Taken} {was : List ℕ} (h : Standing job k
           Bare z mid = Bared (z .left) (z .base) (z .base + z .bases) was mid
 
           alone-laid : (mid t : List ℕ) → Bare x mid → (w : Word) → answerBoth (x .form) k (given job x) (glossOf job x) ≡ answered.Set w →
-              Filled (aloneRow (wordsOf job) x w (flagged job x)) (x .base) (x .base + x .bases) mid t → Laid job x was t
+              Filled (basedRow (wordsOf job) x w (flagged job x)) (x .base) (x .base + x .bases) mid t → Laid job x was t
           alone-laid mid t b w e f =
               let n = x .base + x .bases in
-              let q = over-bared (aloneRow (wordsOf job) x w (flagged job x)) (x .left) (x .base) n was mid t (clear-upto (baseCount job) (leftCount job) n was (h .begins) (held .0)) b f in
+              let q = over-bared (basedRow (wordsOf job) x w (flagged job x)) (x .left) (x .base) n was mid t (clear-upto (baseCount job) (leftCount job) n was (h .begins) (held .0)) b f in
               record {
                 long = q .long;
                 head = q .head;
@@ -397,14 +503,40 @@ module _ {job : Job} {k : ℕ} {at : Taken} {was : List ℕ} (h : Standing job k
               no-left : (i : ℕ) → bareRow (x .left) ≡ leftRowBy job x w i
               no-left i = bare-left job x w i none-x (sym (ap (λ z. z .lefts) same) ∙ none) (its-place .3) (ap (λ v. v .left) (set ∙ right-word job x none-x) ∙ one-reading (x .form) (given job x))
 
-          pub alone-ready : (mid : List ℕ) → Bare p mid → AloneReady (wordsOf job) p mid
-          alone-ready mid b = subst (λ z. AloneReady (wordsOf job) z mid) (sym same) (alone-ready-x mid (b .long))
+          pub mono-ready : (mid : List ℕ) → Bare p mid → p .form ≡ M → (p .bases ≡ 1) × WordReady (monoOf job) p mid
+          mono-ready mid b e = subst (λ z. (z .bases ≡ 1) × WordReady (monoOf job) z mid) (sym same) (mono-ready-x mid (b .long) (sym (ap (λ z. z .form) same) ∙ e))
+
+          pub based-ready : {b : Base} (mid : List ℕ) → Bare p mid → b ≡ givenBase (p .form) (given job p) →
+              BasedReady (job .em) b p (job .rubyClass) (job .rubyWidth) mid × (isJ (p .form) ≡ true → RunsReady (job .em) b p (job .rubyClass) (job .rubyWidth) (job .run) mid)
+          based-ready {b} mid q e =
+              let sums = e ∙ ap (λ z. givenBase (z .form) (given job z)) same in
+              subst (λ z. BasedReady (job .em) b z (job .rubyClass) (job .rubyWidth) mid × (isJ (z .form) ≡ true → RunsReady (job .em) b z (job .rubyClass) (job .rubyWidth) (job .run) mid))
+              (sym same) (based-ready-x sums mid (q .long) (q .head), runs-ready-x sums mid (q .long))
+
+          pub gives : {b : Base} (mid : List ℕ) → Bare p mid → b ≡ givenBase (p .form) (given job p) →
+              Gives (p .form) (job .em) b p (job .rubyClass) (job .rubyWidth) (job .run) mid (given job p)
+          gives {b} mid q e =
+              subst (λ z. Gives (z .form) (job .em) b z (job .rubyClass) (job .rubyWidth) (job .run) mid (given job z)) (sym same)
+              (gives-x (e ∙ ap (λ z. givenBase (z .form) (given job z)) same) mid (q .head))
+
+          -- a word that is no M is a G or a J
+          pub based : (getD (job .kind) k 0 ≡ 77 → ⊥) → isBased (p .form) ≡ true
+          unfolding element
+          based e = no-mono (p .form) (λ m. e (mono-letter (getD (job .kind) k 0) (sym (ap (λ z. z .form) same) ∙ m))) (ap (λ z. hasRuby (z .form)) same ∙ ruby)
 
           pub alone-judged : {mid t : List ℕ} {s : Step} → Bare p mid →
-              FilledBy (answer (p .form) k (given (wordsOf job) p)) (λ w. aloneRow (wordsOf job) p w (flagged (wordsOf job) p)) p mid t s → Stepped job k at was t s
+              FilledBy (answer (p .form) k (given (wordsOf job) p)) (λ w. basedRow (wordsOf job) p w (flagged (wordsOf job) p)) p mid t s → Stepped job k at was t s
           alone-judged {mid} {t} {s} b j =
               steps (b .long) answer-x (alone-laid mid t (subst (λ z. Bare z mid) same b))
-              (subst (λ z. FilledBy (answer (z .form) k (given job z)) (λ w. aloneRow (wordsOf job) z w (flagged job z)) z mid t s) same j)
+              (subst (λ z. FilledBy (answer (z .form) k (given job z)) (λ w. basedRow (wordsOf job) z w (flagged job z)) z mid t s) same j)
+
+          -- an M
+          pub mono-judged : {mid t : List ℕ} {s : Step} → Bare p mid → p .form ≡ M →
+              FilledBy (answer M k (given (monoOf job) p)) (λ w. wordRow p w (flagged (monoOf job) p) 0 0) p mid t s → Stepped job k at was t s
+          mono-judged {mid} {t} {s} b e j =
+              alone-judged b
+              (subst (λ f. FilledBy (answer f k (given job p)) (λ w i. cond (isJ f) (jukugoRow job p w (flagged job p) i) (wordRow p w (flagged job p) 0 0 i)) p mid t s) (sym e)
+              (judged-as (mono-any k (given (monoOf job) p) (given job p) refl refl refl refl) (λ w d f. f) j))
 
         -- with left characters it has one
         module _ (some : 0 < p .lefts) where

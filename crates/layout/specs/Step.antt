@@ -32,6 +32,7 @@ countsOf job = record { bases = baseCount job; rubies = rubyCount job; lefts = l
 pub record Standing (job : Job) (k : ℕ) (at : Taken) (t : List ℕ) : Type 0 where
   pub stands : Stands job k at
   pub house : Housed (job .ratios)
+  pub head : ratiosAt t ≡ job .ratios
   pub room : size (baseCount job) ≤ length t
   pub begins : leftsAt t ≡ leftFrom (baseCount job) (leftCount job)
   pub leftRoom : 0 < leftCount job → LeftRoom (baseCount job) t

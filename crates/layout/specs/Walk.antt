@@ -147,6 +147,7 @@ module _ (job : Job) (was t : List ℕ) (k : ℕ) (at : Taken) (q : Walking job 
         record {
           stands = stands;
           house = q .ready .house;
+          head = q .head;
           room = omega (arith, q .long, q .ready .room);
           begins = q .begins;
           leftRoom = λ s. let e = from-some (baseCount job) (leftCount job) s in record { behind = omega (arith, q .begins, e); room = omega (arith, q .begins, e, q .long, q .ready .roomLeft s) };

@@ -67,6 +67,18 @@ fn lay_word(
     ensures { λ s. let job = jobWas em 0 ratios profile class width before after flag rclass rwidth lclass lwidth kind ebase eruby lkind eleft runs lruns in ⌜ Stepped job k at (was t) (now (t .exit)) s ⌝ }
 {
     let place = k as u32;
+    if kind[k] == limits::MONO {
+        // An M is counted by itself: most words are, and no other form asks for so little.
+        let mono = door::count_mono(eruby[k], at);
+        let door::Counted::Is(p) = mono else {
+            return door::Step::Stop(Refusal::Element(place));
+        };
+        if door::runs_out(p, counts.bases, counts.rubies, counts.lefts) {
+            return door::Step::Stop(Refusal::Supply(place));
+        }
+        two_readings::put_bare(t, p.base, p.base + p.bases, p.left, counts.lefts);
+        return one_reading::lay_mono(t, place, p, width, before, after, flag, rwidth);
+    }
     let counted = door::count_right(kind[k], ebase[k], eruby[k], at, runs);
     let door::Counted::Is(p) = counted else {
         return door::Step::Stop(Refusal::Element(place));
@@ -75,21 +87,9 @@ fn lay_word(
         return door::Step::Stop(Refusal::Supply(place));
     }
     two_readings::put_bare(t, p.base, p.base + p.bases, p.left, counts.lefts);
-    one_reading::lay_alone(
-        t,
-        place,
-        p,
-        em,
-        ratios,
-        class,
-        width,
-        before,
-        after,
-        flag,
-        rclass,
-        rwidth,
-        runs,
-    )
+    let base = one_reading::base_at(p, em, class, width, before, after);
+    let ends = word_rows::ends_behind(p, flag);
+    one_reading::lay_based(t, place, p, em, base, ends, rclass, rwidth, runs)
 }
 
 // The same for an element with a left kind: numbers 5, 16, 6, and 7 to 10, or its rows. Words without one do not go this way, so that a job without left readings pays nothing for them.
@@ -141,24 +141,23 @@ fn lay_both(
     if door::runs_out(p, counts.bases, counts.rubies, counts.lefts) {
         return door::Step::Stop(Refusal::Supply(place));
     }
-    two_readings::lay_left(
-        t,
-        place,
-        p,
-        ratios,
-        em,
-        class,
-        width,
-        before,
-        after,
-        flag,
-        rclass,
-        rwidth,
-        runs,
-        lclass,
-        lwidth,
-        lruns,
-    )
+    let base = two_readings::base_beside(p, em, class, width, before, after);
+    let right = two_readings::right_at(p, em, rclass, rwidth, runs);
+    let left = two_readings::left_at(p, em, lclass, lwidth, lruns);
+    let form = p.form;
+    let gloss = p.gloss;
+    let house = cells::ratios_at(t);
+    let answer = word::both_answer(form, gloss, place, house, em, base, right, left);
+    let word::Answer::Set(w) = answer else {
+        return word_rows::refused(place, answer);
+    };
+    let ends = word_rows::ends_behind(p, flag);
+    if two_readings::is_apart(p) {
+        two_readings::put_characters(t, p, ends, house, em, width, rwidth, runs, lwidth, lruns);
+        return door::Step::Next(p);
+    }
+    two_readings::put_whole(t, p, w, ends, em, rclass, rwidth, runs, lwidth, lruns);
+    door::Step::Next(p)
 }
 
 // The head of the table and the rows of a job's elements, or the first of their refusals; characters have passed numbers 3 and 4.

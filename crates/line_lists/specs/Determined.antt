@@ -13,7 +13,7 @@ use Rattle.line_lists.specs.declared.Why.{Why}
 use Rattle.line_lists.specs.declared.Why.the-variants.{Long}
 use Rattle.line.specs.Rules.{Clear, extent}
 use Rattle.line.specs.Theorems.{unique}
-use Rattle.line_lists.specs.Promise.{Lists, shortest, line, AllWithin, Unless, Declines, Sets, Promise}
+use Rattle.line_lists.specs.Promise.{rows, line, AllWithin, Unless, Declines, Sets, Promise}
 
 -- one answer and one list
 pub record Same (r r′ : Answer) (now now′ : List ℕ) : Type 0 where
@@ -38,13 +38,13 @@ module _ (was : List ℕ) (r r′ : Answer) (now now′ : List ℕ) where
         list = p .written ∙ ap (λ xs. xs ++ drop (length es) was) same ∙ sym (q .written);
       }
 
-  pub determined : (m : ℕ) (l : Lists) → Promise m l was now r → Promise m l was now′ r′ → Same r r′ now now′
-  determined m l = both (declined _) (both (declined _) (both (declined _) (set _ _)))
+  pub determined : (m : ℕ) (t : List ℕ) → Promise m t was now r → Promise m t was now′ r′ → Same r r′ now now′
+  determined m t = both (declined _) (both (declined _) (both (declined _) (set _ _)))
 
 -- A line of elements that are set within themselves is declined as too long exactly when no setting keeps the four rules.
-pub too-long : (m : ℕ) (l : Lists) (was now : List ℕ) (r : Answer) → shortest l ≤ length was → AllWithin l → Promise m l was now r →
-    (r ≡ Declined Long) ↔ (((xs : List ℕ) × Clear m (line l) xs) → ⊥)
-too-long m l was now r room w (inl p) = absurd (p .0 room)
-too-long m l was now r room w (inr (_, inl p)) = absurd (p .0 w)
-too-long m l was now r room w (inr (_, inr (_, inl p))) = (λ _. p .0, λ _. p .1 .answer)
-too-long m l was now r room w (inr (_, inr (_, inr (c, p)))) = (λ d. absurd (let a = p .answer in let z : _≡_ {A = ℕ} 0 1 = cc in omega arith), λ n. absurd (n c))
+pub too-long : (m : ℕ) (t was now : List ℕ) (r : Answer) → rows t ≤ length was → AllWithin t → Promise m t was now r →
+    (r ≡ Declined Long) ↔ (((xs : List ℕ) × Clear m (line t) xs) → ⊥)
+too-long m t was now r room w (inl p) = absurd (p .0 room)
+too-long m t was now r room w (inr (_, inl p)) = absurd (p .0 w)
+too-long m t was now r room w (inr (_, inr (_, inl p))) = (λ _. p .0, λ _. p .1 .answer)
+too-long m t was now r room w (inr (_, inr (_, inr (c, p)))) = (λ d. absurd (let a = p .answer in let z : _≡_ {A = ℕ} 0 1 = cc in omega arith), λ n. absurd (n c))

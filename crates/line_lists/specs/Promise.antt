@@ -2,7 +2,7 @@
 use mathlib.Core.Path.{_≡_}
 use mathlib.Core.List.{List, _++_, map}
 use mathlib.Core.Logic.{_⊎_}
-use Prim.Native.Nat.{ℕ, _≤_, _<_, min}
+use Prim.Native.Nat.{ℕ, _+_, _*_, _/_, _≤_, _<_}
 use lib.ListN.{length, getD, drop}
 use lib.Dec.{eqb}
 use Rattle.basics.specs.Lists.{count}
@@ -16,56 +16,35 @@ use Rattle.line_lists.specs.declared.Why.the-variants.{Refused, Unsound,
 use Rattle.line.specs.Rules.{Clear, Least, extent, Sound}
 use Rattle.line.specs.Setting.{total}
 
--- a line as it is lent: one list a field, with the flag, the start and the end of either reading
-pub record Lists : Type 0 where
-  pub front : List ℕ
-  pub len : List ℕ
-  pub right : List ℕ
-  pub rfrom : List ℕ
-  pub rupto : List ℕ
-  pub left : List ℕ
-  pub lfrom : List ℕ
-  pub lupto : List ℕ
-  pub before : List ℕ
-  pub after : List ℕ
+-- A line as it is lent: a table with a row of ten numbers for each element. A rest of fewer than ten is not read.
+abbrev pub row : ℕ
+row = 10
 
-abbrev pub lists : (front len right rfrom rupto left lfrom lupto before after : List ℕ) → Lists
-lists front len right rfrom rupto left lfrom lupto before after =
+abbrev pub rows : List ℕ → ℕ
+rows t = length t / row
+
+-- the number k of row i, from 0
+abbrev pub entry : List ℕ → ℕ → ℕ → ℕ
+entry t i k = getD t (row * i + k) 0
+
+-- a reading, from the number k on: whether it is there, 0 or 1, its start and its end
+abbrev pub readingAt : List ℕ → ℕ → ℕ → Reading
+readingAt t i k = record { there = eqb (entry t i k) 1; from = entry t i (k + 1); upto = entry t i (k + 2) }
+
+-- a row in turn: front and length of the block, the right reading, the left one, and the depths before and after
+abbrev pub elementAt : List ℕ → ℕ → Element
+elementAt t i =
     record {
-      front = front;
-      len = len;
-      right = right;
-      rfrom = rfrom;
-      rupto = rupto;
-      left = left;
-      lfrom = lfrom;
-      lupto = lupto;
-      before = before;
-      after = after;
+      front = getD t (row * i) 0;
+      len = entry t i 1;
+      right = readingAt t i 2;
+      left = readingAt t i 5;
+      before = entry t i 8;
+      after = entry t i 9;
     }
 
--- "Where a kind's fields come in several lists, its count is the shortest list's length."
-unfoldable pub shortest : Lists → ℕ
-shortest l =
-    min (min (min (length (l .front)) (length (l .len))) (min (length (l .before)) (length (l .after))))
-    (min (min (length (l .right)) (min (length (l .rfrom)) (length (l .rupto)))) (min (length (l .left)) (min (length (l .lfrom)) (length (l .lupto)))))
-
-abbrev pub readingAt : (there from upto : List ℕ) → ℕ → Reading
-readingAt there from upto i = record { there = eqb (getD there i 0) 1; from = getD from i 0; upto = getD upto i 0 }
-
-abbrev pub elementAt : Lists → ℕ → Element
-elementAt l i =
-    record {
-      front = getD (l .front) i 0;
-      len = getD (l .len) i 0;
-      right = readingAt (l .right) (l .rfrom) (l .rupto) i;
-      left = readingAt (l .left) (l .lfrom) (l .lupto) i;
-      before = getD (l .before) i 0;
-      after = getD (l .after) i 0;
-    }
-
-abbrev pub line : Lists → List Element
-line l = map (elementAt l) (count 0 (shortest l))
+abbrev pub line : List ℕ → List Element
+line t = map (elementAt t) (count 0 (rows t))
 
 -- The limits of a job's lines: at most 1,024 elements, and no word longer than 64 ruby characters of 4,096 units.
 abbrev pub mostElements : ℕ
@@ -81,13 +60,13 @@ pub record SetWithin (right left : ℕ) (e : Element) : Type 0 where
   pub sound : Sound e
   pub short : total e ≤ longestElement
 
--- of element i, by the lists
-abbrev pub WithinAt : Lists → ℕ → Type 0
-WithinAt l i = SetWithin (getD (l .right) i 0) (getD (l .left) i 0) (elementAt l i)
+-- of element i, by its row
+abbrev pub WithinAt : List ℕ → ℕ → Type 0
+WithinAt t i = SetWithin (entry t i 2) (entry t i 5) (elementAt t i)
 
-pub record AllWithin (l : Lists) : Type 0 where
-  pub few : shortest l ≤ mostElements
-  pub each : (i : ℕ) → i < shortest l → WithinAt l i
+pub record AllWithin (t : List ℕ) : Type 0 where
+  pub few : rows t ≤ mostElements
+  pub each : (i : ℕ) → i < rows t → WithinAt t i
 
 -- the refusal where T fails, and what follows where it holds
 abbrev pub Unless : (T : Type 0) → Type 0 → Type 0 → Type 0
@@ -106,9 +85,9 @@ pub record Sets (measure : ℕ) (es : List Element) (was now : List ℕ) (r : An
   pub written : now ≡ origins ++ drop (length es) was
 
 -- The answers in turn: a result list too short (12), elements that no line of a job has, too long (no setting keeps all four rules).
-abbrev pub Promise : (measure : ℕ) (l : Lists) (was now : List ℕ) → Answer → Type 0
-Promise measure l was now r =
-    Unless (shortest l ≤ length was) (Declines (Refused Short) was now r)
-    (Unless (AllWithin l) (Declines Unsound was now r)
-    (Unless ((xs : List ℕ) × Clear measure (line l) xs) (Declines Long was now r)
-    (Sets measure (line l) was now r)))
+abbrev pub Promise : (measure : ℕ) (t was now : List ℕ) → Answer → Type 0
+Promise measure t was now r =
+    Unless (rows t ≤ length was) (Declines (Refused Short) was now r)
+    (Unless (AllWithin t) (Declines Unsound was now r)
+    (Unless ((xs : List ℕ) × Clear measure (line t) xs) (Declines Long was now r)
+    (Sets measure (line t) was now r)))

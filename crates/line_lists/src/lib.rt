@@ -1,14 +1,13 @@
-// A line given by lists, one a field, as a caller has it who holds no words: the elements are judged once at the door, the line is
-// tried without writing, and only a line that can be set is written. It relies on line for the setting, on basics for lists and on
-// refusal for number 12.
+// A line given as a table of numbers, as a caller has it who holds no words: the elements are judged once at the door, the line is
+// tried without writing, and only a line that can be set is written. It relies on line for the setting, on limits for how many
+// elements a job has, on basics for lists and on refusal for number 12.
 ghost use mathlib.Core.Path.{_≡_};
-ghost use Prim.Native.Nat.{_<_, min};
-ghost use lib.ListN.{length, drop};
+ghost use lib.ListN.{drop};
 ghost use mathlib.Core.List.{_++_};
 ghost use Rattle.basics.specs.Seen.{was};
 ghost use Rattle.line.specs.Setting.{start, run, settle};
-ghost use Rattle.line_lists.specs.Promise.{lists, shortest, readingAt, elementAt, line, AllWithin, Promise};
-ghost use Rattle.line_lists.specs.Passes.{Tells, Has, Judged, Ready, tried};
+ghost use Rattle.line_lists.specs.Promise.{rows, elementAt, line, WithinAt, AllWithin, Promise};
+ghost use Rattle.line_lists.specs.Passes.{Tells, Has, Ready, tried};
 use line::Element;
 use line::Reading;
 use line::START;
@@ -18,6 +17,10 @@ use refusal::Refusal;
 mod within;
 
 use within::set_within;
+
+// How many numbers an element has, in turn: front and length of its block, its right reading (there, from, upto), its left one, and
+// the depths before and after. A rest of fewer, at the table's end, is not read.
+const ROW: usize = 10;
 
 // A line's extent, or why it is not set.
 pub enum Answer {
@@ -35,114 +38,50 @@ pub enum Why {
     Long,
 }
 
-fn fewer(a: usize, b: usize) -> usize
-    ensures { λ r. ⌜ r ≡ min a b ⌝ }
-{
-    if a <= b { a } else { b }
-}
-
-// "Its count is the shortest list's length."
-fn shortest_of(
-    front: &[u32],
-    len: &[u32],
-    right: &[u32],
-    rfrom: &[u32],
-    rupto: &[u32],
-    left: &[u32],
-    lfrom: &[u32],
-    lupto: &[u32],
-    before: &[u32],
-    after: &[u32],
-) -> usize
-    ensures { λ r. ⌜ r ≡ shortest
-        (lists (was front) (was len) (was right) (was rfrom) (was rupto) (was left) (was lfrom) (was lupto) (was before) (was after)) ⌝ }
-{
-    let block = fewer(front.len(), len.len());
-    let depths = fewer(before.len(), after.len());
-    let rights = fewer(right.len(), fewer(rfrom.len(), rupto.len()));
-    let lefts = fewer(left.len(), fewer(lfrom.len(), lupto.len()));
-    fewer(fewer(block, depths), fewer(rights, lefts))
-}
-
-// Reading i of one side.
-fn reading_at(i: usize, there: &[u32], from: &[u32], upto: &[u32]) -> Reading
-    requires { ⌜ (i < length (now there)) × (i < length (now from)) × (i < length (now upto)) ⌝ }
-    ensures { λ r. ⌜ r ≡ readingAt (was there) (was from) (was upto) i ⌝ }
-{
-    Reading {
-        there: there[i] == 1,
-        from: from[i],
-        upto: upto[i],
-    }
-}
-
 // Element i.
-fn element_at(
-    i: usize,
-    front: &[u32],
-    len: &[u32],
-    right: &[u32],
-    rfrom: &[u32],
-    rupto: &[u32],
-    left: &[u32],
-    lfrom: &[u32],
-    lupto: &[u32],
-    before: &[u32],
-    after: &[u32],
-) -> Element
-    requires { ⌜ Has i (lists (now front) (now len) (now right) (now rfrom) (now rupto) (now left) (now lfrom) (now lupto) (now before) (now after)) ⌝ }
-    ensures { λ r. ⌜ r ≡ elementAt
-        (lists (was front) (was len) (was right) (was rfrom) (was rupto) (was left) (was lfrom) (was lupto) (was before) (was after)) i ⌝ }
+fn element_at(elements: &[u32], i: usize) -> Element
+    requires { ⌜ Has i (now elements) ⌝ }
+    ensures { λ r. ⌜ r ≡ elementAt (was elements) i ⌝ }
 {
-    let r = reading_at(i, right, rfrom, rupto);
-    let l = reading_at(i, left, lfrom, lupto);
+    let at = ROW * i;
     Element {
-        front: front[i],
-        len: len[i],
-        right: r,
-        left: l,
-        before: before[i],
-        after: after[i],
+        front: elements[at],
+        len: elements[at + 1],
+        right: Reading {
+            there: elements[at + 2] == 1,
+            from: elements[at + 3],
+            upto: elements[at + 4],
+        },
+        left: Reading {
+            there: elements[at + 5] == 1,
+            from: elements[at + 6],
+            upto: elements[at + 7],
+        },
+        before: elements[at + 8],
+        after: elements[at + 9],
     }
+}
+
+// Whether element i is set within itself. The flags are judged as they stand in its row: an Element can't tell a 2 from a 0.
+fn within_at(elements: &[u32], i: usize) -> bool
+    requires { ⌜ Has i (now elements) ⌝ }
+    ensures { λ b. ⌜ Tells b (WithinAt (was elements) i) ⌝ }
+{
+    let e = element_at(elements, i);
+    let at = ROW * i;
+    set_within(elements[at + 2], elements[at + 5], e)
 }
 
 // Whether there are no more elements than a job may have, and all are set within themselves.
-fn all_within(
-    count: usize,
-    front: &[u32],
-    len: &[u32],
-    right: &[u32],
-    rfrom: &[u32],
-    rupto: &[u32],
-    left: &[u32],
-    lfrom: &[u32],
-    lupto: &[u32],
-    before: &[u32],
-    after: &[u32],
-) -> bool
-    requires { ⌜ count ≡ shortest (lists (now front) (now len) (now right) (now rfrom) (now rupto) (now left) (now lfrom) (now lupto) (now before) (now after)) ⌝ }
-    ensures { λ r. ⌜ Tells r (AllWithin
-        (lists (was front) (was len) (was right) (was rfrom) (was rupto) (was left) (was lfrom) (was lupto) (was before) (was after))) ⌝ }
+fn all_within(elements: &[u32]) -> bool
+    ensures { λ r. ⌜ Tells r (AllWithin (was elements)) ⌝ }
 {
-    if limits::MOST_ELEMENTS < count {
+    if limits::MOST_ELEMENTS < elements.len() / ROW {
         return false;
     }
     let mut i: usize = 0;
-    while i < count {
-        let e = element_at(
-            i,
-            front,
-            len,
-            right,
-            rfrom,
-            rupto,
-            left,
-            lfrom,
-            lupto,
-            before,
-            after,
-        );
-        if !set_within(right[i], left[i], e) {
+    while i < elements.len() / ROW {
+        if !within_at(elements, i) {
             return false;
         }
         i += 1;
@@ -152,40 +91,14 @@ fn all_within(
 
 // The line set without a list to write to: its extent, or that it would pass the measure. Of the positions only the last state is
 // kept.
-fn try_line(
-    measure: u32,
-    count: usize,
-    front: &[u32],
-    len: &[u32],
-    right: &[u32],
-    rfrom: &[u32],
-    rupto: &[u32],
-    left: &[u32],
-    lfrom: &[u32],
-    lupto: &[u32],
-    before: &[u32],
-    after: &[u32],
-) -> Answer
-    requires { ⌜ Judged count (lists (now front) (now len) (now right) (now rfrom) (now rupto) (now left) (now lfrom) (now lupto) (now before) (now after)) ⌝ }
-    ensures { λ r. ⌜ r ≡ tried measure (run start (line
-        (lists (was front) (was len) (was right) (was rfrom) (was rupto) (was left) (was lfrom) (was lupto) (was before) (was after)))) ⌝ }
+fn try_line(measure: u32, elements: &[u32]) -> Answer
+    requires { ⌜ AllWithin (now elements) ⌝ }
+    ensures { λ r. ⌜ r ≡ tried measure (run start (line (was elements))) ⌝ }
 {
     let mut st = START;
     let mut i: usize = 0;
-    while i < count {
-        let e = element_at(
-            i,
-            front,
-            len,
-            right,
-            rfrom,
-            rupto,
-            left,
-            lfrom,
-            lupto,
-            before,
-            after,
-        );
+    while i < elements.len() / ROW {
+        let e = element_at(elements, i);
         let p = place(st, e);
         st = p.st;
         i += 1;
@@ -198,41 +111,14 @@ fn try_line(
 }
 
 // The origins of a line at the front of out.
-fn write_line(
-    count: usize,
-    front: &[u32],
-    len: &[u32],
-    right: &[u32],
-    rfrom: &[u32],
-    rupto: &[u32],
-    left: &[u32],
-    lfrom: &[u32],
-    lupto: &[u32],
-    before: &[u32],
-    after: &[u32],
-    out: &mut [u32],
-)
-    requires { ⌜ Ready count (lists (now front) (now len) (now right) (now rfrom) (now rupto) (now left) (now lfrom) (now lupto) (now before) (now after)) (now out) ⌝ }
-    ensures { λ _. ⌜ now (out .exit) ≡ settle (line
-        (lists (was front) (was len) (was right) (was rfrom) (was rupto) (was left) (was lfrom) (was lupto) (was before) (was after)))
-        ++ drop count (was out) ⌝ }
+fn write_line(elements: &[u32], out: &mut [u32])
+    requires { ⌜ Ready (now elements) (now out) ⌝ }
+    ensures { λ _. ⌜ now (out .exit) ≡ settle (line (was elements)) ++ drop (rows (was elements)) (was out) ⌝ }
 {
     let mut st = START;
     let mut i: usize = 0;
-    while i < count {
-        let e = element_at(
-            i,
-            front,
-            len,
-            right,
-            rfrom,
-            rupto,
-            left,
-            lfrom,
-            lupto,
-            before,
-            after,
-        );
+    while i < elements.len() / ROW {
+        let e = element_at(elements, i);
         let p = place(st, e);
         out[i] = p.at;
         st = p.st;
@@ -240,87 +126,22 @@ fn write_line(
     }
 }
 
-// A line of elements given by lists of their fields, one a field, set within the measure, which is in units. The flags `right` and
-// `left` say whether an element has a reading on that side: 0 or 1. The origins go to the front of out; a line that is not set
-// leaves it as it was, so the line is tried before anything is written.
-pub fn set_line(
-    measure: u32,
-    front: &[u32],
-    len: &[u32],
-    right: &[u32],
-    rfrom: &[u32],
-    rupto: &[u32],
-    left: &[u32],
-    lfrom: &[u32],
-    lupto: &[u32],
-    before: &[u32],
-    after: &[u32],
-    out: &mut [u32],
-) -> Answer
-    ensures { λ r. ⌜ Promise measure
-        (lists (was front) (was len) (was right) (was rfrom) (was rupto) (was left) (was lfrom) (was lupto) (was before) (was after))
-        (was out) (now (out .exit)) r ⌝ }
+// A line of elements, a row of ROW numbers for each, set within the measure, which is in units (document 01, "Level two"). Whether an
+// element has a reading on a side is 0 or 1 in its row. The origins go to the front of out; a line that is not set leaves it as it
+// was, so the line is tried before anything is written.
+pub fn set_line(measure: u32, elements: &[u32], out: &mut [u32]) -> Answer
+    ensures { λ r. ⌜ Promise measure (was elements) (was out) (now (out .exit)) r ⌝ }
 {
-    let count = shortest_of(
-        front,
-        len,
-        right,
-        rfrom,
-        rupto,
-        left,
-        lfrom,
-        lupto,
-        before,
-        after,
-    );
-    if out.len() < count {
+    if out.len() < elements.len() / ROW {
         return Answer::Declined(Why::Refused(Refusal::Short));
     }
-    if !all_within(
-        count,
-        front,
-        len,
-        right,
-        rfrom,
-        rupto,
-        left,
-        lfrom,
-        lupto,
-        before,
-        after,
-    ) {
+    if !all_within(elements) {
         return Answer::Declined(Why::Unsound);
     }
-    let tried = try_line(
-        measure,
-        count,
-        front,
-        len,
-        right,
-        rfrom,
-        rupto,
-        left,
-        lfrom,
-        lupto,
-        before,
-        after,
-    );
+    let tried = try_line(measure, elements);
     let Answer::Set(extent) = tried else {
         return tried;
     };
-    write_line(
-        count,
-        front,
-        len,
-        right,
-        rfrom,
-        rupto,
-        left,
-        lfrom,
-        lupto,
-        before,
-        after,
-        out,
-    );
+    write_line(elements, out);
     Answer::Set(extent)
 }

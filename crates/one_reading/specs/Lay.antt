@@ -1,167 +1,164 @@
--- An element without a left reading, laid: level one is lent its parts, and its rows are written; and a P.
-use mathlib.Core.Path.{_≡_, subst}
-use mathlib.Core.Bool.{Bool, true, false, cond}
-use mathlib.Core.List.{List, []}
+-- An element without a left reading, laid: level one is asked by what it wants to know of its strings, and its rows are written; and a P.
+use mathlib.Core.Path.{_≡_, refl, sym, ap, ap₂, _∙_, subst}
+use mathlib.Core.Bool.{Bool, true, false, cond, _||_, false≢true}
+use mathlib.Core.List.{List, [], _∷_}
 use Prim.Native.Nat.{ℕ, _+_, _-_, _≤_, _<_}
+use native.Mathlib.Nat.{add-zero}
 use native.Mathlib.Omega.{arith}
 use lib.Dec.{eqb}
 use lib.ListN.{length, getD, take, drop}
-use Rattle.basics.specs.Lists.{sum}
+use Rattle.basics.specs.Lists.{sum, any, other}
 use Rattle.class.specs.Class.{depthsBy}
-use Rattle.spread.specs.Ratio.{Ratios}
+use borrow.Author.Tests.{lt-ltb}
+use Rattle.spread.specs.Ratio.{Ratios, Housed}
+use Rattle.word.specs.declared.Form.{Form}
 use Rattle.word.specs.declared.Form.the-variants.{M, G, J}
 use Rattle.word.specs.declared.Word.{Word}
+use Rattle.word.specs.declared.Base.{Base}
+use Rattle.word.specs.declared.Strand.{Strand}
 use Rattle.word.specs.declared.Answer.{Answer}
-use Rattle.word.specs.Given.{hasRuby, isJ}
+use Rattle.word.specs.Given.{Given, isG, isJ}
+use Rattle.word.specs.declared.Row.{Row}
 use Rattle.word.specs.Word.{plain, wordOf}
+use Rattle.word.specs.Kinds.{sortOf}
+use Rattle.word.specs.Numbers.{Measured}
 use Rattle.word.specs.Answer.{answer}
-use Rattle.word.specs.Sized.{Small}
-use Rattle.line.specs.declared.Side.the-variants.{Right}
+use Rattle.word.specs.Summed.{strandOf, givenBase, monoBy, mono-by, groupBy, group-by, jukugoJudged, answeredBy, jukugo-judged, singleBy, single-by}
 use Rattle.cells.specs.declared.Cell.{Cell}
-use Rattle.cells.specs.Cells.{size}
+use Rattle.cells.specs.Cells.{size, ratiosAt}
 use Rattle.door.specs.declared.Piece.{Piece}
 use Rattle.door.specs.declared.Step.{Step}
 use Rattle.door.specs.Job.{Job, entries, given}
 use Rattle.door.specs.Entries.{part-of, length-entries}
-use Rattle.join.specs.Rows.{taken}
 use Rattle.word_rows.specs.Table.{Filled}
-use Rattle.word_rows.specs.Runs.{wordsOnly, runsOnly, HasRuns, jukugoRow}
+use Rattle.word_rows.specs.Runs.{runsOnly, HasRuns, jukugoRow}
 use Rattle.word_rows.specs.Word.{wordRow, WordReady, Judged}
-
--- the row of a word without a left reading
-abbrev pub aloneRow : Job → Piece → Word → Bool → ℕ → Cell
-aloneRow job x w ends i = cond (isJ (x .form)) (jukugoRow job x w ends i) (wordRow x w ends 0 0 i)
-
--- classes and runs have no part in it
-pub word-any : {ratios : Ratios} {em : ℕ} {class width before after flag rubyClass rubyWidth run : List ℕ} {x : Piece} {t : List ℕ} (class' rubyClass' run' : List ℕ) →
-    WordReady (wordsOnly ratios em class width before after flag rubyClass rubyWidth run) x t → WordReady (wordsOnly ratios em class' width before after flag rubyClass' rubyWidth run') x t
-word-any class' rubyClass' run' w =
-    record {
-      some = w .some;
-      few = w .few;
-      fewRuby = w .fewRuby;
-      width = w .width;
-      before = w .before;
-      after = w .after;
-      flag = w .flag;
-      rubyWidth = w .rubyWidth;
-      small = w .small;
-      house = w .house;
-      room = w .room;
-    }
-
--- a J, with its runs
-pub record JukugoReady (job : Job) (x : Piece) (t : List ℕ) : Type 0 where
-  pub class : x .base + x .bases ≤ length (job .class)
-  pub rubyClass : x .ruby + x .rubies ≤ length (job .rubyClass)
-  pub whole : taken Right job x (x .bases) ≤ x .rubies
-  pub runs : HasRuns (runsOnly (job .em) (job .rubyClass) (job .rubyWidth) (job .run)) x t
-  pub word : WordReady job x t
-
--- a word with ruby, of whatever form
-pub record AloneReady (job : Job) (x : Piece) (t : List ℕ) : Type 0 where
-  pub ruby : hasRuby (x .form) ≡ true
-  pub class : x .base + x .bases ≤ length (job .class)
-  pub rubyClass : x .ruby + x .rubies ≤ length (job .rubyClass)
-  pub one : x .form ≡ M → x .bases ≡ 1
-  pub jukugo : isJ (x .form) ≡ true → JukugoReady job x t
-  pub word : WordReady job x t
 
 -- its rows, by level one's answer
 abbrev pub FilledBy : Answer → (Word → ℕ → Cell) → Piece → List ℕ → List ℕ → Step → Type 0
 FilledBy a row x was t s = Judged a (λ w. Filled (row w) (x .base) (x .base + x .bases) was t) x was t s
 
--- Level one is lent parts of the lists; what a form does not read it is not lent.
-module _ (k : ℕ) (job : Job) (x : Piece) {t : List ℕ} (h : WordReady job x t) where
-  pub mono-lent : x .bases ≡ 1 →
-      answer M k (record {
-        em = job .em;
-        ratios = job .ratios;
-        class = [];
-        width = take (x .base + 1 - x .base) (drop (x .base) (job .width));
-        before = take (x .base + 1 - x .base) (drop (x .base) (job .before));
-        after = take (x .base + 1 - x .base) (drop (x .base) (job .after));
-        rubyClass = [];
-        rubyWidth = take (x .ruby + x .rubies - x .ruby) (drop (x .ruby) (job .rubyWidth));
-        run = [];
-      })
+-- An M: level one is asked by the sums of its strings.
+
+mono-width : (job : Job) (x : Piece) → x .bases ≡ 1 → sum (given job x .width) ≡ getD (job .width) (x .base) 0
+mono-width job x e = rw e (add-zero (getD (job .width) (x .base) 0))
+
+module _ (k : ℕ) (job : Job) (x : Piece) {t : List ℕ} (h : WordReady job x t) (one : x .bases ≡ 1) where
+  pub mono-small : (getD (job .width) (x .base) 0 ≤ 131072) × (sum (take (x .ruby + x .rubies - x .ruby) (drop (x .ruby) (job .rubyWidth))) ≤ 262144)
+  mono-small =
+      (omega (arith, mono-width job x one, h .small .narrow), rw (part-of (job .rubyWidth) (x .ruby) (x .rubies) (h .rubyWidth)) (h .small .narrowRuby))
+
+  pub mono-even : length (take (x .base + 1 - x .base) (drop (x .base) (job .before))) ≡ length (take (x .base + 1 - x .base) (drop (x .base) (job .after)))
+  mono-even =
+      rw (part-of (job .before) (x .base) 1 (omega (arith, one, h .before)), part-of (job .after) (x .base) 1 (omega (arith, one, h .after)))
+      (length-entries (job .before) (x .base) 1 ∙ sym (length-entries (job .after) (x .base) 1))
+
+  pub mono-lent :
+      monoBy k (any (other 0) (take (x .base + 1 - x .base) (drop (x .base) (job .before))) || any (other 0) (take (x .base + 1 - x .base) (drop (x .base) (job .after))))
+      (getD (job .width) (x .base) 0) (sum (take (x .ruby + x .rubies - x .ruby) (drop (x .ruby) (job .rubyWidth))))
       ≡ answer M k (given job x)
-  unfolding answer wordOf
-  mono-lent one =
+  mono-lent =
       rw (
-        part-of (job .width) (x .base) 1 (omega (arith, h .width)),
-        part-of (job .before) (x .base) 1 (omega (arith, h .before)),
-        part-of (job .after) (x .base) 1 (omega (arith, h .after)),
-        part-of (job .rubyWidth) (x .ruby) (x .rubies) (h .rubyWidth),
-        one,
-      )
-
-  pub mono-small : x .bases ≡ 1 → Small (take (x .base + 1 - x .base) (drop (x .base) (job .width))) (take (x .ruby + x .rubies - x .ruby) (drop (x .ruby) (job .rubyWidth)))
-  mono-small one =
-      rw (part-of (job .width) (x .base) 1 (omega (arith, h .width)), part-of (job .rubyWidth) (x .ruby) (x .rubies) (h .rubyWidth))
-      (subst (λ n. Small (entries (job .width) (x .base) n) (given job x .rubyWidth)) one (h .small))
-
-  pub word-small : Small (take (x .base + x .bases - x .base) (drop (x .base) (job .width))) (take (x .ruby + x .rubies - x .ruby) (drop (x .ruby) (job .rubyWidth)))
-  word-small = rw (part-of (job .width) (x .base) (x .bases) (h .width), part-of (job .rubyWidth) (x .ruby) (x .rubies) (h .rubyWidth)) (h .small)
-
-  pub group-lent : x .base + x .bases ≤ length (job .class) → x .ruby + x .rubies ≤ length (job .rubyClass) →
-      answer G k (record {
-        em = job .em;
-        ratios = job .ratios;
-        class = take (x .base + x .bases - x .base) (drop (x .base) (job .class));
-        width = take (x .base + x .bases - x .base) (drop (x .base) (job .width));
-        before = take (x .base + x .bases - x .base) (drop (x .base) (job .before));
-        after = take (x .base + x .bases - x .base) (drop (x .base) (job .after));
-        rubyClass = take (x .ruby + x .rubies - x .ruby) (drop (x .ruby) (job .rubyClass));
-        rubyWidth = take (x .ruby + x .rubies - x .ruby) (drop (x .ruby) (job .rubyWidth));
-        run = [];
-      })
-      ≡ answer G k (given job x)
-  unfolding answer wordOf
-  group-lent c d =
-      rw (
-        part-of (job .class) (x .base) (x .bases) c,
-        part-of (job .width) (x .base) (x .bases) (h .width),
-        part-of (job .before) (x .base) (x .bases) (h .before),
-        part-of (job .after) (x .base) (x .bases) (h .after),
-        part-of (job .rubyClass) (x .ruby) (x .rubies) d,
+        part-of (job .before) (x .base) 1 (omega (arith, one, h .before)),
+        part-of (job .after) (x .base) 1 (omega (arith, one, h .after)),
         part-of (job .rubyWidth) (x .ruby) (x .rubies) (h .rubyWidth),
       )
+      (ap (λ b. monoBy k (any (other 0) (entries (job .before) (x .base) 1) || any (other 0) (entries (job .after) (x .base) 1)) b (sum (given job x .rubyWidth))) (sym (mono-width job x one))
+      ∙ ap (λ n. monoBy k (any (other 0) (entries (job .before) (x .base) n) || any (other 0) (entries (job .after) (x .base) n)) (sum (given job x .width)) (sum (given job x .rubyWidth))) (sym one)
+      ∙ sym (mono-by k (given job x)))
 
-pub jukugo-lent : (k : ℕ) (job : Job) (x : Piece) {t : List ℕ} → JukugoReady job x t →
-    answer J k (record {
-      em = job .em;
-      ratios = job .ratios;
-      class = take (x .base + x .bases - x .base) (drop (x .base) (job .class));
-      width = take (x .base + x .bases - x .base) (drop (x .base) (job .width));
-      before = take (x .base + x .bases - x .base) (drop (x .base) (job .before));
-      after = take (x .base + x .bases - x .base) (drop (x .base) (job .after));
-      rubyClass = take (x .ruby + x .rubies - x .ruby) (drop (x .ruby) (job .rubyClass));
-      rubyWidth = take (x .ruby + x .rubies - x .ruby) (drop (x .ruby) (job .rubyWidth));
-      run = take (x .run + x .bases - x .run) (drop (x .run) (job .run));
-    })
-    ≡ answer J k (given job x)
-jukugo-lent k job x h =
-    let w = h .word in
-    rw (
-      part-of (job .class) (x .base) (x .bases) (h .class),
-      part-of (job .width) (x .base) (x .bases) (w .width),
-      part-of (job .before) (x .base) (x .bases) (w .before),
-      part-of (job .after) (x .base) (x .bases) (w .after),
-      part-of (job .rubyClass) (x .ruby) (x .rubies) (h .rubyClass),
-      part-of (job .rubyWidth) (x .ruby) (x .rubies) (w .rubyWidth),
-      part-of (job .run) (x .run) (x .bases) (h .runs .own .runs),
-    )
+-- and whatever the ratios, em, classes and runs are
+pub mono-any : (k : ℕ) (v w : Given) → v .width ≡ w .width → v .before ≡ w .before → v .after ≡ w .after → v .rubyWidth ≡ w .rubyWidth → answer M k v ≡ answer M k w
+mono-any k v w a b c d = mono-by k v ∙ rw (a, b, c, d) (sym (mono-by k w))
 
-pub jukugo-whole : (job : Job) (x : Piece) {t : List ℕ} → JukugoReady job x t →
-    sum (take (x .run + x .bases - x .run) (drop (x .run) (job .run))) ≤ length (take (x .ruby + x .rubies - x .ruby) (drop (x .ruby) (job .rubyWidth)))
-jukugo-whole job x h =
-    rw (
-      part-of (job .run) (x .run) (x .bases) (h .runs .own .runs),
-      part-of (job .rubyWidth) (x .ruby) (x .rubies) (h .word .rubyWidth),
-      length-entries (job .rubyWidth) (x .ruby) (x .rubies),
-    )
-    (h .whole)
+-- The ruby of a word within its lists.
+pub record RubyReady (x : Piece) (rubyClass rubyWidth : List ℕ) : Type 0 where
+  pub some : 0 < x .rubies
+  pub few : x .ruby + x .rubies ≤ 4096
+  pub short : x .rubies ≤ 64
+  pub class : x .ruby + x .rubies ≤ length rubyClass
+  pub width : x .ruby + x .rubies ≤ length rubyWidth
+  pub narrow : sum (entries rubyWidth (x .ruby) (x .rubies)) ≤ 262144
+
+abbrev pub rubyOf : Piece → List ℕ → List ℕ → Strand
+rubyOf x rubyClass rubyWidth = strandOf (entries rubyClass (x .ruby) (x .rubies)) (entries rubyWidth (x .ruby) (x .rubies))
+
+module _ (x : Piece) (rubyClass rubyWidth : List ℕ) (h : RubyReady x rubyClass rubyWidth) where
+  pub ruby-lent : strandOf (take (x .ruby + x .rubies - x .ruby) (drop (x .ruby) rubyClass)) (take (x .ruby + x .rubies - x .ruby) (drop (x .ruby) rubyWidth)) ≡ rubyOf x rubyClass rubyWidth
+  ruby-lent = rw (part-of rubyClass (x .ruby) (x .rubies) (h .class), part-of rubyWidth (x .ruby) (x .rubies) (h .width))
+
+  pub ruby-small : let ws = take (x .ruby + x .rubies - x .ruby) (drop (x .ruby) rubyWidth) in (length ws ≤ 64) × (sum ws ≤ 262144)
+  ruby-small =
+      rw (part-of rubyWidth (x .ruby) (x .rubies) (h .width)) (omega (arith, length-entries rubyWidth (x .ruby) (x .rubies), h .short), h .narrow)
+
+-- A G or a J by what level one asks of its base, with its ruby in lists, and room for its rows.
+pub record BasedReady (em : ℕ) (base : Base) (x : Piece) (rubyClass rubyWidth t : List ℕ) : Type 0 where
+  pub few : x .base + x .bases ≤ 1024
+  pub some : 0 < base .string .count
+  pub short : base .string .count ≤ 4096
+  pub narrow : base .string .width ≤ 131072
+  pub ruby : RubyReady x rubyClass rubyWidth
+  pub house : Housed (ratiosAt t)
+  pub room : size (x .base + x .bases) ≤ length t
+
+module _ {em : ℕ} {base : Base} {x : Piece} {rubyClass rubyWidth t : List ℕ} (h : BasedReady em base x rubyClass rubyWidth t) where
+  pub measured : {r : Strand} → r ≡ rubyOf x rubyClass rubyWidth → Measured (base .string .width) (base .string .count) (r .string .width) (r .string .count)
+  measured {r} e =
+      let u = h .ruby in
+      let n = length-entries rubyWidth (x .ruby) (x .rubies) in
+      subst (λ s. Measured (base .string .width) (base .string .count) (s .string .width) (s .string .count)) (sym e)
+      (record { some = h .some; few = h .short; narrow = h .narrow; reads = omega (arith, n, u .some); fewRuby = omega (arith, n, u .short); narrowRuby = u .narrow })
+
+-- of a J also its runs, and that it is as wide as one em where each of its characters is
+pub record RunsReady (em : ℕ) (base : Base) (x : Piece) (rubyClass rubyWidth run t : List ℕ) : Type 0 where
+  pub some : 0 < x .bases
+  pub ems : base .uneven ≡ false → em ≤ base .string .width
+  pub runs : HasRuns (runsOnly em rubyClass rubyWidth run) x t
+  pub whole : x .bases ≡ 1 → getD run (x .run) 0 ≡ x .rubies
+
+-- what level one is given: any lists whose base is this, with this ruby
+pub record Gives (form : Form) (em : ℕ) (base : Base) (x : Piece) (rc rw rn t : List ℕ) (g : Given) : Type 0 where
+  pub ems : g .em ≡ em
+  pub house : g .ratios ≡ ratiosAt t
+  pub summed : base ≡ givenBase form g
+  pub rubyClass : g .rubyClass ≡ entries rc (x .ruby) (x .rubies)
+  pub rubyWidth : g .rubyWidth ≡ entries rw (x .ruby) (x .rubies)
+  pub run : isJ form ≡ true → g .run ≡ entries rn (x .run) (x .bases)
+
+module _ {em : ℕ} {base : Base} {x : Piece} {rc rw rn t : List ℕ} {g : Given} (place : ℕ) {h : Ratios} {r : Strand} (e : h ≡ ratiosAt t) (f : r ≡ rubyOf x rc rw) where
+  pub group-told : Gives G em base x rc rw rn t g → groupBy place h em base r ≡ answer G place g
+  group-told v =
+      ap₂ (λ u z. groupBy place u z base r) (e ∙ sym (v .house)) (sym (v .ems))
+      ∙ ap₂ (groupBy place (g .ratios) (g .em)) (v .summed) (f ∙ ap₂ strandOf (sym (v .rubyClass)) (sym (v .rubyWidth)))
+      ∙ sym (group-by place g)
+
+  pub single-told : Gives J em base x rc rw rn t g → x .bases ≡ 1 → getD rn (x .run) 0 ≡ x .rubies → singleBy place h em base r ≡ answer J place g
+  single-told v one whole =
+      ap₂ (λ u z. singleBy place u z base r) (e ∙ sym (v .house)) (sym (v .ems))
+      ∙ ap₂ (singleBy place (g .ratios) (g .em)) (v .summed) (f ∙ ap₂ strandOf (sym (v .rubyClass)) (sym (v .rubyWidth)))
+      ∙ sym (single-by place g (v .run refl ∙ ap (entries rn (x .run)) one ∙ ap (λ n. n ∷ []) (whole ∙ sym (length-entries rw (x .ruby) (x .rubies)) ∙ ap length (sym (v .rubyWidth)))))
+
+-- a G has no runs
+pub gives-group : {em : ℕ} {base : Base} {x : Piece} {rc rw rn t : List ℕ} {g : Given} → Gives G em base x rc rw rn t g → Gives G em base x rc rw [] t g
+gives-group v = record { ems = v .ems; house = v .house; summed = v .summed; rubyClass = v .rubyClass; rubyWidth = v .rubyWidth; run = λ j. absurd (false≢true j) }
+
+-- a J that is judged alone
+pub cut-told : {em : ℕ} {base : Base} {x : Piece} {rc rw rn t : List ℕ} {g : Given} (place : ℕ) {r : Strand} {q : Row} → r ≡ rubyOf x rc rw → Gives J em base x rc rw rn t g →
+    q ≡ jukugoJudged place base (r .sort) → answer J place g ≡ answeredBy q (wordOf J g)
+cut-told {g = g} place f v e =
+    jukugo-judged place g
+    ∙ ap (λ z. answeredBy z (wordOf J g)) (sym (e ∙ ap₂ (jukugoJudged place) (v .summed) (ap (λ z. z .sort) f ∙ ap sortOf (sym (v .rubyClass)))))
+
+-- and has the same rows whatever its word is
+pub cut-row : (job : Job) (x : Piece) (v w : Word) (ends : Bool) (i : ℕ) → 1 < x .bases → jukugoRow job x v ends i ≡ jukugoRow job x w ends i
+cut-row job x v w ends i h = rw (lt-ltb 1 (x .bases) h)
+
+abbrev pub isBased : Form → Bool
+isBased form = isG form || isJ form
+
+-- the row of a word without a left reading
+abbrev pub basedRow : Job → Piece → Word → Bool → ℕ → Cell
+basedRow job x w ends i = cond (isJ (x .form)) (jukugoRow job x w ends i) (wordRow x w ends 0 0 i)
 
 -- A P.
 

@@ -1,22 +1,26 @@
 // An element without a left reading, laid: level one's answer by its form, taken apart, and its rows written or its refusal handed up; and the row of a P, which has no refusal. It writes no
 // left rows, and leaves those that are there. It relies on `word` for level one, on `class` for depths, and on `word_rows` and `cells` for rows.
 ghost use mathlib.Core.Path.{_≡_};
+ghost use mathlib.Core.Bool.{true};
 ghost use mathlib.Core.List.{[]};
-ghost use Prim.Native.Nat.{_+_, _≤_, _<_};
+ghost use Prim.Native.Nat.{_<_};
+ghost use lib.Dec.{eqb};
+ghost use lib.ListN.{length, getD};
+ghost use Rattle.class.specs.Class.{depthsBy};
 ghost use Rattle.basics.specs.Seen.{was};
-ghost use lib.ListN.{length};
-ghost use Rattle.spread.specs.Ratio.{ratiosOf};
 ghost use Rattle.word.specs.declared.Form.the-variants as Form;
+ghost use Rattle.word.specs.Given.{Given, isJ};
 ghost use Rattle.word.specs.Answer.{answer};
+ghost use Rattle.word.specs.Summed.{givenBase};
 ghost use Rattle.door.specs.Job.{given};
 ghost use Rattle.cells.specs.Put.{Puts};
-ghost use Rattle.word_rows.specs.Table.{Filled};
-ghost use Rattle.word_rows.specs.Runs.{wordsOnly, HasRuns, jukugoRow};
+ghost use Rattle.word_rows.specs.Base.{BaseReady, basesNow, basesWas};
+ghost use Rattle.word_rows.specs.Runs.{HasRuns, jukugoRow};
 ghost use Rattle.word_rows.specs.Word.{wordRow, WordReady, flagged};
 ghost use Rattle.word_rows.specs.Seen.{runsNow, runsWas};
 ghost use Rattle.one_reading.specs.Single.{singleRow};
-ghost use Rattle.one_reading.specs.Lay.{JukugoReady, AloneReady, aloneRow, PlainReady, plainRow, FilledBy};
-ghost use Rattle.one_reading.specs.Seen.{wordsNow, wordsWas};
+ghost use Rattle.one_reading.specs.Lay.{RubyReady, rubyOf, BasedReady, RunsReady, Gives, isBased, basedRow, PlainReady, plainRow, FilledBy};
+ghost use Rattle.one_reading.specs.Seen.{monoNow, monoWas};
 use refusal::Refusal;
 
 // The row of a J of one character, which no line cuts.
@@ -61,24 +65,25 @@ fn put_single(
     );
 }
 
-// The same for a J without a left reading: one of one character has one row.
-fn put_jukugo(
-    t: &mut [u32],
-    p: door::Piece,
-    w: word::Word,
-    ends: bool,
+// How deep ruby may lie on base character b, a P. Of most nothing is read but the class.
+fn depths_at(
+    b: usize,
     em: u32,
-    rclass: &[u32],
-    rwidth: &[u32],
-    runs: &[u32],
-)
-    requires { ⌜ (0 < p .bases) × HasRuns (runsNow em rclass rwidth runs) p (now t) ⌝ }
-    ensures { λ _. ⌜ Filled (jukugoRow (runsWas em rclass rwidth runs) p w ends) (p .base) (p .base + p .bases) (was t) (now (t .exit)) ⌝ }
+    profile: u32,
+    class: &[u32],
+    width: &[u32],
+    before: &[u32],
+    after: &[u32],
+) -> class::Depths
+    requires { ⌜ (b < 4096) × (b < length (now class)) × (b < length (now width)) × (b < length (now before)) × (b < length (now after)) ⌝ }
+    ensures { λ d. ⌜ d ≡ depthsBy profile (eqb b 0) (getD (was class) b 0) (getD (was width) b 0) (getD (was before) b 0) (getD (was after) b 0) em ⌝ }
 {
-    if p.bases == 1 {
-        put_single(t, p, w, ends, rclass, rwidth, runs);
-    } else {
-        word_rows::put_runs(t, p, w, ends, em, rclass, rwidth, runs);
+    if class::takes_ruby(profile, class[b]) {
+        return class::depths_by(profile, b == 0, class[b], width[b], before[b], after[b], em);
+    }
+    class::Depths {
+        before: 0,
+        after: 0,
     }
 }
 
@@ -102,7 +107,7 @@ pub fn put_plain(
     let word::Answer::Set(w) = answer else {
         return; // unreachable: level one has no row for a P
     };
-    let d = class::depths_by(profile, b == 0, class[b], width[b], before[b], after[b], em);
+    let d = depths_at(b, em, profile, class, width, before, after);
     cells::put_cell(
         t,
         b,
@@ -127,35 +132,27 @@ pub fn put_plain(
     );
 }
 
-// An M: its row, or its refusal. `place` is the element's index.
-fn lay_mono(
+// An M: its row, or its refusal. `place` is the element's index. Neither ratio nor em is asked, since an M is always solid.
+pub fn lay_mono(
     t: &mut [u32],
     place: u32,
     p: door::Piece,
-    ratios: [[u32; 3]; 2],
-    em: u32,
     width: &[u32],
     before: &[u32],
     after: &[u32],
     flag: &[u32],
     rwidth: &[u32],
 ) -> door::Step
-    requires { let job = wordsOnly (ratiosOf ratios) em [] (now width) (now before) (now after) (now flag) [] (now rwidth) [] in ⌜ (p .bases ≡ 1) × WordReady job p (now t) ⌝ }
-    ensures { λ s. let job = wordsOnly (ratiosOf ratios) em [] (was width) (was before) (was after) (was flag) [] (was rwidth) [] in ⌜ FilledBy (answer Form.M place (given job p)) (λ w. wordRow p w (flagged job p) 0 0) p (was t) (now (t .exit)) s ⌝ }
+    requires { let job = monoNow width before after flag rwidth in ⌜ (p .bases ≡ 1) × WordReady job p (now t) ⌝ }
+    ensures { λ s. let job = monoWas width before after flag rwidth in ⌜ FilledBy (answer Form.M place (given job p)) (λ w. wordRow p w (flagged job p) 0 0) p (was t) (now (t .exit)) s ⌝ }
 {
     let b = p.base;
     let e = b + 1;
     let r = p.ruby;
     let s = r + p.rubies;
-    let answer = word::mono_answer(
-        place,
-        ratios,
-        em,
-        &width[b..e],
-        &before[b..e],
-        &after[b..e],
-        &rwidth[r..s],
-    );
+    let blank = word::blank_inside(&before[b..e], &after[b..e]);
+    let ruby = basics::sum_of(&rwidth[r..s]);
+    let answer = word::mono_answer(place, blank, width[b], ruby);
     let word::Answer::Set(w) = answer else {
         return word_rows::refused(place, answer);
     };
@@ -164,143 +161,139 @@ fn lay_mono(
     door::Step::Next(p)
 }
 
-// A G: its rows, or its refusal.
+// The base of an element, as level one asks for it.
+pub fn base_at(
+    p: door::Piece,
+    em: u32,
+    class: &[u32],
+    width: &[u32],
+    before: &[u32],
+    after: &[u32],
+) -> word::Base
+    requires { let job = basesNow em class width before after in ⌜ BaseReady job p ⌝ }
+    ensures { λ b. let job = basesWas em class width before after in ⌜ b ≡ givenBase (p .form) (given job p) ⌝ }
+{
+    let b = p.base;
+    let e = b + p.bases;
+    let form = p.form;
+    word::base_of(
+        form,
+        em,
+        &class[b..e],
+        &width[b..e],
+        &before[b..e],
+        &after[b..e],
+    )
+}
+
+// Its ruby.
+fn ruby_at(p: door::Piece, rclass: &[u32], rwidth: &[u32]) -> word::Strand
+    requires { ⌜ RubyReady p (now rclass) (now rwidth) ⌝ }
+    ensures { λ r. ⌜ r ≡ rubyOf p (was rclass) (was rwidth) ⌝ }
+{
+    let r = p.ruby;
+    let s = r + p.rubies;
+    word::strand_of(&rclass[r..s], &rwidth[r..s])
+}
+
+// A G: its rows, or its refusal. A line may end behind it where `ends`. The ratios are those at the table's head.
 fn lay_group(
     t: &mut [u32],
     place: u32,
     p: door::Piece,
-    ratios: [[u32; 3]; 2],
     em: u32,
-    class: &[u32],
-    width: &[u32],
-    before: &[u32],
-    after: &[u32],
-    flag: &[u32],
+    base: word::Base,
+    ends: bool,
     rclass: &[u32],
     rwidth: &[u32],
 ) -> door::Step
-    requires { let job = wordsOnly (ratiosOf ratios) em (now class) (now width) (now before) (now after) (now flag) (now rclass) (now rwidth) [] in ⌜ (p .base + p .bases ≤ length (now class)) × (p .ruby + p .rubies ≤ length (now rclass)) × WordReady job p (now t) ⌝ }
-    ensures { λ s. let job = wordsOnly (ratiosOf ratios) em (was class) (was width) (was before) (was after) (was flag) (was rclass) (was rwidth) [] in ⌜ FilledBy (answer Form.G place (given job p)) (λ w. wordRow p w (flagged job p) 0 0) p (was t) (now (t .exit)) s ⌝ }
+    requires { ⌜ BasedReady em base p (now rclass) (now rwidth) (now t) ⌝ }
+    ensures { λ s. ⌜ (length (now (t .exit)) ≡ length (was t)) × ((g : Given) → Gives Form.G em base p (was rclass) (was rwidth) [] (was t) g → FilledBy (answer Form.G place g) (λ w. wordRow p w ends 0 0) p (was t) (now (t .exit)) s) ⌝ }
 {
-    let b = p.base;
-    let e = b + p.bases;
-    let r = p.ruby;
-    let s = r + p.rubies;
-    let answer = word::group_answer(
-        place,
-        ratios,
-        em,
-        &class[b..e],
-        &width[b..e],
-        &before[b..e],
-        &after[b..e],
-        &rclass[r..s],
-        &rwidth[r..s],
-    );
+    let ruby = ruby_at(p, rclass, rwidth);
+    let answer = word::group_answer(place, cells::ratios_at(t), em, base, ruby);
     let word::Answer::Set(w) = answer else {
         return word_rows::refused(place, answer);
     };
-    let ends = word_rows::ends_behind(p, flag);
     word_rows::put_word(t, p, w, ends);
     door::Step::Next(p)
 }
 
-// A J: its rows, or its refusal.
-fn lay_jukugo(
+// A J of one character: its row, or its refusal.
+fn lay_single(
     t: &mut [u32],
     place: u32,
     p: door::Piece,
-    ratios: [[u32; 3]; 2],
     em: u32,
-    class: &[u32],
-    width: &[u32],
-    before: &[u32],
-    after: &[u32],
-    flag: &[u32],
+    base: word::Base,
+    ends: bool,
     rclass: &[u32],
     rwidth: &[u32],
     runs: &[u32],
 ) -> door::Step
-    requires { let job = wordsNow ratios em class width before after flag rclass rwidth runs in ⌜ JukugoReady job p (now t) ⌝ }
-    ensures { λ s. let job = wordsWas ratios em class width before after flag rclass rwidth runs in ⌜ FilledBy (answer Form.J place (given job p)) (λ w. jukugoRow (runsWas em rclass rwidth runs) p w (flagged job p)) p (was t) (now (t .exit)) s ⌝ }
+    requires { ⌜ (p .bases ≡ 1) × BasedReady em base p (now rclass) (now rwidth) (now t) × RunsReady em base p (now rclass) (now rwidth) (now runs) (now t) ⌝ }
+    ensures { λ s. ⌜ (length (now (t .exit)) ≡ length (was t)) × ((g : Given) → Gives Form.J em base p (was rclass) (was rwidth) (was runs) (was t) g → FilledBy (answer Form.J place g) (λ w. jukugoRow (runsWas em rclass rwidth runs) p w ends) p (was t) (now (t .exit)) s) ⌝ }
 {
-    let b = p.base;
-    let e = b + p.bases;
-    let r = p.ruby;
-    let s = r + p.rubies;
-    let u = p.run;
-    let v = u + p.bases;
-    let answer = word::jukugo_answer(
-        place,
-        ratios,
-        em,
-        &class[b..e],
-        &width[b..e],
-        &before[b..e],
-        &after[b..e],
-        &rclass[r..s],
-        &rwidth[r..s],
-        &runs[u..v],
-    );
+    let ruby = ruby_at(p, rclass, rwidth);
+    let answer = word::single_answer(place, cells::ratios_at(t), em, base, ruby);
     let word::Answer::Set(w) = answer else {
         return word_rows::refused(place, answer);
     };
-    let ends = word_rows::ends_behind(p, flag);
-    put_jukugo(t, p, w, ends, em, rclass, rwidth, runs);
+    put_single(t, p, w, ends, rclass, rwidth, runs);
     door::Step::Next(p)
 }
 
-// An element without a left reading, a word with ruby whose counts and characters are there: numbers 7 to 10 as level one gives them, or its rows. `place` is its index.
-pub fn lay_alone(
+// A J of two characters or more: its rows, or its refusal. Level one is asked for its judgement alone, since such a J is measured by its runs, as they are written, and no row holds its word.
+fn lay_cut(
     t: &mut [u32],
     place: u32,
     p: door::Piece,
     em: u32,
-    ratios: [[u32; 3]; 2],
-    class: &[u32],
-    width: &[u32],
-    before: &[u32],
-    after: &[u32],
-    flag: &[u32],
+    base: word::Base,
+    ends: bool,
     rclass: &[u32],
     rwidth: &[u32],
     runs: &[u32],
 ) -> door::Step
-    requires { let job = wordsNow ratios em class width before after flag rclass rwidth runs in ⌜ AloneReady job p (now t) ⌝ }
-    ensures { λ s. let job = wordsWas ratios em class width before after flag rclass rwidth runs in ⌜ FilledBy (answer (p .form) place (given job p)) (λ w. aloneRow job p w (flagged job p)) p (was t) (now (t .exit)) s ⌝ }
+    requires { ⌜ (1 < p .bases) × BasedReady em base p (now rclass) (now rwidth) (now t) × RunsReady em base p (now rclass) (now rwidth) (now runs) (now t) ⌝ }
+    ensures { λ s. ⌜ (length (now (t .exit)) ≡ length (was t)) × ((g : Given) → Gives Form.J em base p (was rclass) (was rwidth) (was runs) (was t) g → FilledBy (answer Form.J place g) (λ w. jukugoRow (runsWas em rclass rwidth runs) p w ends) p (was t) (now (t .exit)) s) ⌝ }
+{
+    let ruby = ruby_at(p, rclass, rwidth);
+    let sort = ruby.sort;
+    let row = word::judge_jukugo(place, base, sort);
+    let word::Row::None = row else {
+        return word_rows::held(place, row);
+    };
+    word_rows::put_runs(t, p, word_rows::NONE, ends, em, rclass, rwidth, runs);
+    door::Step::Next(p)
+}
+
+// A G or a J without a left reading, whose counts and characters are there: numbers 7 to 10 as level one gives them, or its rows.
+pub fn lay_based(
+    t: &mut [u32],
+    place: u32,
+    p: door::Piece,
+    em: u32,
+    base: word::Base,
+    ends: bool,
+    rclass: &[u32],
+    rwidth: &[u32],
+    runs: &[u32],
+) -> door::Step
+    requires { ⌜ (isBased (p .form) ≡ true) × BasedReady em base p (now rclass) (now rwidth) (now t) × (isJ (p .form) ≡ true → RunsReady em base p (now rclass) (now rwidth) (now runs) (now t)) ⌝ }
+    ensures { λ s. ⌜ (length (now (t .exit)) ≡ length (was t)) × ((g : Given) → Gives (p .form) em base p (was rclass) (was rwidth) (was runs) (was t) g → FilledBy (answer (p .form) place g) (λ w. basedRow (runsWas em rclass rwidth runs) p w ends) p (was t) (now (t .exit)) s) ⌝ }
 {
     let form = p.form;
     match form {
         word::Form::P => door::Step::Stop(Refusal::Element(place)), // unreachable: a P is laid by `put_plain`
-        word::Form::M => lay_mono(t, place, p, ratios, em, width, before, after, flag, rwidth),
-        word::Form::G => lay_group(
-            t,
-            place,
-            p,
-            ratios,
-            em,
-            class,
-            width,
-            before,
-            after,
-            flag,
-            rclass,
-            rwidth,
-        ),
-        word::Form::J => lay_jukugo(
-            t,
-            place,
-            p,
-            ratios,
-            em,
-            class,
-            width,
-            before,
-            after,
-            flag,
-            rclass,
-            rwidth,
-            runs,
-        ),
+        word::Form::M => door::Step::Stop(Refusal::Element(place)), // unreachable: an M by `lay_mono`
+        word::Form::G => lay_group(t, place, p, em, base, ends, rclass, rwidth),
+        word::Form::J => {
+            if p.bases == 1 {
+                lay_single(t, place, p, em, base, ends, rclass, rwidth, runs)
+            } else {
+                lay_cut(t, place, p, em, base, ends, rclass, rwidth, runs)
+            }
+        }
     }
 }

@@ -1,81 +1,21 @@
 // Many sheets in one run: for each sheet on standard input its answer on standard output, in the frames of the crate `frames`, by the same function as the program `setting`. It ends where no
 // frame follows. Since every program ends, it takes a million sheets at most.
 use frames::Frame;
+ghost use Rattle.io.specs.Counts.{Counts};
 
-fn set_front(
-    got: u32,
-    text: &[u8],
-    set: &mut [u32; limits::SET],
-    base: &mut [u32; limits::BASE_TABLE],
-    ruby: &mut [u32; limits::RUBY_TABLE],
-    left: &mut [u32; limits::LEFT_TABLE],
-    elem: &mut [u32; limits::ELEMENT_TABLE],
-    runs: &mut [u32; limits::RUNS],
-    lruns: &mut [u32; limits::RUNS],
-    bases: &mut [u32; limits::MOST_BASES],
-    rubies: &mut [u32; limits::MOST_RUBIES],
-    lefts: &mut [u32; limits::MOST_LEFTS],
-    lines: &mut [u32; limits::MOST_BASES],
-    out: &mut [u8; limits::ANSWER],
-) -> u32 {
-    let m = io::count(got as isize, text);
-    let k = setter::set_sheet(
-        &text[..m],
-        set,
-        base,
-        ruby,
-        left,
-        elem,
-        runs,
-        lruns,
-        bases,
-        rubies,
-        lefts,
-        lines,
-        out,
-    );
-    if k <= 131072 { k as u32 } else { 131072 }
+// A sheet of n bytes into `text`; the number of its bytes there. Here, as in `write_front`, the array is lent as one: that a local array has its length after it was lent is known only so.
+fn read_front(n: u32, text: &mut [u8; 65536]) -> usize
+    ensures { λ r. ⌜ Counts r (now (text .exit)) ⌝ }
+{
+    let got = frames::read_sheet(n, text);
+    io::count(got as isize, text)
 }
 
-// One sheet; whether there was one.
-fn answer_one(
-    text: &mut [u8; 65536],
-    set: &mut [u32; limits::SET],
-    base: &mut [u32; limits::BASE_TABLE],
-    ruby: &mut [u32; limits::RUBY_TABLE],
-    left: &mut [u32; limits::LEFT_TABLE],
-    elem: &mut [u32; limits::ELEMENT_TABLE],
-    runs: &mut [u32; limits::RUNS],
-    lruns: &mut [u32; limits::RUNS],
-    bases: &mut [u32; limits::MOST_BASES],
-    rubies: &mut [u32; limits::MOST_RUBIES],
-    lefts: &mut [u32; limits::MOST_LEFTS],
-    lines: &mut [u32; limits::MOST_BASES],
-    out: &mut [u8; limits::ANSWER],
-) -> bool {
-    let frame = frames::next_frame();
-    let Frame::Sheet(n) = frame else {
-        return false;
-    };
-    let got = frames::read_sheet(n, text);
-    let k = set_front(
-        got,
-        text,
-        set,
-        base,
-        ruby,
-        left,
-        elem,
-        runs,
-        lruns,
-        bases,
-        rubies,
-        lefts,
-        lines,
-        out,
-    );
-    frames::write_answer(k, out);
-    true
+// The first k bytes of `out`, as an answer: no more than it has.
+fn write_front(k: usize, out: &[u8; limits::ANSWER]) {
+    let most = limits::ANSWER;
+    let m = if k <= most { k as u32 } else { most as u32 };
+    frames::write_answer(m, out);
 }
 
 fn main() {
@@ -94,8 +34,13 @@ fn main() {
     let mut out = [0; limits::ANSWER];
     let mut rest: u32 = 1000000;
     while 0 < rest {
-        let more = answer_one(
-            &mut text,
+        let frame = frames::next_frame();
+        let Frame::Sheet(n) = frame else {
+            return;
+        };
+        let m = read_front(n, &mut text);
+        let k = setter::set_sheet(
+            &text[..m],
             &mut set,
             &mut base,
             &mut ruby,
@@ -109,6 +54,7 @@ fn main() {
             &mut lines,
             &mut out,
         );
-        rest = if more { rest - 1 } else { 0 };
+        write_front(k, &out);
+        rest -= 1;
     }
 }

@@ -2,6 +2,7 @@
 use mathlib.Core.List.{List}
 use mathlib.Core.Path.{_≡_}
 use Prim.Native.Nat.{ℕ, _+_, _-_, _≤_}
+use native.Mathlib.Omega.{arith}
 use lib.ListN.{length, getD, take, drop}
 use Rattle.rows.specs.Table.{column}
 use Rattle.sheet.specs.declared.Counts.{Counts}
@@ -38,24 +39,10 @@ sheetJob t =
 abbrev pub part : ℕ → ℕ → List ℕ → List ℕ
 part a e t = take (e - a) (drop a t)
 
--- The job that the tables hold, each field a part of its table: first its left characters, elements and runs, of a job whose other fields are given,
-abbrev pub elementsJob : ℕ → ℕ → List (List ℕ) → ℕ → List ℕ → List ℕ → List ℕ → List ℕ → List ℕ → List ℕ → List ℕ → Counts → List ℕ → List ℕ → List ℕ → List ℕ → Job
-elementsJob em measure ratios profile class width before after flag rubyClass rubyWidth n left elem runs lruns =
-    jobOf em measure ratios profile class width before after flag rubyClass rubyWidth
-    (part 0 (n .lefts) left)
-    (part 2048 (2048 + n .lefts) left)
-    (part 0 (n .elements) elem)
-    (part 1024 (1024 + n .elements) elem)
-    (part 2048 (2048 + n .elements) elem)
-    (part 3072 (3072 + n .elements) elem)
-    (part 4096 (4096 + n .elements) elem)
-    (part 0 (n .runs) runs)
-    (part 0 (n .lruns) lruns)
-
--- then all of it
+-- The job that the tables hold, each field a part of its table
 abbrev pub tablesJob : Counts → Tables → Job
 tablesJob n t =
-    elementsJob
+    jobOf
     (getD (t .set) 0 0)
     (getD (t .set) 1 0)
     (ratiosIn (t .set))
@@ -67,11 +54,15 @@ tablesJob n t =
     (part 4096 (4096 + n .bases) (t .base))
     (part 0 (n .rubies) (t .ruby))
     (part 2048 (2048 + n .rubies) (t .ruby))
-    n
-    (t .left)
-    (t .elem)
-    (t .runs)
-    (t .lruns)
+    (part 0 (n .lefts) (t .left))
+    (part 2048 (2048 + n .lefts) (t .left))
+    (part 0 (n .elements) (t .elem))
+    (part 1024 (1024 + n .elements) (t .elem))
+    (part 2048 (2048 + n .elements) (t .elem))
+    (part 3072 (3072 + n .elements) (t .elem))
+    (part 4096 (4096 + n .elements) (t .elem))
+    (part 0 (n .runs) (t .runs))
+    (part 0 (n .lruns) (t .lruns))
 
 -- the tables of left characters, elements and runs, and all of them, as long as they are lent
 pub record ElementsLent (left elem runs lruns : List ℕ) : Type 0 where
@@ -94,12 +85,21 @@ pub record ElementsFew (n : Counts) : Type 0 where
   pub fewLruns : n .lruns ≤ 32768
 
 -- the tables are as long as that asks for
-pub record ElementsLong (n : Counts) (left elem runs lruns : List ℕ) : Type 0 where
-  pub lent : ElementsLent left elem runs lruns
-  pub few : ElementsFew n
-
 pub record TablesLong (n : Counts) (t : Tables) : Type 0 where
   pub lent : Lent t
   pub bases : n .bases ≤ 1024
   pub rubies : n .rubies ≤ 2048
   pub few : ElementsFew n
+
+-- so the first column of a table lies within it, and one that begins at a
+pub front-within : (t : List ℕ) {n most all : ℕ} → length t ≡ all → n ≤ most → most ≤ all → n ≤ length t
+front-within t f h g = omega arith
+
+pub column-within : (t : List ℕ) (a n : ℕ) {most all : ℕ} → length t ≡ all → n ≤ most → a + most ≤ all → a + n ≤ length t
+column-within t a n f h g = omega arith
+
+-- the job's table, and the ends and extents of its lines, as long as they are lent: rows of both readings for 1,024 base characters behind a head, and as many lines
+pub record Whole (t ends extents : List ℕ) : Type 0 where
+  pub rows : length t ≡ 27655
+  pub ended : length ends ≡ 1024
+  pub far : length extents ≡ 1024

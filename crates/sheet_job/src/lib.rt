@@ -3,73 +3,7 @@
 ghost use Rattle.basics.specs.Seen.{was};
 ghost use Rattle.sheet.specs.Seen.{tablesNow, tablesWas};
 ghost use Rattle.engine.specs.Filled.{Fills};
-ghost use Rattle.sheet_job.specs.Tables.{ElementsLong, TablesLong, tablesJob};
-ghost use Rattle.sheet_job.specs.Seen.{elementsWas};
-
-// The job whose left characters, elements and runs stand in tables.
-fn fill_elements(
-    t: &mut [u32; engine::TABLE],
-    ends: &mut [u32; limits::MOST_BASES],
-    extents: &mut [u32; limits::MOST_BASES],
-    em: u32,
-    measure: u32,
-    ratios: [[u32; 3]; 2],
-    profile: u32,
-    class: &[u32],
-    width: &[u32],
-    before: &[u32],
-    after: &[u32],
-    flag: &[u32],
-    rclass: &[u32],
-    rwidth: &[u32],
-    n: sheet::Counts,
-    left: &[u32],
-    elem: &[u32],
-    runs: &[u32],
-    lruns: &[u32],
-) -> filling::Lines
-    requires { ⌜ ElementsLong n (now left) (now elem) (now runs) (now lruns) ⌝ }
-    ensures { λ a. let job = elementsWas em measure ratios profile class width before after flag rclass rwidth n left elem runs lruns in ⌜ Fills job 1024 2048 2048 1024 (was ends) (was extents) (now (t .exit)) (now (ends .exit)) (now (extents .exit)) a ⌝ }
-{
-    let l = n.lefts;
-    let l1 = limits::LEFT_WIDTH + l;
-    let e = n.elements;
-    let e1 = limits::ELEMENT_BASE + e;
-    let e2 = limits::ELEMENT_RUBY + e;
-    let e3 = limits::ELEMENT_LEFT_KIND + e;
-    let e4 = limits::ELEMENT_LEFT + e;
-    let u = n.runs;
-    let v = n.lruns;
-    engine::fill_job(
-        t,
-        ends,
-        extents,
-        em,
-        measure,
-        ratios,
-        profile,
-        class,
-        width,
-        before,
-        after,
-        flag,
-        rclass,
-        rwidth,
-        &left[0..l],
-        &left[limits::LEFT_WIDTH..l1],
-        &elem[0..e],
-        &elem[limits::ELEMENT_BASE..e1],
-        &elem[limits::ELEMENT_RUBY..e2],
-        &elem[limits::ELEMENT_LEFT_KIND..e3],
-        &elem[limits::ELEMENT_LEFT..e4],
-        &runs[0..u],
-        &lruns[0..v],
-        limits::MOST_BASES,
-        limits::MOST_RUBIES,
-        limits::MOST_LEFTS,
-        limits::MOST_BASES,
-    )
-}
+ghost use Rattle.sheet_job.specs.Tables.{TablesLong, tablesJob, Whole};
 
 // The job that the tables hold, column by column (`sheet::read_sheet`): its table of rows, and the ends and extents of its lines; or the first refusal of all.
 pub fn fill_tables(
@@ -87,6 +21,7 @@ pub fn fill_tables(
 ) -> filling::Lines
     requires { ⌜ TablesLong n (tablesNow set base ruby left elem runs lruns) ⌝ }
     ensures { λ a. let job = tablesJob n (tablesWas set base ruby left elem runs lruns) in ⌜ Fills job 1024 2048 2048 1024 (was ends) (was extents) (now (t .exit)) (now (ends .exit)) (now (extents .exit)) a ⌝ }
+    ensures { λ _. ⌜ Whole (now (t .exit)) (now (ends .exit)) (now (extents .exit)) ⌝ }
 {
     let b = n.bases;
     let b1 = limits::BASE_WIDTH + b;
@@ -95,7 +30,16 @@ pub fn fill_tables(
     let b4 = limits::BASE_FLAG + b;
     let r = n.rubies;
     let r1 = limits::RUBY_WIDTH + r;
-    fill_elements(
+    let l = n.lefts;
+    let l1 = limits::LEFT_WIDTH + l;
+    let e = n.elements;
+    let e1 = limits::ELEMENT_BASE + e;
+    let e2 = limits::ELEMENT_RUBY + e;
+    let e3 = limits::ELEMENT_LEFT_KIND + e;
+    let e4 = limits::ELEMENT_LEFT + e;
+    let u = n.runs;
+    let v = n.lruns;
+    engine::fill_job(
         t,
         ends,
         extents,
@@ -110,10 +54,18 @@ pub fn fill_tables(
         &base[limits::BASE_FLAG..b4],
         &ruby[0..r],
         &ruby[limits::RUBY_WIDTH..r1],
-        n,
-        left,
-        elem,
-        runs,
-        lruns,
+        &left[0..l],
+        &left[limits::LEFT_WIDTH..l1],
+        &elem[0..e],
+        &elem[limits::ELEMENT_BASE..e1],
+        &elem[limits::ELEMENT_RUBY..e2],
+        &elem[limits::ELEMENT_LEFT_KIND..e3],
+        &elem[limits::ELEMENT_LEFT..e4],
+        &runs[0..u],
+        &lruns[0..v],
+        limits::MOST_BASES,
+        limits::MOST_RUBIES,
+        limits::MOST_LEFTS,
+        limits::MOST_BASES,
     )
 }

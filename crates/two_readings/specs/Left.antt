@@ -2,7 +2,7 @@
 use mathlib.Core.Path.{_≡_, refl, sym, ap, ap₂, _∙_}
 use mathlib.Core.Bool.{Bool, true, false, cond, not, _&&_, _||_, true≢false, false≢true}
 use mathlib.Core.List.{List, []}
-use Prim.Native.Nat.{ℕ, zero, suc, _+_, _-_, _≤_, _<_}
+use Prim.Native.Nat.{ℕ, zero, suc, _+_, _-_, _≤_, _<_, zero-le}
 use native.Mathlib.Nat.{add-zero}
 use native.Mathlib.Omega.{arith}
 use borrow.Author.Tests.{ltb-true, ltb-false, not-true}
@@ -18,13 +18,16 @@ use Rattle.word.specs.declared.Left.the-variants as left
 use Rattle.word.specs.declared.Reading.{Reading}
 use Rattle.word.specs.declared.Str.{Str}
 use Rattle.word.specs.declared.Word.{Word}
+use Rattle.word.specs.declared.Base.{Base}
+use Rattle.word.specs.declared.RunStrand.{RunStrand}
 use Rattle.word.specs.declared.Answer.{Answer}
 use Rattle.word.specs.Given.{Given, isJ}
 use Rattle.word.specs.Alone.{split, anyLonger}
 use Rattle.word.specs.Both.{Gloss, hasLeft, takes, apart, isGroup, isJukugo, uncut}
-use Rattle.word.specs.Sides.{Strings, strOf, readingOver, sided, monosWord, jukugosWord, jukugosBy, twoBy, wordTwo}
+use Rattle.word.specs.Sides.{Strings, strings, strOf, readingOver, sided, monosWord, jukugosWord, jukugosBy, twoBy, wordTwo}
 use Rattle.word.specs.Sides as sides
 use Rattle.word.specs.Answered.{LeftReady, answerBoth}
+use Rattle.word.specs.Summed.{givenBase, ems-wide, runStrandOf, runs-fit-em, JukugosReady, bothBy, both-by}
 use Rattle.line.specs.declared.Side.{Side}
 use Rattle.line.specs.declared.Side.the-variants.{Right, Left}
 use Rattle.cells.specs.declared.Cell.{Cell}
@@ -34,6 +37,7 @@ use Rattle.door.specs.declared.Piece.{Piece}
 use Rattle.door.specs.declared.Step.{Step}
 use Rattle.door.specs.Job.{Job, entries, leftByRuns, takesRuns, takesLeftRuns, given, glossOf}
 use Rattle.door.specs.Entries.{part-of, length-entries}
+use Rattle.door.specs.Loop.{runs-few, left-runs-few}
 use Rattle.door.specs.Walk.{jukugo-runs}
 use Rattle.job.specs.Line.{part, cuts, wordOf}
 use Rattle.job.specs.Laws.{both}
@@ -147,30 +151,6 @@ runs-all M n h = absurd (false≢true h)
 runs-all G n h = absurd (false≢true h)
 runs-all J n h = refl
 
-left-runs-all : (form : Form) (k : LeftKind) (n : ℕ) → isJ form ≡ true → hasLeft k ≡ true → isGroup k ≡ false → takesLeftRuns form k n ≡ n
-left-runs-all form k n j h g = rw (jukugo-runs form k j h g)
-
-ready-read : (form : Form) (k : LeftKind) (bs rs run ls lrun : List ℕ) (u v n : ℕ) → LeftReady form k bs rs (entries run u n) ls (entries lrun v n) →
-    LeftReady form k bs rs (entries run u (takesRuns form n)) ls (entries lrun v (takesLeftRuns form k n))
-ready-read form k bs rs run ls lrun u v n r =
-    let s = r .sized in
-    record {
-      ruby = r .ruby;
-      sized =
-          record {
-            some = s .some;
-            few = s .few;
-            narrow = s .narrow;
-            reads = s .reads;
-            fewRuby = s .fewRuby;
-            narrowRuby = s .narrowRuby;
-            whole = λ j. ap (λ m. sum (entries run u m)) (runs-all form n j) ∙ s .whole j;
-          };
-      here = r .here;
-      gloss = r .gloss;
-      whole = λ j g. ap (λ m. sum (entries lrun v m)) (left-runs-all form k n j (r .here) g) ∙ r .whole j g;
-    }
-
 -- a word with a left reading within its lists, and room for its rows and left rows
 pub record BothReady (job : Job) (x : Piece) (t : List ℕ) : Type 0 where
   pub word : WordReady job x t
@@ -191,57 +171,136 @@ pub record BothReady (job : Job) (x : Piece) (t : List ℕ) : Type 0 where
   pub lefts : leftByRuns (x .form) (x .gloss) ≡ true → Runs Left (leftsOnly (job .leftWidth) (job .leftRun)) x
   pub room : LeftRoom (x .base + x .bases) t
 
+-- Level one is asked by what it wants to know of either reading.
+
+pub record StrandReady (first many run taken : ℕ) (cs ws rs : List ℕ) : Type 0 where
+  pub few : first + many ≤ 4096
+  pub short : many ≤ 64
+  pub class : first + many ≤ length cs
+  pub width : first + many ≤ length ws
+  pub narrow : sum (entries ws first many) ≤ 262144
+  pub fewRuns : run + taken ≤ 8192
+  pub runs : run + taken ≤ length rs
+  pub whole : sum (entries rs run taken) ≤ many
+
+abbrev pub strandIn : ℕ → ℕ → ℕ → ℕ → ℕ → List ℕ → List ℕ → List ℕ → RunStrand
+strandIn em first many run taken cs ws runs = runStrandOf em (entries cs first many) (entries ws first many) (entries runs run taken)
+
+module _ (em first many run taken : ℕ) (cs ws runs : List ℕ) (h : StrandReady first many run taken cs ws runs) where
+  pub strand-lent :
+      runStrandOf em (take (first + many - first) (drop first cs)) (take (first + many - first) (drop first ws)) (take (run + taken - run) (drop run runs))
+      ≡ strandIn em first many run taken cs ws runs
+  strand-lent = rw (part-of cs first many (h .class), part-of ws first many (h .width), part-of runs run taken (h .runs))
+
+  pub strand-small :
+      let u = take (first + many - first) (drop first ws) in
+      (length u ≤ 64) × (sum u ≤ 262144) × (sum (take (run + taken - run) (drop run runs)) ≤ length u)
+  strand-small =
+      rw (part-of ws first many (h .width), part-of runs run taken (h .runs))
+      (omega (arith, length-entries ws first many, h .short), h .narrow, omega (arith, length-entries ws first many, h .whole))
+
+-- runs that are not read are none
+runs-sum : (form : Form) (run : List ℕ) (u n m : ℕ) → (isJ form ≡ true → sum (entries run u n) ≡ m) → sum (entries run u (takesRuns form n)) ≤ m
+runs-sum P run u n m e = zero-le
+runs-sum M run u n m e = zero-le
+runs-sum G run u n m e = zero-le
+runs-sum J run u n m e = omega (arith, e refl)
+
+left-runs-sum : (form : Form) (k : LeftKind) (run : List ℕ) (u n m : ℕ) → takes form k ≡ true → (isJ form ≡ true → isGroup k ≡ false → sum (entries run u n) ≡ m) →
+    sum (entries run u (takesLeftRuns form k n)) ≤ m
+left-runs-sum P left.N run u n m t e = zero-le
+left-runs-sum P left.M run u n m t e = absurd (false≢true t)
+left-runs-sum P left.G run u n m t e = absurd (false≢true t)
+left-runs-sum P left.J run u n m t e = absurd (false≢true t)
+left-runs-sum M left.N run u n m t e = zero-le
+left-runs-sum M left.M run u n m t e = zero-le
+left-runs-sum M left.G run u n m t e = absurd (false≢true t)
+left-runs-sum M left.J run u n m t e = absurd (false≢true t)
+left-runs-sum G left.N run u n m t e = zero-le
+left-runs-sum G left.M run u n m t e = absurd (false≢true t)
+left-runs-sum G left.G run u n m t e = zero-le
+left-runs-sum G left.J run u n m t e = absurd (false≢true t)
+left-runs-sum J left.N run u n m t e = zero-le
+left-runs-sum J left.M run u n m t e = omega (arith, e refl refl)
+left-runs-sum J left.G run u n m t e = zero-le
+left-runs-sum J left.J run u n m t e = omega (arith, e refl refl)
+
 module _ (job : Job) (x : Piece) {t : List ℕ} (h : BothReady job x t) where
-  abbrev pub lent : Given
-  lent =
+  abbrev pub rightIn : RunStrand
+  rightIn = strandIn (job .em) (x .ruby) (x .rubies) (x .run) (takesRuns (x .form) (x .bases)) (job .rubyClass) (job .rubyWidth) (job .run)
+
+  abbrev pub leftIn : RunStrand
+  leftIn = strandIn (job .em) (x .left) (x .lefts) (x .leftrun) (takesLeftRuns (x .form) (x .gloss) (x .bases)) (job .leftClass) (job .leftWidth) (job .leftRun)
+
+  pub right-ready : StrandReady (x .ruby) (x .rubies) (x .run) (takesRuns (x .form) (x .bases)) (job .rubyClass) (job .rubyWidth) (job .run)
+  right-ready =
+      let s = h .ready .sized in
+      let n = length-entries (job .rubyWidth) (x .ruby) (x .rubies) in
       record {
-        em = job .em;
-        ratios = job .ratios;
-        class = take (x .base + x .bases - x .base) (drop (x .base) (job .class));
-        width = take (x .base + x .bases - x .base) (drop (x .base) (job .width));
-        before = take (x .base + x .bases - x .base) (drop (x .base) (job .before));
-        after = take (x .base + x .bases - x .base) (drop (x .base) (job .after));
-        rubyClass = take (x .ruby + x .rubies - x .ruby) (drop (x .ruby) (job .rubyClass));
-        rubyWidth = take (x .ruby + x .rubies - x .ruby) (drop (x .ruby) (job .rubyWidth));
-        run = take (x .run + takesRuns (x .form) (x .bases) - x .run) (drop (x .run) (job .run));
+        few = h .word .fewRuby;
+        short = omega (arith, n, s .fewRuby);
+        class = h .rubyClass;
+        width = h .word .rubyWidth;
+        narrow = s .narrowRuby;
+        fewRuns = omega (arith, runs-few (x .form) (x .bases), h .few, h .fewRuns);
+        runs = h .run;
+        whole = runs-sum (x .form) (job .run) (x .run) (x .bases) (x .rubies) (λ j. s .whole j ∙ n);
       }
 
-  abbrev pub lentLeft : Gloss
-  lentLeft =
+  pub left-ready : StrandReady (x .left) (x .lefts) (x .leftrun) (takesLeftRuns (x .form) (x .gloss) (x .bases)) (job .leftClass) (job .leftWidth) (job .leftRun)
+  left-ready =
+      let g = h .ready .gloss in
+      let n = length-entries (job .leftWidth) (x .left) (x .lefts) in
       record {
-        kind = x .gloss;
-        class = take (x .left + x .lefts - x .left) (drop (x .left) (job .leftClass));
-        width = take (x .left + x .lefts - x .left) (drop (x .left) (job .leftWidth));
-        run = take (x .leftrun + takesLeftRuns (x .form) (x .gloss) (x .bases) - x .leftrun) (drop (x .leftrun) (job .leftRun));
+        few = h .fewLefts;
+        short = omega (arith, n, g .few);
+        class = h .leftClass;
+        width = h .leftWidth;
+        narrow = g .narrow;
+        fewRuns = omega (arith, left-runs-few (x .form) (x .gloss) (x .bases), h .few, h .fewLeftRuns);
+        runs = h .leftRun;
+        whole = left-runs-sum (x .form) (x .gloss) (job .leftRun) (x .leftrun) (x .bases) (x .lefts) (h .taken) (λ j g. h .ready .whole j g ∙ n);
       }
 
-  pub left-lent : (place : ℕ) → answerBoth (x .form) place lent lentLeft ≡ answerBoth (x .form) place (given job x) (glossOf job x)
-  left-lent place =
-      rw (
-        part-of (job .class) (x .base) (x .bases) (h .class),
-        part-of (job .width) (x .base) (x .bases) (h .word .width),
-        part-of (job .before) (x .base) (x .bases) (h .word .before),
-        part-of (job .after) (x .base) (x .bases) (h .word .after),
-        part-of (job .rubyClass) (x .ruby) (x .rubies) (h .rubyClass),
-        part-of (job .rubyWidth) (x .ruby) (x .rubies) (h .word .rubyWidth),
-        part-of (job .run) (x .run) (takesRuns (x .form) (x .bases)) (h .run),
-        part-of (job .leftClass) (x .left) (x .lefts) (h .leftClass),
-        part-of (job .leftWidth) (x .left) (x .lefts) (h .leftWidth),
-        part-of (job .leftRun) (x .leftrun) (takesLeftRuns (x .form) (x .gloss) (x .bases)) (h .leftRun),
-      )
-      (unread (x .form) (x .gloss) (h .ready .here) (h .taken) place (job .em) (job .ratios) (given job x .class) (given job x .width) (given job x .before) (given job x .after)
-      (given job x .rubyClass) (given job x .rubyWidth) (job .run) (glossOf job x .class) (glossOf job x .width) (job .leftRun) (x .run) (x .leftrun) (x .bases))
+  -- what it asks for, and what it answers
+  module _ {b : Base} {r l : RunStrand} (e : b ≡ givenBase (x .form) (given job x)) (f : r ≡ rightIn) (g : l ≡ leftIn) where
+    pub both-asks : Strings (b .string) (r .string) (l .string) × (isJ (x .form) ≡ true → JukugosReady (job .em) b r l)
+    both-asks =
+        rw (e, f, g) (
+          strings (given job x .width) (given job x .rubyWidth) (glossOf job x .width) (h .word .small) (h .ready .gloss),
+          λ j. record {
+            wide = λ u. ems-wide (x .form) (job .em) (given job x .width) (h .ready .sized .some) j u;
+            right = runs-fit-em (job .em) (given job x .rubyClass) (given job x .rubyWidth) (entries (job .run) (x .run) (takesRuns (x .form) (x .bases)));
+            left = runs-fit-em (job .em) (glossOf job x .class) (glossOf job x .width) (entries (job .leftRun) (x .leftrun) (takesLeftRuns (x .form) (x .gloss) (x .bases)));
+          },
+        )
 
-  pub lent-ready : LeftReady (x .form) (x .gloss) (lent .width) (lent .rubyWidth) (lent .run) (lentLeft .width) (lentLeft .run)
-  lent-ready =
-      rw (
-        part-of (job .width) (x .base) (x .bases) (h .word .width),
-        part-of (job .rubyWidth) (x .ruby) (x .rubies) (h .word .rubyWidth),
-        part-of (job .run) (x .run) (takesRuns (x .form) (x .bases)) (h .run),
-        part-of (job .leftWidth) (x .left) (x .lefts) (h .leftWidth),
-        part-of (job .leftRun) (x .leftrun) (takesLeftRuns (x .form) (x .gloss) (x .bases)) (h .leftRun),
-      )
-      (ready-read (x .form) (x .gloss) (given job x .width) (given job x .rubyWidth) (job .run) (glossOf job x .width) (job .leftRun) (x .run) (x .leftrun) (x .bases) (h .ready))
+    pub both-told : (place : ℕ) {u : Ratios} → u ≡ job .ratios → bothBy (x .form) (x .gloss) place u (job .em) b r l ≡ answerBoth (x .form) place (given job x) (glossOf job x)
+    both-told place i =
+        rw (i, e, f, g)
+        (sym (both-by read readLeft (x .form) place (h .ready .ruby) (h .ready .here))
+        ∙ unread (x .form) (x .gloss) (h .ready .here) (h .taken) place (job .em) (job .ratios) (given job x .class) (given job x .width) (given job x .before) (given job x .after)
+        (given job x .rubyClass) (given job x .rubyWidth) (job .run) (glossOf job x .class) (glossOf job x .width) (job .leftRun) (x .run) (x .leftrun) (x .bases))
+      where
+        read : Given
+        read =
+            let w = given job x in
+            record {
+              em = w .em;
+              ratios = w .ratios;
+              class = w .class;
+              width = w .width;
+              before = w .before;
+              after = w .after;
+              rubyClass = w .rubyClass;
+              rubyWidth = w .rubyWidth;
+              run = entries (job .run) (x .run) (takesRuns (x .form) (x .bases));
+            }
+
+        readLeft : Gloss
+        readLeft =
+            let w = glossOf job x in
+            record { kind = w .kind; class = w .class; width = w .width; run = entries (job .leftRun) (x .leftrun) (takesLeftRuns (x .form) (x .gloss) (x .bases)) }
 
 -- One character of a J with a mono left reading, by its numbers: its word, its row, and its left row.
 
@@ -470,17 +529,14 @@ laid-both job x w i l h = go (apart (x .form) (x .gloss)) refl
     go true e = its-row job x i e l h
     go false e = refl
 
-pub record BothPut (job : Job) (x : Piece) (w : Word) (t : List ℕ) : Type 0 where
+-- what the writing of its rows asks for, of a word that is not taken apart
+pub record WholePut (job : Job) (x : Piece) (w : Word) (t : List ℕ) : Type 0 where
   pub some : 0 < x .bases
   pub few : x .base + x .bases ≤ 1024
   pub fewRuby : x .ruby + x .rubies ≤ 4096
   pub fewLefts : x .left + x .lefts ≤ 4096
-  pub flag : x .base + x .bases ≤ length (job .flag)
-  pub width : x .base + x .bases ≤ length (job .width)
-  pub narrow : sum (entries (job .width) (x .base) (x .bases)) ≤ 131072
-  pub house : Housed (job .ratios)
   pub here : hasLeft (x .gloss) ≡ true
-  pub parted : apart (x .form) (x .gloss) ≡ false → cuts job x ≡ w .right .runs
+  pub parted : cuts job x ≡ w .right .runs
   pub jukugo : isJ (x .form) ≡ true → HasRuns (runsOnly (job .em) (job .rubyClass) (job .rubyWidth) (job .run)) x t
   pub lefts : leftByRuns (x .form) (x .gloss) ≡ true → Runs Left (leftsOnly (job .leftWidth) (job .leftRun)) x
   pub held : size (x .base + x .bases) ≤ length t

@@ -1,10 +1,9 @@
--- What a word with a left reading is laid from, as a contract sees it, its lists behind references: `bothNow` as a `requires` sees it, `bothWas` as an `ensures` does, at entry;
--- `leftsNow` and `leftsWas` are the same for what its left rows are written from.
-use mathlib.Core.List.{List}
+-- What a word with a left reading is laid from, as a contract sees it, its lists behind references: `..Now` as a `requires` sees it, `..Was` as an `ensures` does, at entry.
+use mathlib.Core.List.{List, []}
 use Prim.Native.Nat.{ℕ}
 use denote.Ref.{now}
 use Rattle.basics.specs.Seen.{was, Ref, Seen}
-use Rattle.spread.specs.Ratio.{ratiosOf}
+use Rattle.spread.specs.Ratio.{usual}
 use Rattle.door.specs.Job.{Job}
 use Rattle.word_rows.specs.Runs.{bothOnly}
 use Rattle.two_readings.specs.Left.{leftsOnly}
@@ -15,10 +14,12 @@ leftsNow lwidth lruns = leftsOnly (now lwidth) (now lruns)
 abbrev pub leftsWas : Seen → Seen → Job
 leftsWas lwidth lruns = leftsOnly (was lwidth) (was lruns)
 
-abbrev pub bothNow : List (List ℕ) → ℕ → Ref → Ref → Ref → Ref → Ref → Ref → Ref → Ref → Ref → Ref → Ref → Job
-bothNow ratios em class width before after flag rclass rwidth runs lclass lwidth lruns =
-    bothOnly (ratiosOf ratios) em (now class) (now width) (now before) (now after) (now flag) (now rclass) (now rwidth) (now runs) (now lclass) (now lwidth) (now lruns)
+-- of the rows of a word that is not taken apart only these lists matter
+abbrev pub wholeOnly : ℕ → List ℕ → List ℕ → List ℕ → List ℕ → List ℕ → Job
+wholeOnly em rubyClass rubyWidth run leftWidth leftRun = bothOnly usual em [] [] [] [] [] rubyClass rubyWidth run [] leftWidth leftRun
 
-abbrev pub bothWas : List (List ℕ) → ℕ → Seen → Seen → Seen → Seen → Seen → Seen → Seen → Seen → Seen → Seen → Seen → Job
-bothWas ratios em class width before after flag rclass rwidth runs lclass lwidth lruns =
-    bothOnly (ratiosOf ratios) em (was class) (was width) (was before) (was after) (was flag) (was rclass) (was rwidth) (was runs) (was lclass) (was lwidth) (was lruns)
+abbrev pub wholeNow : ℕ → Ref → Ref → Ref → Ref → Ref → Job
+wholeNow em rclass rwidth runs lwidth lruns = wholeOnly em (now rclass) (now rwidth) (now runs) (now lwidth) (now lruns)
+
+abbrev pub wholeWas : ℕ → Seen → Seen → Seen → Seen → Seen → Job
+wholeWas em rclass rwidth runs lwidth lruns = wholeOnly em (was rclass) (was rwidth) (was runs) (was lwidth) (was lruns)

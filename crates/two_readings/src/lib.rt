@@ -10,16 +10,17 @@ ghost use Rattle.basics.specs.Seen.{was};
 ghost use Rattle.spread.specs.Ratio.{ratiosOf, Housed};
 ghost use Rattle.word.specs.Both.{apart};
 ghost use Rattle.word.specs.Sides.{monosWord, Strings};
-ghost use Rattle.word.specs.Answered.{answerBoth};
 ghost use Rattle.line.specs.declared.Side.the-variants as side;
-ghost use Rattle.door.specs.Job.{given, glossOf};
+ghost use Rattle.door.specs.Job.{takesRuns, takesLeftRuns, given};
 ghost use Rattle.cells.specs.Cells.{size, beside};
+ghost use Rattle.word.specs.Summed.{givenBase};
+ghost use Rattle.word_rows.specs.Base.{BaseReady, basesNow, basesWas};
 ghost use Rattle.word_rows.specs.Runs.{bothOnly, Runs, HasRuns, ownWord, jukugoRow};
 ghost use Rattle.word_rows.specs.Word.{wordRow};
 ghost use Rattle.word_rows.specs.Seen.{runsNow, runsWas};
 ghost use Rattle.two_readings.specs.Written.{leftFrom, LeftRoom, LeftFilled, Written, BareReady, Bared};
-ghost use Rattle.two_readings.specs.Left.{leftRowOf, leftRow, leftRunRow, cellOf, characterBoth, Characters, laidRow, bothRow, BothPut, BothReady, WrittenBy};
-ghost use Rattle.two_readings.specs.Seen.{leftsNow, leftsWas, bothNow, bothWas};
+ghost use Rattle.two_readings.specs.Left.{leftRowOf, leftRow, leftRunRow, cellOf, characterBoth, Characters, ownRow, WholePut, StrandReady, strandIn};
+ghost use Rattle.two_readings.specs.Seen.{leftsNow, leftsWas, wholeNow, wholeWas};
 
 // Where left rows begin: behind the rows, where there are left characters; else 0, and there are none.
 pub fn left_begins(bases: usize, lefts: usize) -> u32
@@ -180,7 +181,7 @@ fn either(a: bool, b: bool) -> bool
 }
 
 // "a J with a mono left reading is set as one such M for each character": a line may end behind each, as its element goes on, and behind the last by the flag.
-fn put_characters(
+pub fn put_characters(
     t: &mut [u32],
     p: door::Piece,
     ends: bool,
@@ -216,7 +217,8 @@ fn put_characters(
     }
 }
 
-fn is_apart(p: door::Piece) -> bool
+// Each of its characters is set as an M of its own.
+pub fn is_apart(p: door::Piece) -> bool
     ensures { λ t. ⌜ t ≡ apart (p .form) (p .gloss) ⌝ }
 {
     let form = p.form;
@@ -234,29 +236,22 @@ fn is_apart(p: door::Piece) -> bool
     }
 }
 
-// The rows of a word with a left reading. A J is cut where its runs stand over their own characters.
-fn put_both(
+// The rows of a word with a left reading that is not taken apart. A J is cut where its runs stand over their own characters, as its record says.
+pub fn put_whole(
     t: &mut [u32],
     p: door::Piece,
     w: word::Word,
-    ratios: [[u32; 3]; 2],
+    ends: bool,
     em: u32,
-    width: &[u32],
-    flag: &[u32],
     rclass: &[u32],
     rwidth: &[u32],
     runs: &[u32],
     lwidth: &[u32],
     lruns: &[u32],
 )
-    requires { let job = bothOnly (ratiosOf ratios) em [] (now width) [] [] (now flag) (now rclass) (now rwidth) (now runs) [] (now lwidth) (now lruns) in ⌜ BothPut job p w (now t) ⌝ }
-    ensures { λ _. let job = bothOnly (ratiosOf ratios) em [] (was width) [] [] (was flag) (was rclass) (was rwidth) (was runs) [] (was lwidth) (was lruns) in ⌜ Written (laidRow job p w) (p .base) (p .base + p .bases) (was t) (now (t .exit)) ⌝ }
+    requires { let job = wholeNow em rclass rwidth runs lwidth lruns in ⌜ WholePut job p w (now t) ⌝ }
+    ensures { λ _. let job = wholeWas em rclass rwidth runs lwidth lruns in ⌜ Written (ownRow job p w ends) (p .base) (p .base + p .bases) (was t) (now (t .exit)) ⌝ }
 {
-    let ends = word_rows::ends_behind(p, flag);
-    if is_apart(p) {
-        put_characters(t, p, ends, ratios, em, width, rwidth, runs, lwidth, lruns);
-        return;
-    }
     let right = w.right;
     if right.runs {
         put_cut(t, p, w, ends, em, rclass, rwidth, runs, lwidth, lruns);
@@ -265,73 +260,78 @@ fn put_both(
     }
 }
 
-// An element with a left reading: its rows, or its refusal.
-pub fn lay_left(
-    t: &mut [u32],
-    place: u32,
+// The base of an element with a left reading, as level one asks for it. `one_reading::base_at` is the same for the others: a function with two callers is put into neither, and a word
+// without a left reading would pay for that.
+pub fn base_beside(
     p: door::Piece,
-    ratios: [[u32; 3]; 2],
     em: u32,
     class: &[u32],
     width: &[u32],
     before: &[u32],
     after: &[u32],
-    flag: &[u32],
-    rclass: &[u32],
-    rwidth: &[u32],
-    runs: &[u32],
-    lclass: &[u32],
-    lwidth: &[u32],
-    lruns: &[u32],
-) -> door::Step
-    requires { let job = bothNow ratios em class width before after flag rclass rwidth runs lclass lwidth lruns in ⌜ BothReady job p (now t) ⌝ }
-    ensures { λ s. let job = bothWas ratios em class width before after flag rclass rwidth runs lclass lwidth lruns in ⌜ WrittenBy (answerBoth (p .form) place (given job p) (glossOf job p)) (bothRow job p) p (was t) (now (t .exit)) s ⌝ }
+) -> word::Base
+    requires { let job = basesNow em class width before after in ⌜ BaseReady job p ⌝ }
+    ensures { λ b. let job = basesWas em class width before after in ⌜ b ≡ givenBase (p .form) (given job p) ⌝ }
 {
     let b = p.base;
     let e = b + p.bases;
-    let r = p.ruby;
-    let s = r + p.rubies;
-    let u = p.run;
-    let v = u + door::runs_taken(p);
-    let l = p.left;
-    let m = l + p.lefts;
-    let x = p.leftrun;
-    let y = x + door::left_runs_taken(p);
     let form = p.form;
-    let gloss = p.gloss;
-    let answer = word::measure_left(
-        form,
-        gloss,
-        place,
-        ratios,
-        em,
-        &class[b..e],
-        &width[b..e],
-        &before[b..e],
-        &after[b..e],
-        &rclass[r..s],
-        &rwidth[r..s],
-        &runs[u..v],
-        &lclass[l..m],
-        &lwidth[l..m],
-        &lruns[x..y],
-    );
-    let word::Answer::Set(w) = answer else {
-        return word_rows::refused(place, answer);
-    };
-    put_both(
-        t,
-        p,
-        w,
-        ratios,
-        em,
-        width,
-        flag,
-        rclass,
-        rwidth,
-        runs,
-        lwidth,
-        lruns,
-    );
-    door::Step::Next(p)
+    let blank = word::blank_inside(&before[b..e], &after[b..e]);
+    let sort = word::sort_of(&class[b..e]);
+    let uneven = word::is_uneven(form, em, &width[b..e]);
+    let string = word::str_of(&width[b..e]);
+    word::Base {
+        blank,
+        sort,
+        uneven,
+        string,
+    }
+}
+
+// One side's characters, the first of them and how many, with its runs, the first of these and how many: what level one asks of a reading that may be laid by runs.
+fn strand_at(
+    first: usize,
+    many: usize,
+    run: usize,
+    taken: usize,
+    em: u32,
+    cs: &[u32],
+    ws: &[u32],
+    runs: &[u32],
+) -> word::RunStrand
+    requires { ⌜ StrandReady first many run taken (now cs) (now ws) (now runs) ⌝ }
+    ensures { λ r. ⌜ r ≡ strandIn em first many run taken (was cs) (was ws) (was runs) ⌝ }
+{
+    let e = first + many;
+    let v = run + taken;
+    word::run_strand_of(em, &cs[first..e], &ws[first..e], &runs[run..v])
+}
+
+// A word's ruby, and its left reading.
+pub fn right_at(
+    p: door::Piece,
+    em: u32,
+    rclass: &[u32],
+    rwidth: &[u32],
+    runs: &[u32],
+) -> word::RunStrand
+    requires { ⌜ StrandReady (p .ruby) (p .rubies) (p .run) (takesRuns (p .form) (p .bases)) (now rclass) (now rwidth) (now runs) ⌝ }
+    ensures { λ r. ⌜ r ≡ strandIn em (p .ruby) (p .rubies) (p .run) (takesRuns (p .form) (p .bases)) (was rclass) (was rwidth) (was runs) ⌝ }
+{
+    let taken = door::runs_taken(p);
+    strand_at(p.ruby, p.rubies, p.run, taken, em, rclass, rwidth, runs)
+}
+
+pub fn left_at(
+    p: door::Piece,
+    em: u32,
+    lclass: &[u32],
+    lwidth: &[u32],
+    lruns: &[u32],
+) -> word::RunStrand
+    requires { ⌜ StrandReady (p .left) (p .lefts) (p .leftrun) (takesLeftRuns (p .form) (p .gloss) (p .bases)) (now lclass) (now lwidth) (now lruns) ⌝ }
+    ensures { λ r. ⌜ r ≡ strandIn em (p .left) (p .lefts) (p .leftrun) (takesLeftRuns (p .form) (p .gloss) (p .bases)) (was lclass) (was lwidth) (was lruns) ⌝ }
+{
+    let taken = door::left_runs_taken(p);
+    strand_at(p.left, p.lefts, p.leftrun, taken, em, lclass, lwidth, lruns)
 }

@@ -4,12 +4,12 @@ use mathlib.Core.Bool.{Bool, true, false, cond, _&&_, _||_}
 use mathlib.Core.List.{List}
 use Prim.Native.Nat.{ℕ}
 use Rattle.basics.specs.Lists.{any, other}
+use Rattle.basics.specs.Laws.{or-none}
 use Rattle.refusal.specs.declared.Refusal.the-variants.{BlankInside, JukugoBase, Mixed, WesternOver}
 use Rattle.word.specs.declared.Form.{Form}
 use Rattle.word.specs.declared.Answer.{Answer}
 use Rattle.word.specs.declared.Answer.the-variants.{Set, Refused}
-use Rattle.word.specs.declared.Word.{Word}
-use Rattle.word.specs.declared.Mix.{Mix}
+use Rattle.word.specs.declared.Sort.{Sort}
 use Rattle.word.specs.declared.Row.{Row}
 use Rattle.word.specs.declared.Row.the-variants.{None, Holds}
 use Rattle.word.specs.declared.Form.the-variants as form
@@ -19,19 +19,19 @@ use Rattle.word.specs.Answer.{mixed}
 use Rattle.word.specs.Both.{Gloss}
 use Rattle.word.specs.Sides.{wordOf}
 use Rattle.word.specs.Answered.{answerBoth}
-use Rattle.word.specs.Kinds.{mixOf, mixedBy, notKanaBy, any-not-kana}
+use Rattle.word.specs.Kinds.{sortOf, isMixed, notKana, isWestern, mixed-sort, kana-sort, western-sort}
 
--- by what is found in the strings: blanks, the kinds of base, ruby and left reading, and base characters that are not one em wide
-unfoldable pub rowOf : Form → ℕ → Bool → Mix → Bool → Mix → Mix → Row
+-- by what is found in the strings: blanks, what base, ruby and left reading are made of, and base characters that are not one em wide
+unfoldable pub rowOf : Form → ℕ → Bool → Sort → Bool → Sort → Sort → Row
 rowOf form place blank b wide r l =
     cond blank (Holds (BlankInside place))
-    (cond (isJ form && (notKanaBy b || wide)) (Holds (JukugoBase place))
-    (cond ((isG form || isJ form) && ((mixedBy b || mixedBy r) || mixedBy l)) (Holds (Mixed place))
-    (cond (isG form && ((r .western && b .western) || (l .western && b .western))) (Holds (WesternOver place))
+    (cond (isJ form && (notKana b || wide)) (Holds (JukugoBase place))
+    (cond ((isG form || isJ form) && ((isMixed b || isMixed r) || isMixed l)) (Holds (Mixed place))
+    (cond (isG form && ((isWestern r && isWestern b) || (isWestern l && isWestern b))) (Holds (WesternOver place))
     None)))
 
 abbrev pub rowBy : Form → ℕ → ℕ → List ℕ → List ℕ → List ℕ → List ℕ → List ℕ → List ℕ → Row
-rowBy form place em bc bs before after rc lc = rowOf form place (any (other 0) before || any (other 0) after) (mixOf bc) (any (other em) bs) (mixOf rc) (mixOf lc)
+rowBy form place em bc bs before after rc lc = rowOf form place (any (other 0) before || any (other 0) after) (sortOf bc) (any (other em) bs) (sortOf rc) (sortOf lc)
 
 -- Level one's answer is the row that holds, or the word.
 
@@ -47,6 +47,18 @@ westerns form.M r l b = refl
 westerns form.G r l b = refl
 westerns form.J r l b = refl
 
+-- what 9 lets pass is no mixture, and Western or not throughout
+unmixed : (form : Form) (bc rc lc : List ℕ) → ((isG form || isJ form) && ((isMixed (sortOf bc) || isMixed (sortOf rc)) || isMixed (sortOf lc))) ≡ false →
+    (isG form && ((any western rc && any western bc) || (any western lc && any western bc)))
+    ≡ (isG form && ((isWestern (sortOf rc) && isWestern (sortOf bc)) || (isWestern (sortOf lc) && isWestern (sortOf bc))))
+unmixed form.P bc rc lc e = refl
+unmixed form.M bc rc lc e = refl
+unmixed form.J bc rc lc e = refl
+unmixed form.G bc rc lc e =
+    let p = or-none (isMixed (sortOf bc) || isMixed (sortOf rc)) (isMixed (sortOf lc)) e in
+    let q = or-none (isMixed (sortOf bc)) (isMixed (sortOf rc)) (p .0) in
+    rw (western-sort bc (q .0), western-sort rc (q .1), western-sort lc (p .1))
+
 module _ (form : Form) (place : ℕ) (w : Given) (g : Gloss) (ruby : hasRuby form ≡ true) where
   abbrev row : Row
   row = rowBy form place (w .em) (w .class) (w .width) (w .before) (w .after) (w .rubyClass) (g .class)
@@ -56,18 +68,28 @@ module _ (form : Form) (place : ℕ) (w : Given) (g : Gloss) (ruby : hasRuby for
   answered (Holds r) = Refused r
 
   pub by-row : answerBoth form place w g ≡ answered row
-  unfolding answerBoth rowOf mixOf
+  unfolding answerBoth rowOf
   by-row =
-      rw (ruby, any-not-kana (w .class), kinds form (mixed (w .class)) (mixed (w .rubyClass)) (mixed (g .class)), westerns form (any western (w .rubyClass)) (any western (g .class)) (any western (w .class)))
-      (go (any (other 0) (w .before) || any (other 0) (w .after)) (isJ form && (notKanaBy (mixOf (w .class)) || any (other (w .em)) (w .width)))
-      ((isG form || isJ form) && ((mixed (w .class) || mixed (w .rubyClass)) || mixed (g .class)))
-      (isG form && ((any western (w .rubyClass) && any western (w .class)) || (any western (g .class) && any western (w .class)))))
+      rw (
+        ruby,
+        kana-sort (w .class),
+        kinds form (mixed (w .class)) (mixed (w .rubyClass)) (mixed (g .class)),
+        westerns form (any western (w .rubyClass)) (any western (g .class)) (any western (w .class)),
+        mixed-sort (w .class),
+        mixed-sort (w .rubyClass),
+        mixed-sort (g .class),
+      )
+      (go (any (other 0) (w .before) || any (other 0) (w .after)) (isJ form && (notKana (sortOf (w .class)) || any (other (w .em)) (w .width)))
+      ((isG form || isJ form) && ((isMixed (sortOf (w .class)) || isMixed (sortOf (w .rubyClass))) || isMixed (sortOf (g .class))))
+      (isG form && ((any western (w .rubyClass) && any western (w .class)) || (any western (g .class) && any western (w .class))))
+      (isG form && ((isWestern (sortOf (w .rubyClass)) && isWestern (sortOf (w .class))) || (isWestern (sortOf (g .class)) && isWestern (sortOf (w .class)))))
+      (unmixed form (w .class) (w .rubyClass) (g .class)))
     where
-      go : (a b c d : Bool) →
+      go : (a b c d e : Bool) → (c ≡ false → d ≡ e) →
           cond a (Refused (BlankInside place)) (cond b (Refused (JukugoBase place)) (cond c (Refused (Mixed place)) (cond d (Refused (WesternOver place)) (Set (wordOf form w g)))))
-          ≡ answered (cond a (Holds (BlankInside place)) (cond b (Holds (JukugoBase place)) (cond c (Holds (Mixed place)) (cond d (Holds (WesternOver place)) None))))
-      go true b c d = refl
-      go false true c d = refl
-      go false false true d = refl
-      go false false false true = refl
-      go false false false false = refl
+          ≡ answered (cond a (Holds (BlankInside place)) (cond b (Holds (JukugoBase place)) (cond c (Holds (Mixed place)) (cond e (Holds (WesternOver place)) None))))
+      go true b c d e h = refl
+      go false true c d e h = refl
+      go false false true d e h = refl
+      go false false false d true h = rw (h refl)
+      go false false false d false h = rw (h refl)

@@ -1,13 +1,12 @@
 -- A word with a reading on either side by its numbers. Every string of a word is set over the length of the longest, the base by its own way and ratio and each reading by the
 -- ruby's, so one rule serves both sides; the longest has no space to share and stands solid at 0. `SidesJoined` shows that these are the places of `Both`.
-use mathlib.Core.Path.{_≡_, refl}
-use mathlib.Core.Bool.{Bool, true, false, cond, _||_}
+use mathlib.Core.Bool.{cond, _||_}
 use native.Mathlib.Omega.{arith}
 use mathlib.Core.List.{List, map}
 use Prim.Native.Nat.{ℕ, _+_, _-_, _*_, _≤_, _<_}
 use lib.Dec.{leb}
-use lib.ListN.{length, getD}
-use Rattle.basics.specs.Lists.{sum, lastOr}
+use lib.ListN.{length}
+use Rattle.basics.specs.Lists.{sum}
 use Rattle.basics.specs.Laws.{sum-some}
 use Rattle.spread.specs.declared.Way.{Way}
 use Rattle.spread.specs.declared.Way.the-variants.{Solid}
@@ -16,18 +15,16 @@ use Rattle.spread.specs.Ratio.{Ratios}
 use Rattle.word.specs.declared.Script.{Script}
 use Rattle.word.specs.declared.Script.the-variants.{Kana}
 use Rattle.word.specs.declared.Left.{Left}
-use Rattle.word.specs.declared.Fits.{Fits}
-use Rattle.word.specs.declared.Fits.the-variants.{Over, Longer}
 use Rattle.word.specs.declared.Reading.{Reading}
 use Rattle.word.specs.declared.Word.{Word}
 use Rattle.word.specs.declared.Str.{Str}
 use Rattle.class.specs.Class.{western}
 use Rattle.word.specs.declared.Form.{Form}
 use Rattle.word.specs.declared.Form.the-variants as form
-use Rattle.word.specs.Given.{Given, isJ}
+use Rattle.word.specs.Given.{Given}
 use Rattle.word.specs.Sized.{Small}
 use Rattle.word.specs.Alone.{script, rubyWay, baseWay, split, anyLonger}
-use Rattle.word.specs.Word.{none, string, byRuns, plain, runStarts}
+use Rattle.word.specs.Word.{string, byRuns, plain, runStarts}
 use Rattle.word.specs.Word as one
 use Rattle.word.specs.Both.{Gloss, hasLeft, isGroup, longest}
 
@@ -53,22 +50,6 @@ pub record GlossSized (ls : List ℕ) : Type 0 where
   pub some : 0 < length ls
   pub few : length ls ≤ 64
   pub narrow : sum ls ≤ 262144
-
--- a J with a left reading; its left runs are read but for a left G
-pub record JukugoSized (left : Left) (em : ℕ) (bs runs rs lruns ls : List ℕ) : Type 0 where
-  pub small : Small bs rs
-  pub gloss : GlossSized ls
-  pub ems : em ≤ sum bs
-  pub whole : sum runs ≤ length rs
-  pub wholeLeft : isGroup left ≡ false → sum lruns ≤ length ls
-
--- a word of its form with a left reading: a J's runs are read, its left runs but for a left G
-pub record TwoSized (form : Form) (left : Left) (em : ℕ) (bs runs rs lruns ls : List ℕ) : Type 0 where
-  pub small : Small bs rs
-  pub gloss : GlossSized ls
-  pub ems : isJ form ≡ true → em ≤ sum bs
-  pub whole : isJ form ≡ true → sum runs ≤ length rs
-  pub wholeLeft : isJ form ≡ true → isGroup left ≡ false → sum lruns ≤ length ls
 
 -- a reading over the length T of its word's longest string
 unfoldable pub readingOver : Way → Ratios → ℕ → ℕ → Str → Reading
@@ -97,10 +78,6 @@ jukugosWord r l h em bs runs rs lruns ls =
     cond (anyLonger em (split runs rs) || anyLonger em (split lruns ls))
     (groupsWord r l Kana h em (strOf bs) (strOf rs) (strOf ls))
     (record { front = 0; len = 2 * sum bs; inbase = 0; right = byRuns em (sum bs) (map sum (split runs rs)); left = byRuns em (sum bs) (map sum (split lruns ls)) })
-
--- the runs of one side over their own characters, where none is longer than one em
-unfoldable pub fitsOf : ℕ → ℕ → List ℕ → List ℕ → Fits
-fitsOf em B runs ws = cond (anyLonger em (split runs ws)) Longer (Over (byRuns em B (map sum (split runs ws))))
 
 -- a J by the kind of its left reading
 unfoldable pub jukugosBy : Left → Script → Script → Ratios → ℕ → List ℕ → List ℕ → List ℕ → List ℕ → List ℕ → Word
@@ -135,23 +112,6 @@ blockStarts w x bs = starts (w .inbase) (x + w .front) bs
 unfoldable pub readingStarts : Reading → ℕ → ℕ → List ℕ → List ℕ → List ℕ
 unfolding starts runStarts
 readingStarts v em x runs ws = cond (v .runs) (runStarts em x (split runs ws)) (starts (v .within) (x + v .from) ws)
-
--- what an answer on the runs of one side says
-pub fits-over : (em B : ℕ) (runs ws : List ℕ) {u : Reading} → fitsOf em B runs ws ≡ Over u → (anyLonger em (split runs ws) ≡ false) × (u ≡ byRuns em B (map sum (split runs ws)))
-unfolding fitsOf
-fits-over em B runs ws {u} e = go (anyLonger em (split runs ws)) (byRuns em B (map sum (split runs ws))) e
-  where
-    go : (t : Bool) (x : Reading) → cond t Longer (Over x) ≡ Over u → (t ≡ false) × (u ≡ x)
-    go true x e = absurd (let z : _≡_ {A = ℕ} 0 1 = cc in omega arith)
-    go false x e = (refl, cc)
-
-pub fits-longer : (em B : ℕ) (runs ws : List ℕ) → fitsOf em B runs ws ≡ Longer → anyLonger em (split runs ws) ≡ true
-unfolding fitsOf
-fits-longer em B runs ws e = go (anyLonger em (split runs ws)) (byRuns em B (map sum (split runs ws))) e
-  where
-    go : (t : Bool) (x : Reading) → cond t Longer (Over x) ≡ Longer → t ≡ true
-    go true x e = refl
-    go false x e = absurd (let z : _≡_ {A = ℕ} 0 1 = cc in omega arith)
 
 -- the strings of a word with its left characters
 pub strings : (bs rs ls : List ℕ) → Small bs rs → GlossSized ls → Strings (strOf bs) (strOf rs) (strOf ls)

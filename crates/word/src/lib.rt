@@ -6,25 +6,26 @@ ghost use mathlib.Core.Path.{_≡_};
 ghost use mathlib.Core.Bool.{true, false, not, _&&_, _||_};
 ghost use Prim.Native.Nat.{ℕ, _+_, _-_, _^_, _≤_, _<_};
 ghost use lib.ListN.{length, getD};
-ghost use mathlib.Core.List.{[], map};
+ghost use mathlib.Core.List.{map};
 ghost use Rattle.basics.specs.Seen.{was};
 ghost use Rattle.basics.specs.Lists.{sum, any, other};
 ghost use Rattle.spread.specs.declared.Way.the-variants.{Solid};
 ghost use Rattle.spread.specs.Ratio.{Ratios, ratiosOf, Housed};
 ghost use Rattle.word.specs.Alone.{rubyWay, baseWay, split};
-ghost use Rattle.word.specs.Word.{plain, wordBy, groupWord, jukugoWord};
+ghost use Rattle.word.specs.Word.{plain};
 ghost use Rattle.word.specs.Numbers.{wordFrom, Measured};
-ghost use Rattle.word.specs.Answer.{answer};
-ghost use Rattle.word.specs.Sized.{Small};
+ghost use Rattle.word.specs.Given.{isJ};
+ghost use Rattle.word.specs.Sides.{strOf};
+ghost use Rattle.word.specs.Summed.{baseOf, strandOf, runStrandOf, monoBy, groupFrom, groupBy, jukugoJudged, singleFrom, singleBy};
 ghost use Rattle.class.specs.Class.{kanaLike};
-ghost use Rattle.word.specs.Kinds.{mixOf, mixedBy, scriptBy, notKanaBy, with};
+ghost use Rattle.word.specs.Kinds.{mixOf, mixedBy, with, sortBy, sortOf, isMixed, notKana, isWestern, scriptOf};
 ghost use Rattle.word.specs.declared.Answer.the-variants.{Set};
 ghost use Rattle.word.specs.Runs.{runsOf};
 
 mod sides;
 
+pub use sides::both_answer;
 pub use sides::groups_of;
-pub use sides::measure_left;
 pub use sides::monos_of;
 pub use sides::runs_reading;
 
@@ -77,6 +78,27 @@ pub struct Str {
     pub count: u32,
 }
 
+// What level one asks of a word's base: whether some blank field is not 0 (number 7), what it is made of (8 to 10), of a J whether one is not one em wide (8), and its string.
+pub struct Base {
+    pub blank: bool,
+    pub sort: Sort,
+    pub uneven: bool,
+    pub string: Str,
+}
+
+// What it asks of a reading; `RunStrand`, where it may be laid by runs, also for the length of the first run and whether one is longer than one em.
+pub struct Strand {
+    pub sort: Sort,
+    pub string: Str,
+}
+
+pub struct RunStrand {
+    pub sort: Sort,
+    pub string: Str,
+    pub first: u32,
+    pub runs: Runs,
+}
+
 // An element set within itself, or its refusal with the element's place.
 pub enum Answer {
     Set(Word),
@@ -95,23 +117,25 @@ pub enum Script {
     Western,
 }
 
+// What a string is made of: kana-like characters alone; Western ones, and no kana-like; a mixture, which number 9 refuses; anything else, of which no job has any.
+pub enum Sort {
+    Kana,
+    Western,
+    Mixed,
+    Other,
+}
+
 // The kinds that a string has; `outside` are those that no job may have.
-pub struct Mix {
-    pub kana: bool,
-    pub western: bool,
-    pub space: bool,
-    pub outside: bool,
+struct Mix {
+    kana: bool,
+    western: bool,
+    space: bool,
+    outside: bool,
 }
 
 // The runs of a J: the length in units of the last, where none is longer than one em.
 pub enum Runs {
     Fit(u32),
-    Longer,
-}
-
-// The runs of one side of a J, each over its own character, where none is longer than one em.
-pub enum Fits {
-    Over(Reading),
     Longer,
 }
 
@@ -179,23 +203,8 @@ fn mix_by_kinds(cs: &[u32]) -> Mix
     m
 }
 
-// The kinds of a string's characters. Most strings are kana-like throughout.
-fn mix_of(cs: &[u32]) -> Mix
-    ensures { λ r. ⌜ r ≡ mixOf (was cs) ⌝ }
-{
-    if all_kana(cs) {
-        return Mix {
-            kana: 0 < cs.len(),
-            western: false,
-            space: false,
-            outside: false,
-        };
-    }
-    mix_by_kinds(cs)
-}
-
-// Number 9 of one string.
-fn is_mixed(m: Mix) -> bool
+// Number 9 of one string, by the kinds that it has.
+fn mixes(m: Mix) -> bool
     ensures { λ r. ⌜ r ≡ mixedBy m ⌝ }
 {
     let space = m.space;
@@ -206,27 +215,76 @@ fn is_mixed(m: Mix) -> bool
     if western { m.kana } else { false }
 }
 
-// Some character is not kana-like.
-fn not_kana(m: Mix) -> bool
-    ensures { λ r. ⌜ r ≡ notKanaBy m ⌝ }
+// What a string with these kinds is made of.
+fn sort_by(m: Mix) -> Sort
+    ensures { λ s. ⌜ s ≡ sortBy m ⌝ }
 {
-    let western = m.western;
-    let space = m.space;
-    if western {
-        return true;
+    if mixes(m) {
+        return Sort::Mixed;
     }
-    if space { true } else { m.outside }
+    let western = m.western;
+    if western {
+        return Sort::Western;
+    }
+    let outside = m.outside;
+    if outside {
+        return Sort::Other;
+    }
+    Sort::Kana
 }
 
-fn script_of(m: Mix) -> Script
-    ensures { λ r. ⌜ r ≡ scriptBy m ⌝ }
+// What a string is made of. Most are kana-like throughout.
+pub fn sort_of(cs: &[u32]) -> Sort
+    ensures { λ s. ⌜ s ≡ sortOf (was cs) ⌝ }
 {
-    let western = m.western;
-    if western {
-        Script::Western
-    } else {
-        Script::Kana
+    if all_kana(cs) {
+        return Sort::Kana;
     }
+    sort_by(mix_by_kinds(cs))
+}
+
+// Number 9 of one string.
+fn is_mixed(s: Sort) -> bool
+    ensures { λ r. ⌜ r ≡ isMixed s ⌝ }
+{
+    match s {
+        Sort::Kana => false,
+        Sort::Western => false,
+        Sort::Mixed => true,
+        Sort::Other => false,
+    }
+}
+
+// Some character is not kana-like.
+fn not_kana(s: Sort) -> bool
+    ensures { λ r. ⌜ r ≡ notKana s ⌝ }
+{
+    match s {
+        Sort::Kana => false,
+        Sort::Western => true,
+        Sort::Mixed => true,
+        Sort::Other => true,
+    }
+}
+
+fn is_western(s: Sort) -> bool
+    ensures { λ r. ⌜ r ≡ isWestern s ⌝ }
+{
+    match s {
+        Sort::Kana => false,
+        Sort::Western => true,
+        Sort::Mixed => false,
+        Sort::Other => false,
+    }
+}
+
+fn script_of(s: Sort) -> Script
+    ensures { λ r. ⌜ r ≡ scriptOf s ⌝ }
+{
+    if is_western(s) {
+        return Script::Western;
+    }
+    Script::Kana
 }
 
 // How the ruby of a G is set where it is the shorter.
@@ -356,32 +414,23 @@ fn solid_of(b: u32, r: u32) -> Word
     }
 }
 
-// The word of two strings by their lists.
-fn word_by(
-    ruby: spread::Way,
-    base: spread::Way,
-    ratios: [[u32; 3]; 2],
-    em: u32,
-    bs: &[u32],
-    rs: &[u32],
-) -> Word
-    requires { ⌜ (Small (now bs) (now rs)) × (Housed (ratiosOf ratios)) ⌝ }
-    ensures { λ r. ⌜ r ≡ wordBy ruby base (ratiosOf ratios) em (was bs) (was rs) ⌝ }
+// The word of a G, by what its strings are made of.
+fn group_from(r: Script, b: Script, ratios: [[u32; 3]; 2], em: u32, base: Str, ruby: Str) -> Word
+    requires { ⌜ (Measured (base .width) (base .count) (ruby .width) (ruby .count)) × (Housed (ratiosOf ratios)) ⌝ }
+    ensures { λ w. ⌜ w ≡ groupFrom r b (ratiosOf ratios) em base ruby ⌝ }
 {
-    let b = basics::sum_of(bs);
-    let r = basics::sum_of(rs);
-    let n = bs.len() as u32;
-    let m = rs.len() as u32;
-    word_from(ruby, base, ratios, em, b, n, r, m)
-}
-
-fn group_of(r: Script, b: Script, ratios: [[u32; 3]; 2], em: u32, bs: &[u32], rs: &[u32]) -> Word
-    requires { ⌜ (Small (now bs) (now rs)) × (Housed (ratiosOf ratios)) ⌝ }
-    ensures { λ w. ⌜ w ≡ groupWord r b (ratiosOf ratios) em (was bs) (was rs) ⌝ }
-{
-    let ruby = ruby_way(r, b);
-    let base = base_way(r, b);
-    word_by(ruby, base, ratios, em, bs, rs)
+    let over = ruby_way(r, b);
+    let under = base_way(r, b);
+    word_from(
+        over,
+        under,
+        ratios,
+        em,
+        base.width,
+        base.count,
+        ruby.width,
+        ruby.count,
+    )
 }
 
 // A J's runs against one em.
@@ -416,49 +465,32 @@ fn first_run(runs: &[u32], ws: &[u32]) -> u32
     basics::sum_of(&ws[0..n])
 }
 
-fn jukugo_of(
-    r: Script,
-    ratios: [[u32; 3]; 2],
-    em: u32,
-    bs: &[u32],
-    runs: &[u32],
-    rs: &[u32],
-) -> Word
-    requires { ⌜ (Small (now bs) (now rs)) × (sum (now runs) ≤ length (now rs)) × (em ≤ sum (now bs)) × (Housed (ratiosOf ratios)) ⌝ }
-    ensures { λ w. ⌜ w ≡ jukugoWord r (ratiosOf ratios) em (was bs) (was runs) (was rs) ⌝ }
-{
-    let b = basics::sum_of(bs);
-    match runs_in(em, runs, rs) {
-        Runs::Longer => group_of(r, Script::Kana, ratios, em, bs, rs),
-        Runs::Fit(last) => {
-            let first = first_run(runs, rs);
-            Word {
-                front: 0,
-                len: 2 * b,
-                inbase: 0,
-                right: runs_reading(em, b, first, last),
-                left: NONE,
-            }
-        }
-    }
-}
-
-// Number 7 of an element with ruby.
-fn blank_inside(before: &[u32], after: &[u32]) -> bool
+// Number 7 of an element with ruby: some blank field of its characters is not 0. Both fields are looked at in one pass.
+pub fn blank_inside(before: &[u32], after: &[u32]) -> bool
+    requires { ⌜ length (now before) ≡ length (now after) ⌝ }
     ensures { λ r. ⌜ r ≡ (any (other 0) (was before) || any (other 0) (was after)) ⌝ }
 {
-    if basics::any_but(0, before) {
-        return true;
+    let mut i: usize = 0;
+    while i < before.len() {
+        if before[i] != 0 {
+            return true;
+        }
+        if after[i] != 0 {
+            return true;
+        }
+        i += 1;
     }
-    basics::any_but(0, after)
+    false
 }
 
-// Number 10, by the kinds of ruby and base.
-fn western_over(r: Mix, b: Mix) -> bool
-    ensures { λ t. ⌜ t ≡ (r .western && b .western) ⌝ }
+// Number 10, by what ruby and base are made of.
+fn western_over(r: Sort, b: Sort) -> bool
+    ensures { λ t. ⌜ t ≡ (isWestern r && isWestern b) ⌝ }
 {
-    let over = r.western;
-    if over { b.western } else { false }
+    if is_western(r) {
+        return is_western(b);
+    }
+    false
 }
 
 // A P: its word.
@@ -469,87 +501,161 @@ pub fn plain_answer(b: u32) -> Answer
     Answer::Set(plain_of(b))
 }
 
-// An M: number 7, or its word.
-pub fn mono_answer(
-    place: u32,
-    ratios: [[u32; 3]; 2],
-    em: u32,
-    bs: &[u32],
-    before: &[u32],
-    after: &[u32],
-    rs: &[u32],
-) -> Answer
-    requires { ⌜ (Small (now bs) (now rs)) × (Housed (ratiosOf ratios)) ⌝ }
-    ensures { λ a. ⌜ a ≡ answer Form.M place (record { em = em; ratios = ratiosOf ratios; class = []; width = was bs; before = was before; after = was after; rubyClass = []; rubyWidth = was rs; run = [] }) ⌝ }
+// A string by its list.
+pub fn str_of(ws: &[u32]) -> Str
+    requires { ⌜ (length (now ws) ≤ 64) × (sum (now ws) < 2 ^ 32) ⌝ }
+    ensures { λ s. ⌜ s ≡ strOf (was ws) ⌝ }
 {
-    if blank_inside(before, after) {
+    Str {
+        width: basics::sum_of(ws),
+        count: ws.len() as u32,
+    }
+}
+
+// Whether a base character is not one em wide; only a J is asked.
+pub fn is_uneven(form: Form, em: u32, bs: &[u32]) -> bool
+    ensures { λ r. ⌜ r ≡ (isJ form && any (other em) (was bs)) ⌝ }
+{
+    match form {
+        Form::P => false,
+        Form::M => false,
+        Form::G => false,
+        Form::J => basics::any_but(em, bs),
+    }
+}
+
+// A word's base, as level one asks for it.
+pub fn base_of(form: Form, em: u32, bc: &[u32], bs: &[u32], before: &[u32], after: &[u32]) -> Base
+    requires { ⌜ (length (now bs) ≤ 64) × (sum (now bs) < 2 ^ 32) × (length (now before) ≡ length (now after)) ⌝ }
+    ensures { λ b. ⌜ b ≡ baseOf form em (was bc) (was bs) (was before) (was after) ⌝ }
+{
+    let blank = blank_inside(before, after);
+    let sort = sort_of(bc);
+    let uneven = is_uneven(form, em, bs);
+    let string = str_of(bs);
+    Base {
+        blank,
+        sort,
+        uneven,
+        string,
+    }
+}
+
+// A reading, as level one asks for it; and one that may be laid by runs.
+pub fn strand_of(cs: &[u32], ws: &[u32]) -> Strand
+    requires { ⌜ (length (now ws) ≤ 64) × (sum (now ws) < 2 ^ 32) ⌝ }
+    ensures { λ r. ⌜ r ≡ strandOf (was cs) (was ws) ⌝ }
+{
+    let sort = sort_of(cs);
+    let string = str_of(ws);
+    Strand { sort, string }
+}
+
+pub fn run_strand_of(em: u32, cs: &[u32], ws: &[u32], runs: &[u32]) -> RunStrand
+    requires { ⌜ (length (now ws) ≤ 64) × (sum (now ws) < 2 ^ 32) × (sum (now runs) ≤ length (now ws)) ⌝ }
+    ensures { λ r. ⌜ r ≡ runStrandOf em (was cs) (was ws) (was runs) ⌝ }
+{
+    let sort = sort_of(cs);
+    let string = str_of(ws);
+    let first = first_run(runs, ws);
+    let fit = runs_in(em, runs, ws);
+    RunStrand {
+        sort,
+        string,
+        first,
+        runs: fit,
+    }
+}
+
+// An M of b and r units: number 7, or its word.
+pub fn mono_answer(place: u32, blank: bool, b: u32, r: u32) -> Answer
+    requires { ⌜ (b ≤ 131072) × (r ≤ 262144) ⌝ }
+    ensures { λ a. ⌜ a ≡ monoBy place blank b r ⌝ }
+{
+    if blank {
         return Answer::Refused(refusal::Refusal::BlankInside(place));
     }
-    let b = basics::sum_of(bs);
-    let r = basics::sum_of(rs);
     Answer::Set(solid_of(b, r))
 }
 
 // A G: numbers 7, 9 and 10, or its word.
-pub fn group_answer(
-    place: u32,
-    ratios: [[u32; 3]; 2],
-    em: u32,
-    bc: &[u32],
-    bs: &[u32],
-    before: &[u32],
-    after: &[u32],
-    rc: &[u32],
-    rs: &[u32],
-) -> Answer
-    requires { ⌜ (Small (now bs) (now rs)) × (Housed (ratiosOf ratios)) ⌝ }
-    ensures { λ a. ⌜ a ≡ answer Form.G place (record { em = em; ratios = ratiosOf ratios; class = was bc; width = was bs; before = was before; after = was after; rubyClass = was rc; rubyWidth = was rs; run = [] }) ⌝ }
+pub fn group_answer(place: u32, ratios: [[u32; 3]; 2], em: u32, base: Base, ruby: Strand) -> Answer
+    requires { ⌜ (Measured (base .string .width) (base .string .count) (ruby .string .width) (ruby .string .count)) × (Housed (ratiosOf ratios)) ⌝ }
+    ensures { λ a. ⌜ a ≡ groupBy place (ratiosOf ratios) em base ruby ⌝ }
 {
-    if blank_inside(before, after) {
+    let blank = base.blank;
+    if blank {
         return Answer::Refused(refusal::Refusal::BlankInside(place));
     }
-    let b = mix_of(bc);
+    let b = base.sort;
     if is_mixed(b) {
         return Answer::Refused(refusal::Refusal::Mixed(place));
     }
-    let r = mix_of(rc);
+    let r = ruby.sort;
     if is_mixed(r) {
         return Answer::Refused(refusal::Refusal::Mixed(place));
     }
     if western_over(r, b) {
         return Answer::Refused(refusal::Refusal::WesternOver(place));
     }
-    Answer::Set(group_of(script_of(r), script_of(b), ratios, em, bs, rs))
+    let under = base.string;
+    let over = ruby.string;
+    Answer::Set(group_from(script_of(r), script_of(b), ratios, em, under, over))
 }
 
-// A J: numbers 7, 8 and 9, or its word. Once 8 has passed its base is kana-like throughout, so 9 is about its ruby alone.
-pub fn jukugo_answer(
-    place: u32,
-    ratios: [[u32; 3]; 2],
-    em: u32,
-    bc: &[u32],
-    bs: &[u32],
-    before: &[u32],
-    after: &[u32],
-    rc: &[u32],
-    rs: &[u32],
-    runs: &[u32],
-) -> Answer
-    requires { ⌜ (Small (now bs) (now rs)) × (sum (now runs) ≤ length (now rs)) × (Housed (ratiosOf ratios)) ⌝ }
-    ensures { λ a. ⌜ a ≡ answer Form.J place (record { em = em; ratios = ratiosOf ratios; class = was bc; width = was bs; before = was before; after = was after; rubyClass = was rc; rubyWidth = was rs; run = was runs }) ⌝ }
+// Numbers 7, 8 and 9 of a J. Once 8 has passed its base is kana-like throughout, so 9 is about its ruby alone. A J of two characters or more is asked no more than this: it is measured
+// by its runs, where they are written.
+pub fn judge_jukugo(place: u32, base: Base, ruby: Sort) -> Row
+    ensures { λ r. ⌜ r ≡ jukugoJudged place base ruby ⌝ }
 {
-    if blank_inside(before, after) {
-        return Answer::Refused(refusal::Refusal::BlankInside(place));
+    let blank = base.blank;
+    if blank {
+        return Row::Holds(refusal::Refusal::BlankInside(place));
     }
-    if not_kana(mix_of(bc)) {
-        return Answer::Refused(refusal::Refusal::JukugoBase(place));
+    let b = base.sort;
+    if not_kana(b) {
+        return Row::Holds(refusal::Refusal::JukugoBase(place));
     }
-    if basics::any_but(em, bs) {
-        return Answer::Refused(refusal::Refusal::JukugoBase(place));
+    let uneven = base.uneven;
+    if uneven {
+        return Row::Holds(refusal::Refusal::JukugoBase(place));
     }
-    let r = mix_of(rc);
-    if is_mixed(r) {
-        return Answer::Refused(refusal::Refusal::Mixed(place));
+    if is_mixed(ruby) {
+        return Row::Holds(refusal::Refusal::Mixed(place));
     }
-    Answer::Set(jukugo_of(script_of(r), ratios, em, bs, runs, rs))
+    Row::None
+}
+
+// The word of a J of one character, whose only run is all of its ruby.
+fn single_from(r: Script, ratios: [[u32; 3]; 2], em: u32, base: Str, ruby: Str) -> Word
+    requires { ⌜ (Measured (base .width) (base .count) (ruby .width) (ruby .count)) × (Housed (ratiosOf ratios)) × (em ≤ base .width) ⌝ }
+    ensures { λ w. ⌜ w ≡ singleFrom r (ratiosOf ratios) em base ruby ⌝ }
+{
+    if em < ruby.width {
+        return group_from(r, Script::Kana, ratios, em, base, ruby);
+    }
+    let right = runs_reading(em, base.width, ruby.width, ruby.width);
+    Word {
+        front: 0,
+        len: 2 * base.width,
+        inbase: 0,
+        right,
+        left: NONE,
+    }
+}
+
+// A J of one character: numbers 7, 8 and 9, or its word.
+pub fn single_answer(place: u32, ratios: [[u32; 3]; 2], em: u32, base: Base, ruby: Strand) -> Answer
+    requires { ⌜ (Measured (base .string .width) (base .string .count) (ruby .string .width) (ruby .string .count)) × (Housed (ratiosOf ratios)) × (base .uneven ≡ false → em ≤ base .string .width) ⌝ }
+    ensures { λ a. ⌜ a ≡ singleBy place (ratiosOf ratios) em base ruby ⌝ }
+{
+    let r = ruby.sort;
+    match judge_jukugo(place, base, r) {
+        Row::Holds(why) => Answer::Refused(why),
+        Row::None => {
+            let under = base.string;
+            let over = ruby.string;
+            Answer::Set(single_from(script_of(r), ratios, em, under, over))
+        }
+    }
 }

@@ -1,33 +1,28 @@
 // A word with a reading on either side (R-5). Every string of a word is set over the length of the longest, so one function serves the readings of both sides.
 ghost use mathlib.Core.Path.{_≡_};
 ghost use mathlib.Core.Bool.{true, cond, _&&_, _||_};
-ghost use mathlib.Core.Logic.{_⊎_};
-ghost use Prim.Native.Nat.{_+_, _*_, _^_, _≤_, _<_, max};
+ghost use Prim.Native.Nat.{_+_, _*_, _≤_, _<_};
 ghost use lib.Dec.{leb};
-ghost use lib.ListN.{length};
-ghost use mathlib.Core.List.{[]};
-ghost use Rattle.basics.specs.Seen.{was};
-ghost use Rattle.basics.specs.Lists.{sum, any, other};
-ghost use Rattle.word.specs.Given.{isG, isJ, hasRuby};
-ghost use Rattle.word.specs.Sized.{Small, Sized};
+ghost use Rattle.word.specs.Given.{isG, isJ};
 ghost use Rattle.word.specs.Both.{isGroup};
-ghost use Rattle.word.specs.Kinds.{notKanaBy, mixedBy};
-ghost use Rattle.word.specs.Rows.{rowBy};
-ghost use Rattle.word.specs.Answered.{LeftReady, answerBoth};
+ghost use Rattle.word.specs.Kinds.{notKana, isMixed, isWestern};
+ghost use Rattle.word.specs.Rows.{rowOf};
+ghost use Rattle.word.specs.Summed.{RunsFit, JukugosReady, jukugosFrom, twoFrom, bothBy};
 ghost use Rattle.spread.specs.Ratio.{ratiosOf, Housed};
-ghost use Rattle.word.specs.Alone.{script, baseWay};
+ghost use Rattle.word.specs.Alone.{baseWay};
 ghost use Rattle.word.specs.Both.{longest};
-ghost use Rattle.word.specs.Sides.{Counted, Strings, GlossSized, JukugoSized, TwoSized, strOf, fitsOf, readingOver, sided, monosWord, groupsWord, jukugosBy, twoBy};
+ghost use Rattle.word.specs.Sides.{Counted, Strings, readingOver, sided, monosWord, groupsWord};
 ghost use Rattle.word.specs.Word.{between};
 use super::Answer;
-use super::Fits;
+use super::Base;
 use super::Form;
 use super::Left;
-use super::Mix;
 use super::Reading;
 use super::Row;
+use super::RunStrand;
 use super::Runs;
 use super::Script;
+use super::Sort;
 use super::Str;
 use super::Word;
 use refusal::Refusal;
@@ -143,17 +138,6 @@ pub fn runs_reading(em: u32, base: u32, first: u32, last: u32) -> Reading
     }
 }
 
-// A string by its list.
-fn str_of(ws: &[u32]) -> Str
-    requires { ⌜ (length (now ws) ≤ 64) × (sum (now ws) < 2 ^ 32) ⌝ }
-    ensures { λ s. ⌜ s ≡ strOf (was ws) ⌝ }
-{
-    Str {
-        width: basics::sum_of(ws),
-        count: ws.len() as u32,
-    }
-}
-
 fn is_group(left: Left) -> bool
     ensures { λ r. ⌜ r ≡ isGroup left ⌝ }
 {
@@ -165,77 +149,49 @@ fn is_group(left: Left) -> bool
     }
 }
 
-// The runs of one side of a J over their own characters, the base `base` units wide, where none is longer than one em.
-fn over_runs(em: u32, base: u32, runs: &[u32], ws: &[u32]) -> Fits
-    requires { ⌜ (sum (now runs) ≤ length (now ws)) × (sum (now ws) < 2 ^ 32) × (em ≤ base) × (base ≤ 131072) ⌝ }
-    ensures { λ f. ⌜ f ≡ fitsOf em base (was runs) (was ws) ⌝ }
-{
-    match super::runs_in(em, runs, ws) {
-        Runs::Longer => Fits::Longer,
-        Runs::Fit(last) => {
-            let first = super::first_run(runs, ws);
-            Fits::Over(runs_reading(em, base, first, last))
-        }
-    }
-}
-
 // A J with a left reading: over their own characters on both sides, or taken as group on both.
-fn jukugos_of(
+fn jukugos_from(
     left: Left,
-    r: Script,
-    l: Script,
     ratios: [[u32; 3]; 2],
     em: u32,
-    bs: &[u32],
-    runs: &[u32],
-    rs: &[u32],
-    lruns: &[u32],
-    ls: &[u32],
+    base: Str,
+    r: RunStrand,
+    l: RunStrand,
 ) -> Word
-    requires { ⌜ (JukugoSized left em (now bs) (now runs) (now rs) (now lruns) (now ls)) × (Housed (ratiosOf ratios)) ⌝ }
-    ensures { λ w. ⌜ w ≡ jukugosBy left r l (ratiosOf ratios) em (was bs) (was runs) (was rs) (was lruns) (was ls) ⌝ }
+    requires { ⌜ (Strings base (r .string) (l .string)) × (Housed (ratiosOf ratios)) × (em ≤ base .width) × (RunsFit em r) × (RunsFit em l) ⌝ }
+    ensures { λ w. ⌜ w ≡ jukugosFrom left (ratiosOf ratios) em base r l ⌝ }
 {
-    let b = str_of(bs);
-    let right = str_of(rs);
-    let under = str_of(ls);
-    let group = groups_of(r, l, Script::Kana, ratios, em, b, right, under);
+    let over = r.string;
+    let under = l.string;
+    let over_sort = r.sort;
+    let under_sort = l.sort;
+    let right = super::script_of(over_sort);
+    let below = super::script_of(under_sort);
+    let group = groups_of(right, below, Script::Kana, ratios, em, base, over, under);
     if is_group(left) {
         return group;
     }
-    let Fits::Over(over) = over_runs(em, b.width, runs, rs) else {
+    let fit = r.runs;
+    let Runs::Fit(last) = fit else {
         return group;
     };
-    let Fits::Over(below) = over_runs(em, b.width, lruns, ls) else {
+    let fits = l.runs;
+    let Runs::Fit(lowest) = fits else {
         return group;
     };
+    let rights = runs_reading(em, base.width, r.first, last);
+    let lefts = runs_reading(em, base.width, l.first, lowest);
     Word {
         front: 0,
-        len: 2 * b.width,
+        len: 2 * base.width,
         inbase: 0,
-        right: over,
-        left: below,
+        right: rights,
+        left: lefts,
     }
 }
 
-// Number 8, by the kinds of the base.
-fn base_wrong(form: Form, em: u32, b: Mix, bs: &[u32]) -> bool
-    ensures { λ r. ⌜ r ≡ (isJ form && (notKanaBy b || any (other em) (was bs))) ⌝ }
-{
-    match form {
-        Form::P => false,
-        Form::M => false,
-        Form::G => false,
-        Form::J => {
-            if super::not_kana(b) {
-                return true;
-            }
-            basics::any_but(em, bs)
-        }
-    }
-}
-
-fn any_mixed(b: Mix, r: Mix, l: Mix) -> bool
-    ensures { λ t. ⌜ t ≡ ((mixedBy b || mixedBy r) || mixedBy l) ⌝ }
+fn any_mixed(b: Sort, r: Sort, l: Sort) -> bool
+    ensures { λ t. ⌜ t ≡ ((isMixed b || isMixed r) || isMixed l) ⌝ }
 {
     if super::is_mixed(b) {
         return true;
@@ -246,9 +202,26 @@ fn any_mixed(b: Mix, r: Mix, l: Mix) -> bool
     super::is_mixed(l)
 }
 
+// Number 8, by what the base is made of.
+fn base_wrong(form: Form, b: Sort, uneven: bool) -> bool
+    ensures { λ r. ⌜ r ≡ (isJ form && (notKana b || uneven)) ⌝ }
+{
+    match form {
+        Form::P => false,
+        Form::M => false,
+        Form::G => false,
+        Form::J => {
+            if super::not_kana(b) {
+                return true;
+            }
+            uneven
+        }
+    }
+}
+
 // Number 9 of base and either reading, right first.
-fn strings_mixed(form: Form, b: Mix, r: Mix, l: Mix) -> bool
-    ensures { λ t. ⌜ t ≡ ((isG form || isJ form) && ((mixedBy b || mixedBy r) || mixedBy l)) ⌝ }
+fn strings_mixed(form: Form, b: Sort, r: Sort, l: Sort) -> bool
+    ensures { λ t. ⌜ t ≡ ((isG form || isJ form) && ((isMixed b || isMixed r) || isMixed l)) ⌝ }
 {
     match form {
         Form::P => false,
@@ -259,8 +232,8 @@ fn strings_mixed(form: Form, b: Mix, r: Mix, l: Mix) -> bool
 }
 
 // Number 10 of either reading.
-fn western_reading(form: Form, b: Mix, r: Mix, l: Mix) -> bool
-    ensures { λ t. ⌜ t ≡ (isG form && ((r .western && b .western) || (l .western && b .western))) ⌝ }
+fn western_reading(form: Form, b: Sort, r: Sort, l: Sort) -> bool
+    ensures { λ t. ⌜ t ≡ (isG form && ((isWestern r && isWestern b) || (isWestern l && isWestern b))) ⌝ }
 {
     match form {
         Form::P => false,
@@ -276,29 +249,17 @@ fn western_reading(form: Form, b: Mix, r: Mix, l: Mix) -> bool
 }
 
 // The first of numbers 7 to 10 that holds of a word with readings on both sides.
-fn row_of(
-    form: Form,
-    place: u32,
-    em: u32,
-    bc: &[u32],
-    bs: &[u32],
-    before: &[u32],
-    after: &[u32],
-    rc: &[u32],
-    lc: &[u32],
-) -> Row
-    requires { ⌜ hasRuby form ≡ true ⌝ }
-    ensures { λ r. ⌜ r ≡ rowBy form place em (was bc) (was bs) (was before) (was after) (was rc) (was lc) ⌝ }
+fn row_of(form: Form, place: u32, base: Base, r: Sort, l: Sort) -> Row
+    ensures { λ q. ⌜ q ≡ rowOf form place (base .blank) (base .sort) (base .uneven) r l ⌝ }
 {
-    if super::blank_inside(before, after) {
+    let blank = base.blank;
+    if blank {
         return Row::Holds(Refusal::BlankInside(place));
     }
-    let b = super::mix_of(bc);
-    if base_wrong(form, em, b, bs) {
+    let b = base.sort;
+    if base_wrong(form, b, base.uneven) {
         return Row::Holds(Refusal::JukugoBase(place));
     }
-    let r = super::mix_of(rc);
-    let l = super::mix_of(lc);
     if strings_mixed(form, b, r, l) {
         return Row::Holds(Refusal::Mixed(place));
     }
@@ -308,66 +269,56 @@ fn row_of(
     Row::None
 }
 
-// The word of its form with its left reading, by what its strings are made of.
-fn two_of(
+// The word of its form with its left reading.
+fn two_from(
     form: Form,
     left: Left,
-    r: Script,
-    l: Script,
-    b: Script,
     ratios: [[u32; 3]; 2],
     em: u32,
-    bs: &[u32],
-    runs: &[u32],
-    rs: &[u32],
-    lruns: &[u32],
-    ls: &[u32],
+    base: Base,
+    r: RunStrand,
+    l: RunStrand,
 ) -> Word
-    requires { ⌜ (TwoSized form left em (now bs) (now runs) (now rs) (now lruns) (now ls)) × (Housed (ratiosOf ratios)) ⌝ }
-    ensures { λ w. ⌜ w ≡ twoBy form left r l b (ratiosOf ratios) em (was bs) (was runs) (was rs) (was lruns) (was ls) ⌝ }
+    requires { ⌜ (Strings (base .string) (r .string) (l .string)) × (Housed (ratiosOf ratios)) × (isJ form ≡ true → (em ≤ base .string .width) × (RunsFit em r) × (RunsFit em l)) ⌝ }
+    ensures { λ w. ⌜ w ≡ twoFrom form left (ratiosOf ratios) em base r l ⌝ }
 {
+    let b = base.string;
+    let over = r.string;
+    let under = l.string;
     match form {
-        Form::P => super::plain_of(basics::sum_of(bs)),
-        Form::M => monos_of(ratios, em, str_of(bs), str_of(rs), str_of(ls)),
-        Form::G => groups_of(r, l, b, ratios, em, str_of(bs), str_of(rs), str_of(ls)),
-        Form::J => jukugos_of(left, r, l, ratios, em, bs, runs, rs, lruns, ls),
+        Form::P => super::plain_of(b.width),
+        Form::M => monos_of(ratios, em, b, over, under),
+        Form::G => {
+            let over_sort = r.sort;
+            let under_sort = l.sort;
+            let base_sort = base.sort;
+            let right = super::script_of(over_sort);
+            let below = super::script_of(under_sort);
+            let beside = super::script_of(base_sort);
+            groups_of(right, below, beside, ratios, em, b, over, under)
+        }
+        Form::J => jukugos_from(left, ratios, em, b, r, l),
     }
 }
 
-fn script_in(cs: &[u32]) -> Script
-    ensures { λ s. ⌜ s ≡ script (was cs) ⌝ }
-{
-    super::script_of(super::mix_of(cs))
-}
-
 // A word with a left reading set within itself, or the first refusal that holds of it. "9 and 10 likewise" hold for left characters.
-pub fn measure_left(
+pub fn both_answer(
     form: Form,
     left: Left,
     place: u32,
     ratios: [[u32; 3]; 2],
     em: u32,
-    bc: &[u32],
-    bs: &[u32],
-    before: &[u32],
-    after: &[u32],
-    rc: &[u32],
-    rs: &[u32],
-    runs: &[u32],
-    lc: &[u32],
-    ls: &[u32],
-    lruns: &[u32],
+    base: Base,
+    r: RunStrand,
+    l: RunStrand,
 ) -> Answer
-    requires { ⌜ (LeftReady form left (now bs) (now rs) (now runs) (now ls) (now lruns)) × (Housed (ratiosOf ratios)) ⌝ }
-    ensures { λ a. ⌜ a ≡ answerBoth form place (record { em = em; ratios = ratiosOf ratios; class = was bc; width = was bs; before = was before; after = was after; rubyClass = was rc; rubyWidth = was rs; run = was runs }) (record { kind = left; class = was lc; width = was ls; run = was lruns }) ⌝ }
+    requires { ⌜ (Strings (base .string) (r .string) (l .string)) × (Housed (ratiosOf ratios)) × (isJ form ≡ true → JukugosReady em base r l) ⌝ }
+    ensures { λ a. ⌜ a ≡ bothBy form left place (ratiosOf ratios) em base r l ⌝ }
 {
-    match row_of(form, place, em, bc, bs, before, after, rc, lc) {
+    let over_sort = r.sort;
+    let under_sort = l.sort;
+    match row_of(form, place, base, over_sort, under_sort) {
         Row::Holds(why) => Answer::Refused(why),
-        Row::None => {
-            let r = script_in(rc);
-            let l = script_in(lc);
-            let b = script_in(bc);
-            Answer::Set(two_of(form, left, r, l, b, ratios, em, bs, runs, rs, lruns, ls))
-        }
+        Row::None => Answer::Set(two_from(form, left, ratios, em, base, r, l)),
     }
 }

@@ -1,4 +1,5 @@
 pub mod Table
 pub mod Runs
 pub mod Word
+pub mod Base
 pub mod Seen

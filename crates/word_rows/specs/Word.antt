@@ -13,6 +13,8 @@ use Rattle.spread.specs.Ratio.{Housed}
 use Rattle.word.specs.declared.Word.{Word}
 use Rattle.word.specs.declared.Answer.{Answer}
 use Rattle.word.specs.declared.Answer.the-variants as answered
+use Rattle.word.specs.declared.Row.{Row}
+use Rattle.word.specs.declared.Row.the-variants as judged
 use Rattle.word.specs.Sized.{Small}
 use Rattle.cells.specs.declared.Cell.{Cell}
 use Rattle.cells.specs.Cells.{size}
@@ -56,6 +58,10 @@ jukugo-row job x w ends i c = rw c
 abbrev pub stopBy : ℕ → Answer → Step
 stopBy place (answered.Refused why) = Stop why
 stopBy place (answered.Set w) = Stop (Element place)
+
+abbrev pub stopAt : ℕ → Row → Step
+stopAt place (judged.Holds why) = Stop why
+stopAt place judged.None = Stop (Element place)
 
 -- the flag of its last base character is 1
 abbrev pub flagged : Job → Piece → Bool

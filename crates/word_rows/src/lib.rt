@@ -11,11 +11,12 @@ ghost use Rattle.door.specs.Job.{entries};
 ghost use Rattle.cells.specs.Cells.{size};
 ghost use Rattle.word_rows.specs.Table.{Filled};
 ghost use Rattle.word_rows.specs.Runs.{HasRuns, ownWord, jukugoRow, runRow, pastRun};
-ghost use Rattle.word_rows.specs.Word.{wordRow, stopBy};
+ghost use Rattle.word_rows.specs.Word.{wordRow, stopBy, stopAt};
 ghost use Rattle.word_rows.specs.Seen.{runsNow, runsWas};
 use refusal::Refusal;
 
-const NONE: word::Word = word::Word {
+// The word of a row of a J that is measured by its runs.
+pub const NONE: word::Word = word::Word {
     front: 0,
     len: 0,
     inbase: 0,
@@ -178,6 +179,16 @@ pub fn refused(place: u32, answer: word::Answer) -> door::Step
         return door::Step::Stop(Refusal::Element(place)); // unreachable: a word is no refusal
     };
     door::Step::Stop(told)
+}
+
+// Level one's refusal of a J that it was asked to judge alone, handed up as it is.
+pub fn held(place: u32, row: word::Row) -> door::Step
+    ensures { λ s. ⌜ s ≡ stopAt place row ⌝ }
+{
+    let word::Row::Holds(why) = row else {
+        return door::Step::Stop(Refusal::Element(place)); // unreachable: no row holds of a J that passes
+    };
+    door::Step::Stop(why)
 }
 
 // Whether a line may end behind an element.

@@ -4,7 +4,7 @@ use mathlib.Core.Bool.{true, false}
 use borrow.Author.Needs.{needs}
 use Rattle.word.specs.declared.Word.{Word}
 use Rattle.cells.specs.Cells.{cellAt, hasRuby, leftsAt, stepOf}
-use Rattle.cells.specs.Sound.{in-row, flat-fits, flat-step, row-fits, row-step, plain-fits, plain-word}
+use Rattle.cells.specs.Sound.{in-row, row-fits, row-step, plain-fits, plain-word}
 use Rattle.cells.proofs.advance.Statement.{statement}
 use Rattle.cells.proofs.advance.Tie as tie
 
@@ -38,22 +38,11 @@ returns c =
     let x = a .args in
     c .right-at .ensures ∙ row-step (x .em) (x .t .now) (x .st) (x .i) (x .c) (a .pre) (ruby h) (row (c .before) .0)
 
-word-upto-requires : tie.Need-word-upto-requires
-word-upto-requires c κs = let a = c .before .before .before .before .before in (a .pre .held, a .pre .cuts)
-
-step-of-requires : tie.Need-step-of-requires
-step-of-requires c κs =
-    let h = c .before .before .before in
-    let a = h .before .before .before in
-    let x = a .args in
-    rw (c .word-upto .ensures) (flat-fits (x .em) (x .t .now) (x .st) (x .i) (x .c) (a .pre) (ruby h))
+found-at-requires : tie.Need-found-at-requires
+found-at-requires c κs = let h = c .before .before in (ruby h, h .before .before .before .pre)
 
 returns-2 : tie.Need-returns-2
-returns-2 c =
-    let h = c .before .before .before .before in
-    let a = h .before .before .before in
-    let x = a .args in
-    c .step-of .ensures ∙ rw (c .before .word-upto .ensures) (flat-step (x .em) (x .t .now) (x .st) (x .i) (x .c) (a .pre) (ruby h))
+returns-2 c = c .found-at .ensures
 
 plain-at-requires : tie.Need-plain-at-requires
 plain-at-requires c κs =
@@ -77,8 +66,7 @@ advance-spec =
     in-row-requires
     right-at-requires
     returns
-    word-upto-requires
-    step-of-requires
+    found-at-requires
     returns-2
     plain-at-requires
     returns-3)

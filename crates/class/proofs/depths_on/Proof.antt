@@ -1,10 +1,8 @@
--- Where no ruby may lie both depths are 0. Elsewhere the entry's fields are the rule's, at most two quarters, and the depths that they give are the documents'.
+-- Where no ruby may lie both depths are 0, and so they are on the opening space. Elsewhere the table's answers are the documents', and the depths that they give too.
 use mathlib.Core.Path.{_∙_, sym}
 use borrow.Author.Needs.{needs}
 use borrow.Author.Tests.{not-true}
-use Rattle.class.specs.Class.{rowOf}
-use Rattle.class.specs.Laws.{quarters-most, none-on, some-on, no-depth}
-use Rattle.class.specs.Digits.{shallow}
+use Rattle.class.specs.Laws.{on-none, on-space, on-sides}
 use Rattle.class.proofs.depths_on.Statement.{statement}
 use Rattle.class.proofs.depths_on.Tie as tie
 
@@ -12,33 +10,68 @@ is-deep-requires : tie.Need-is-deep-requires
 is-deep-requires c κs = search needs
 
 returns : tie.Need-returns
-returns c = no-depth _ _ _ _ _ _ (shallow _ (sym (c .before .is-deep .ensures) ∙ not-true _ (c .if1 .taken)))
+returns c = on-none _ _ _ _ _ _ (sym (c .before .is-deep .ensures) ∙ not-true _ (c .if1 .taken))
 
-row-of-requires : tie.Need-row-of-requires
-row-of-requires c κs = search needs
-
-is-opening-requires : tie.Need-is-opening-requires
-is-opening-requires c κs = search needs
+is-blank-requires : tie.Need-is-blank-requires
+is-blank-requires c κs = search needs
 
 returns-2 : tie.Need-returns-2
 returns-2 c =
-    let row = c .before .before in
-    none-on _ _ _ _ _ _ (rw (← row .row-of .ensures) (sym (c .before .is-opening .ensures) ∙ c .if2 .taken))
+    let space = c .before in
+    rw (c .if3 .taken) (on-space _ _ _ _ _ _ (sym (space .before .is-blank .ensures) ∙ space .if2 .taken))
 
-depth-by-requires : tie.Need-depth-by-requires
-unfolding rowOf
-depth-by-requires c κs = rw (c .before .before .row-of .ensures) (quarters-most (c .before .before .before .before .before .args .class))
+deepest-on-requires : tie.Need-deepest-on-requires
+deepest-on-requires c κs = search needs
 
-depth-by-requires-2 : tie.Need-depth-by-requires-2
-unfolding rowOf
-depth-by-requires-2 c κs = rw (c .before .before .before .row-of .ensures) (quarters-most (c .before .before .before .before .before .before .args .class))
+depth-on-requires : tie.Need-depth-on-requires
+depth-on-requires c κs = search needs
 
 returns-3 : tie.Need-returns-3
 returns-3 c =
-    let opening = c .before .before .before in
-    let row = opening .before in
-    rw (c .before .depth-by .ensures, c .depth-by2 .ensures, row .row-of .ensures)
-    (some-on _ _ _ _ _ _ (rw (← row .row-of .ensures) (sym (opening .is-opening .ensures) ∙ c .before .before .if2 .left)))
+    let most = c .before in
+    let other = most .before in
+    let space = other .before in
+    rw (c .depth-on .ensures, most .deepest-on .ensures, other .if3 .left) (on-space _ _ _ _ _ _ (sym (space .before .is-blank .ensures) ∙ space .if2 .taken))
+
+deepest-on-requires-2 : tie.Need-deepest-on-requires-2
+deepest-on-requires-2 c κs = search needs
+
+may-have-before-requires : tie.Need-may-have-before-requires
+may-have-before-requires c κs = search needs
+
+side-depth-requires : tie.Need-side-depth-requires
+side-depth-requires c κs = search needs
+
+may-have-after-requires : tie.Need-may-have-after-requires
+may-have-after-requires c κs = search needs
+
+side-depth-requires-2 : tie.Need-side-depth-requires-2
+side-depth-requires-2 c κs = search needs
+
+returns-4 : tie.Need-returns-4
+returns-4 c =
+    let after = c .before in
+    let depth = after .before in
+    let side = depth .before in
+    let most = side .before in
+    let space = most .before in
+    rw (c .side-depth2 .ensures, after .may-have-after .ensures, depth .side-depth .ensures, side .may-have-before .ensures, most .deepest-on2 .ensures)
+    (on-sides _ _ _ _ _ _ (sym (space .before .is-blank .ensures) ∙ space .if2 .left))
 
 pub depths-on-spec : {M : Type 1} → statement M
-depths-on-spec = tie.close (tie.spec is-deep-requires returns row-of-requires is-opening-requires returns-2 depth-by-requires depth-by-requires-2 returns-3)
+depths-on-spec =
+    tie.close
+    (tie.spec
+    is-deep-requires
+    returns
+    is-blank-requires
+    returns-2
+    deepest-on-requires
+    depth-on-requires
+    returns-3
+    deepest-on-requires-2
+    may-have-before-requires
+    side-depth-requires
+    may-have-after-requires
+    side-depth-requires-2
+    returns-4)

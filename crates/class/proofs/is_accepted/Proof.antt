@@ -1,17 +1,21 @@
--- A class is accepted whose kind is not outside (`accepted-code`).
-use mathlib.Core.Path.{ap, _∙_}
-use Prim.Native.Nat.{ℕ}
+-- The set has the accepted classes, read off the table. What is asked of a class can be read back from it.
 use borrow.Author.Needs.{needs}
-use lib.Dec.{ltb}
-use Rattle.class.specs.Digits.{accepted-code}
+use Rattle.class.specs.declared.Mark.the-variants.{Accepted}
+use Rattle.class.specs.Marks.{read-back}
 use Rattle.class.proofs.is_accepted.Statement.{statement}
 use Rattle.class.proofs.is_accepted.Tie as tie
 
-code-at-requires : tie.Need-code-at-requires
-code-at-requires c κs = search needs
+table-requires : tie.Need-table-requires
+table-requires c κs = search needs
+
+marked-in-requires : tie.Need-marked-in-requires
+marked-in-requires c κs = c .table .ensures
+
+has-requires : tie.Need-has-requires
+has-requires c κs = search needs
 
 returns : tie.Need-returns
-returns c = ap (λ (n : ℕ). ltb n 3) (c .code-at .ensures) ∙ accepted-code (c .before .args .class)
+returns c = cc (read-back Accepted (c .before .before .before .args .class))
 
 pub is-accepted-spec : {M : Type 1} → statement M
-is-accepted-spec = tie.close (tie.spec code-at-requires returns)
+is-accepted-spec = tie.close (tie.spec table-requires marked-in-requires has-requires returns)

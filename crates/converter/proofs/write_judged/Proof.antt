@@ -25,7 +25,7 @@ told : (c : tie.After-fill-tables) {a : Lines} → c .fill-tables .result ≡ a 
     Fills (job (start c)) 1024 2048 2048 1024 (replicate 1024 0) (replicate 1024 0) (c .fill-tables .last .0) (c .fill-tables .last .1 .0) (c .fill-tables .last .1 .1 .0) a
 told c e =
     subst (Fills (job (start c)) 1024 2048 2048 1024 (replicate 1024 0) (replicate 1024 0) (c .fill-tables .last .0) (c .fill-tables .last .1 .0) (c .fill-tables .last .1 .1 .0)) e
-    (c .fill-tables .ensures)
+    (c .fill-tables .ensures .0)
 
 fill-tables-requires : tie.Need-fill-tables-requires
 fill-tables-requires c κs = long-tables (c .before .before .before .before .before .before .before .before .before .before .before .before .pre)

@@ -1,7 +1,6 @@
--- The number of sheets that may still come falls at each step; nothing else is asked.
+-- The number of sheets that may still come falls at each step. What is read stands in the room for it, since `read_front` says so; nothing else is asked.
 use Prim.Native.Nat.{_≤_}
 use borrow.Author.Needs.{needs}
-use native.Mathlib.Omega.{arith}
 use Rattle.converts.proofs.main.Statement.{statement}
 use Rattle.converts.proofs.main.Tie as tie
 
@@ -16,8 +15,32 @@ abbrev μ-loop : tie.MeasureT-loop
 loop-holds : tie.Need-loop-holds Inv-loop μ-loop
 loop-holds c = search needs
 
-answer-one-requires : tie.Need-answer-one-requires Inv-loop μ-loop
-answer-one-requires c κs = search needs
+next-frame-requires : tie.Need-next-frame-requires Inv-loop μ-loop
+next-frame-requires c κs = search needs
+
+enum-known-frame : tie.Need-enum-known-frame Inv-loop μ-loop
+enum-known-frame c = search needs
+
+enum-told : tie.Need-enum-told Inv-loop μ-loop
+enum-told c = search needs
+
+returns : tie.Need-returns Inv-loop μ-loop
+returns c = search needs
+
+read-front-requires : tie.Need-read-front-requires Inv-loop μ-loop
+read-front-requires c κs = search needs
+
+array-share-prefix-text : tie.Need-array-share-prefix-text Inv-loop μ-loop
+array-share-prefix-text c = search needs
+
+slice-aggregate-convert : tie.Need-slice-aggregate-convert Inv-loop μ-loop
+slice-aggregate-convert c = search needs
+
+convert-requires : tie.Need-convert-requires Inv-loop μ-loop
+convert-requires c κs = search needs
+
+write-front-requires : tie.Need-write-front-requires Inv-loop μ-loop
+write-front-requires c κs = search needs
 
 sub-rest : tie.Need-sub-rest Inv-loop μ-loop
 sub-rest c = search needs
@@ -28,14 +51,8 @@ loop-less c = search needs
 loop-again : tie.Need-loop-again Inv-loop μ-loop
 loop-again c = search needs
 
-loop-less-2 : tie.Need-loop-less-2 Inv-loop μ-loop
-loop-less-2 c = search needs
-
-loop-again-2 : tie.Need-loop-again-2 Inv-loop μ-loop
-loop-again-2 c = search needs
-
-returns : tie.Need-returns Inv-loop μ-loop
-returns c = search needs
+returns-2 : tie.Need-returns-2 Inv-loop μ-loop
+returns-2 c = search needs
 
 pub main-spec : {M : Type 1} → statement M
 main-spec =
@@ -44,10 +61,16 @@ main-spec =
     Inv-loop
     μ-loop
     loop-holds
-    answer-one-requires
+    next-frame-requires
+    enum-known-frame
+    enum-told
+    returns
+    read-front-requires
+    array-share-prefix-text
+    slice-aggregate-convert
+    convert-requires
+    write-front-requires
     sub-rest
     loop-less
     loop-again
-    loop-less-2
-    loop-again-2
-    returns)
+    returns-2)

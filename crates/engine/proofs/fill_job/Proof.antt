@@ -1,28 +1,19 @@
--- The characters, the elements, the lines: each passes or has the first refusal of all.
-use mathlib.Core.Path.{_≡_, refl, sym, ap, _∙_, subst}
-use Prim.Native.Nat.{ℕ, _*_, _≤_}
-use lib.ListN.{length}
+-- The settings, the characters, the elements, the lines: each passes or has the first refusal of all. The counts are worked out once, and what is found with them is found with the job's.
+use mathlib.Core.Path.{_≡_, refl}
+use Prim.Native.Nat.{ℕ}
 use borrow.Author.Needs.{needs}
 use native.Mathlib.Omega.{arith}
-use Rattle.door.specs.declared.Checked.the-variants.{Passed}
-use mathlib.Core.List.{_++_}
-use Rattle.door.specs.Job.{Job, jobOf, baseCount, elements}
-use Rattle.door.specs.Refusals.{elementsFaults, leftFaults}
-use Rattle.door.specs.Passed as door
-use Rattle.cells.specs.Cells.{linesOf}
-use Rattle.filling.specs.Lines.{over, toldOf, extentsOf}
-use Rattle.join.specs.Rows.{Holds}
-use Rattle.door.specs.Verdict.{verdict}
-use Rattle.door.specs.Whole.{ahead}
-use Rattle.cells.specs.Sound.{Sound}
-use Rattle.join.specs.Join.{sound}
-use Rattle.layout.specs.Measure.{unmeasured}
+use Rattle.door.specs.declared.Sizes.{Sizes}
+use Rattle.door.specs.Job.{Job, jobOf, baseCount, rubyCount, leftCount, elementCount}
+use Rattle.door.specs.Whole.{sizesOf}
+use Rattle.engine.specs.Filled.{Settled, Judged, Laid}
 use Rattle.engine.specs.Filled as filled
 use Rattle.engine.proofs.fill_job.Statement.{statement}
 use Rattle.engine.proofs.fill_job.Tie as tie
 
-abbrev start : tie.After-check-characters → tie.Start
+abbrev start : tie.After-left-count → tie.Start
 start c = c .before .before .before .before .before .before .before .before .before .before .before .before .before .before .before .before .before .before .before .before
+    .before .before .before
 
 abbrev job : tie.Start → Job
 job a =
@@ -31,101 +22,92 @@ job a =
     (x .lwidth .now) (x .kind .now) (x .ebase .now)
     (x .eruby .now) (x .lkind .now) (x .eleft .now) (x .runs .now) (x .lruns .now)
 
--- what the door says of the characters
-said : (c : tie.After-check-characters) → let a = start c in verdict (ahead (job a) (a .args .base) (a .args .ruby) (a .args .left) (a .args .lines)) ≡ c .check-characters .result
-said c = let a = start c in sym (c .check-characters .ensures ∙ ap verdict (filled.any-runs (job a) (a .args .base) (a .args .ruby) (a .args .left) (a .args .lines)))
+-- the counts that were worked out are the job's
+abbrev sizes : tie.After-left-count → Sizes
+sizes c =
+    record {
+      bases = c .before .before .before .base-count .result;
+      rubies = c .before .before .ruby-count .result;
+      elements = c .before .element-count .result;
+      lefts = c .left-count .result;
+    }
 
-passes : (c : tie.After-enum-told) → let a = start (c .before .before) in verdict (ahead (job a) (a .args .base) (a .args .ruby) (a .args .left) (a .args .lines)) ≡ Passed
-passes c = said (c .before .before) ∙ c .enum-told .given .1
+counted : (c : tie.After-left-count) → sizes c ≡ sizesOf (job (start c))
+unfolding baseCount rubyCount leftCount elementCount
+counted c = filled.all-counted (c .before .before .before .base-count .ensures) (c .before .before .ruby-count .ensures) (c .before .element-count .ensures) (c .left-count .ensures)
 
-few : (c : tie.After-enum-told) → baseCount (job (start (c .before .before))) ≤ 1024
-few c = let a = start (c .before .before) in filled.few (job a) (a .args .base) (a .args .ruby) (a .args .left) (a .args .lines) (passes c)
+-- how far the job has come by them
+abbrev By : (Job → ℕ → ℕ → ℕ → ℕ → Sizes → Type 0) → tie.After-left-count → Type 0
+By Far c = let x = start c .args in Far (job (start c)) (x .base) (x .ruby) (x .left) (x .lines) (sizes c)
 
-check-characters-requires : tie.Need-check-characters-requires
-check-characters-requires c κs = search needs
+settled : (c : tie.After-enum-told) → By Settled (c .before .before .before)
+settled c = filled.settled (counted (c .before .before .before)) (c .before .before .check-settings .ensures) (c .enum-told .given .1)
+
+judged : (c : tie.After-enum-told2) → By Judged (c .before .before .before .before .before .before)
+judged c = filled.judged (settled (c .before .before .before)) (c .before .before .check-characters .ensures) (c .enum-told2 .given .1)
+
+abbrev early : tie.After-layout → tie.After-left-count
+early l = l .before .before .before .before .before .before .before .before
+
+laid : (c : tie.After-enum-told3) → let l = c .before .before .before .before in By (Laid (l .layout .last .0)) (early l)
+laid c = let l = c .before .before .before .before in filled.laid (judged (l .before .before)) (l .layout .last .0) (l .layout .ensures) (c .enum-told3 .given .1)
+
+base-count-requires : tie.Need-base-count-requires
+base-count-requires c κs = search needs
+
+ruby-count-requires : tie.Need-ruby-count-requires
+ruby-count-requires c κs = search needs
+
+element-count-requires : tie.Need-element-count-requires
+element-count-requires c κs = search needs
+
+left-count-requires : tie.Need-left-count-requires
+left-count-requires c κs = search needs
+
+check-settings-requires : tie.Need-check-settings-requires
+check-settings-requires c κs = search needs
 
 enum-known-why : tie.Need-enum-known-why
 enum-known-why c = search needs
 
 returns : tie.Need-returns
-returns c =
-    let d = c .before .before .before in
-    let a = start d in
-    filled.by-characters (job a) (a .args .base) (a .args .ruby) (a .args .left) (a .args .lines) (a .args .ends .now) (a .args .extents .now) _ (said d ∙ c .before .why .given .1)
+returns c = let d = c .before .before .before in filled.by-settings (counted (d .before)) (d .check-settings .ensures) _ _ _ (c .before .why .given .1)
 
 enum-told : tie.Need-enum-told
 enum-told c = search needs
 
-layout-requires : tie.Need-layout-requires
-layout-requires c κs =
-    let p = c .before in
-    let a = start (p .before .before) in
-    let x = a .args in
-    filled.ready (job a) (x .base) (x .ruby) (x .left) (x .lines) (passes p) (x .t .now) (a .pre .rows (few p)) (a .pre .left (few p))
+check-characters-requires : tie.Need-check-characters-requires
+check-characters-requires c κs = filled.characters-hold (settled c)
 
 enum-known-why-2 : tie.Need-enum-known-why-2
 enum-known-why-2 c = search needs
 
-same-length : tie.Need-same-length
-same-length c = search needs
-
 returns-2 : tie.Need-returns-2
-returns-2 c =
-    let l = c .before .before .before .before .before in
-    let p = l .before .before in
-    let a = start (p .before .before) in
-    filled.by-elements (job a) (a .args .base) (a .args .ruby) (a .args .left) (a .args .lines) (passes p) (a .args .ends .now) (a .args .extents .now) _
-    (sym (l .layout .ensures .0) ∙ c .before .why2 .given .1)
+returns-2 c = let d = c .before .before .before in filled.by-characters (settled (d .before)) (d .check-characters .ensures) _ _ _ (c .before .why2 .given .1)
 
 enum-told-2 : tie.Need-enum-told-2
 enum-told-2 c = search needs
 
-base-count-requires : tie.Need-base-count-requires
-base-count-requires c κs = search needs
+layout-requires : tie.Need-layout-requires
+layout-requires c κs = let d = c .before in filled.ready (judged d) (start (d .before .before .before .before .before .before) .pre)
 
--- the table is laid
-laid : (c : tie.After-enum-told2) → c .before .before .before .before .layout .result ≡ Passed
-laid c = c .enum-told2 .given .1
+enum-known-why-3 : tie.Need-enum-known-why-3
+enum-known-why-3 c = search needs
 
-bases : (c : tie.After-base-count) → c .base-count .result ≡ baseCount (job (start (c .before .before .before .before .before .before .before .before .before)))
-unfolding baseCount
-bases c = c .base-count .ensures
+same-length : tie.Need-same-length
+same-length c = search needs
 
-elements-pass : (c : tie.After-enum-told2) →
-    let l = c .before .before .before .before in
-    let j = unmeasured (job (start (l .before .before .before .before))) in
-    verdict (elementsFaults j 0 (elements j) ++ leftFaults j) ≡ Passed
-elements-pass c = sym (c .before .before .before .before .layout .ensures .0) ∙ laid c
+returns-3 : tie.Need-returns-3
+returns-3 c = let l = c .before .before .before .before .before in filled.by-elements (judged (l .before .before)) (l .layout .last .0) (l .layout .ensures) _ _ (c .before .why3 .given .1)
 
-passed : (c : tie.After-enum-told2) → door.Passed (job (start (c .before .before .before .before .before .before .before .before)))
-passed c =
-    let p = c .before .before .before .before .before .before in
-    let a = start (p .before .before) in
-    filled.passed (job a) (a .args .base) (a .args .ruby) (a .args .left) (a .args .lines) (passes p) (elements-pass c)
-
-table : (c : tie.After-enum-told2) →
-    let l = c .before .before .before .before in
-    Holds (job (start (l .before .before .before .before))) (l .layout .last .0)
-table c =
-    let l = c .before .before .before .before in
-    let p = l .before .before in
-    let a = start (p .before .before) in
-    filled.table (job a) (a .args .base) (a .args .ruby) (a .args .left) (a .args .lines) (passes p) (elements-pass c) (l .layout .last .0) (l .layout .ensures .1 (laid c))
+enum-told-3 : tie.Need-enum-told-3
+enum-told-3 c = search needs
 
 mul-fill-lines : tie.Need-mul-fill-lines
-mul-fill-lines c = omega (arith, passed (c .before .before .before .before) .measure)
+mul-fill-lines c = omega (arith, filled.passed (laid (c .before .before .before)) .measure)
 
 fill-lines-requires : tie.Need-fill-lines-requires
-fill-lines-requires c κs =
-    let b = c .before .before .before in
-    let e = b .before in
-    let l = e .before .before .before .before in
-    let a = start (l .before .before .before .before) in
-    let few = passed e .fewBase in (
-      subst (Sound (a .args .em) (l .layout .last .0)) (sym (bases b)) (sound (job a) (passed e) (l .layout .last .0) (table e)),
-      omega (arith, bases b, a .pre .ends few),
-      omega (arith, bases b, a .pre .extents few),
-    )
+fill-lines-requires c κs = let e = c .before .before .before in filled.fillable (laid e) (start (early (e .before .before .before .before)) .pre)
 
 same-length-2 : tie.Need-same-length-2
 same-length-2 c = search needs
@@ -136,40 +118,33 @@ same-length-3 c = search needs
 same-length-4 : tie.Need-same-length-4
 same-length-4 c = search needs
 
-returns-3 : tie.Need-returns-3
-returns-3 c =
-    let f = c .before .before .before .before in
-    let b = f .before .before .before .before in
-    let e = b .before in
-    let l = e .before .before .before .before in
-    let p = l .before .before in
-    let a = start (p .before .before) in
-    let x = a .args in
-    let t = l .layout .last .0 in
-    filled.fills (job a) (x .base) (x .ruby) (x .left) (x .lines) (passes p) (elements-pass e) t (l .layout .ensures .1 (laid e)) (x .ends .now) (f .fill-lines .last .1 .1 .0) (x .extents .now)
-    (f .fill-lines .last .1 .1 .1 .0)
-    (f .fill-lines .result)
-    (subst (λ n. let es = linesOf (x .em) (2 * x .measure) t n in
-    (f .fill-lines .result ≡ toldOf n es) × (f .fill-lines .last .1 .1 .0 ≡ over es (x .ends .now)) × (f .fill-lines .last .1 .1 .1 .0 ≡ over (extentsOf (x .em) t 0 es) (x .extents .now)))
-    (bases b) (f .fill-lines .ensures))
+returns-4 : tie.Need-returns-4
+returns-4 c = let f = c .before .before .before .before in filled.fills (laid (f .before .before .before .before)) _ _ _ _ (f .fill-lines .ensures) refl
 
 pub fill-job-spec : {M : Type 1} → statement M
 fill-job-spec =
     tie.close
     (tie.spec
-    check-characters-requires
+    base-count-requires
+    ruby-count-requires
+    element-count-requires
+    left-count-requires
+    check-settings-requires
     enum-known-why
     returns
     enum-told
-    layout-requires
+    check-characters-requires
     enum-known-why-2
-    same-length
     returns-2
     enum-told-2
-    base-count-requires
+    layout-requires
+    enum-known-why-3
+    same-length
+    returns-3
+    enum-told-3
     mul-fill-lines
     fill-lines-requires
     same-length-2
     same-length-3
     same-length-4
-    returns-3)
+    returns-4)

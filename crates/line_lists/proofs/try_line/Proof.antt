@@ -1,27 +1,27 @@
--- The rest of the line ends in the same state as the whole, whatever was passed, and the answer is by the last state.
+-- The rest of the line ends in the same state as the whole, and the answer is by the last state. The elements were judged, so what stands and the next one fit a number.
 use mathlib.Core.Path.{ap, _∙_}
 use Prim.Native.Nat.{_-_, max}
-use Rattle.line_lists.specs.Promise.{lists}
-use Rattle.line_lists.proofs.Passes.{Walked, walked-start, walked-has, walked-fits, walked-next, walked-end, tried-long, tried-set}
-use borrow.Author.Needs.{needs}
 use native.Mathlib.Omega.{arith}
+use Rattle.line_lists.specs.Promise.{rows}
+use Rattle.line_lists.proofs.Passes.{Walked, walked-start, walked-fits, walked-next, walked-end, tried-long, tried-set}
+use borrow.Author.Needs.{needs}
 use Rattle.line_lists.proofs.try_line.Statement.{statement}
 use Rattle.line_lists.proofs.try_line.Tie as tie
 
 abbrev Inv-loop : tie.InvT-loop
-Inv-loop measure count front len right rfrom rupto left lfrom lupto before after st₀ i₀ st i = Walked (lists front len right rfrom rupto left lfrom lupto before after) count st i
+Inv-loop measure elements st₀ i₀ st i = Walked elements st i
 
 abbrev μ-loop : tie.MeasureT-loop
-μ-loop measure count front len right rfrom rupto left lfrom lupto before after st₀ i₀ st i = count - i
+μ-loop measure elements st₀ i₀ st i = rows elements - i
 
 loop-holds : tie.Need-loop-holds Inv-loop μ-loop
-loop-holds c = walked-start _ _ (c .before .before .before .before .before .before .before .before .before .before .pre)
+loop-holds c = walked-start _ (c .before .pre)
 
 element-at-requires : tie.Need-element-at-requires Inv-loop μ-loop
-element-at-requires c κs = walked-has _ _ _ _ (c .before .loop .inv) (c .loop-test .taken)
+element-at-requires c κs = search needs
 
 place-requires : tie.Need-place-requires Inv-loop μ-loop
-place-requires c κs = walked-fits _ _ _ _ (c .before .before .loop .inv) (c .before .loop-test .taken) _ (c .element-at .ensures)
+place-requires c κs = walked-fits _ _ _ (c .before .before .loop .inv) (c .before .loop-test .taken) _ (c .element-at .ensures)
 
 add-i : tie.Need-add-i Inv-loop μ-loop
 add-i c = search needs
@@ -32,7 +32,7 @@ loop-less c = search needs
 loop-again : tie.Need-loop-again Inv-loop μ-loop
 loop-again c =
     let turn = c .before .before .before in
-    walked-next _ _ _ _ (turn .before .loop .inv) (turn .loop-test .taken) _ (c .before .before .element-at .ensures) _ (c .before .place .ensures)
+    walked-next _ _ _ (turn .before .loop .inv) (turn .loop-test .taken) _ (c .before .before .element-at .ensures) _ (c .before .place .ensures)
 
 larger-requires : tie.Need-larger-requires Inv-loop μ-loop
 larger-requires c κs = search needs
@@ -49,12 +49,12 @@ cast-if1 c = search needs
 returns : tie.Need-returns Inv-loop μ-loop
 returns c =
     let last = c .before .before .before in
-    tried-long _ _ _ (walked-end _ _ _ _ (last .before .loop .inv) (last .loop-test .left)) (omega (arith, c .before .before .larger .ensures, c .before .larger2 .ensures))
+    tried-long _ _ _ (walked-end _ _ _ (last .before .loop .inv) (last .loop-test .left)) (omega (arith, c .before .before .larger .ensures, c .before .larger2 .ensures))
 
 returns-2 : tie.Need-returns-2 Inv-loop μ-loop
 returns-2 c =
     let last = c .before .before .before in
-    tried-set _ _ _ (walked-end _ _ _ _ (last .before .loop .inv) (last .loop-test .left)) _
+    tried-set _ _ _ (walked-end _ _ _ (last .before .loop .inv) (last .loop-test .left)) _
     (c .before .larger2 .ensures ∙ ap (max _) (c .before .before .larger .ensures)) (c .if1 .left)
 
 pub try-line-spec : {M : Type 1} → statement M

@@ -63,41 +63,17 @@ returns c =
     let told = c .before .before .plain-answer .ensures in
     absurd (never (sym told ∙ c .enum-told .given .1))
 
-mul-depths-by : tie.Need-mul-depths-by
-mul-depths-by c = search needs
-
-shared-slice-read-depths-by : tie.Need-shared-slice-read-depths-by
-shared-slice-read-depths-by c = search needs
-
-mul-depths-by-2 : tie.Need-mul-depths-by-2
-mul-depths-by-2 c = search needs
-
-shared-slice-read-depths-by-2 : tie.Need-shared-slice-read-depths-by-2
-shared-slice-read-depths-by-2 c = search needs
-
-mul-depths-by-3 : tie.Need-mul-depths-by-3
-mul-depths-by-3 c = search needs
-
-shared-slice-read-depths-by-3 : tie.Need-shared-slice-read-depths-by-3
-shared-slice-read-depths-by-3 c = search needs
-
-mul-depths-by-4 : tie.Need-mul-depths-by-4
-mul-depths-by-4 c = search needs
-
-shared-slice-read-depths-by-4 : tie.Need-shared-slice-read-depths-by-4
-shared-slice-read-depths-by-4 c = search needs
-
-depths-by-requires : tie.Need-depths-by-requires
-depths-by-requires c κs = search needs
+depths-at-requires : tie.Need-depths-at-requires
+depths-at-requires c κs = search needs
 
 mul-t14 : tie.Need-mul-t14
 mul-t14 c = search needs
 
-shared-slice-read-t27 : tie.Need-shared-slice-read-t27
-shared-slice-read-t27 c = search needs
+shared-slice-read-t16 : tie.Need-shared-slice-read-t16
+shared-slice-read-t16 c = search needs
 
-cast-t24 : tie.Need-cast-t24
-cast-t24 c = search needs
+cast-t22 : tie.Need-cast-t22
+cast-t22 c = search needs
 
 put-cell-requires : tie.Need-put-cell-requires
 put-cell-requires c κs = search needs
@@ -109,12 +85,12 @@ returns-2 : tie.Need-returns-2
 returns-2 c =
     let put = c .before .before in
     let d = put .before .before .before in
-    let answer = d .before .before .before .before .before .before in
+    let answer = d .before .before in
     let a = answer .before .before .before .before .before .before .before .before .before .before in
     let x = a .args in
     let told = answer .before .before .plain-answer .ensures in
     subst (λ z. Puts (x .t .now) (x .b) z (put .put-cell .last .0))
-    (ap₂ (cell (x .r) (eqb (getD (x .flag .now) (x .b) 0) 1)) (the-word (sym (answer .answer .given .1) ∙ told)) (d .depths-by .ensures)) (put .put-cell .ensures)
+    (ap₂ (cell (x .r) (eqb (getD (x .flag .now) (x .b) 0) 1)) (the-word (sym (answer .answer .given .1) ∙ told)) (d .depths-at .ensures)) (put .put-cell .ensures)
 
 pub put-plain-spec : {M : Type 1} → statement M
 put-plain-spec =
@@ -126,18 +102,10 @@ put-plain-spec =
     enum-known-answer
     enum-told
     returns
-    mul-depths-by
-    shared-slice-read-depths-by
-    mul-depths-by-2
-    shared-slice-read-depths-by-2
-    mul-depths-by-3
-    shared-slice-read-depths-by-3
-    mul-depths-by-4
-    shared-slice-read-depths-by-4
-    depths-by-requires
+    depths-at-requires
     mul-t14
-    shared-slice-read-t27
-    cast-t24
+    shared-slice-read-t16
+    cast-t22
     put-cell-requires
     same-length
     returns-2)

@@ -1,5 +1,4 @@
--- Only a J is asked: the kinds of its base, then the widths.
-use mathlib.Core.Path.{_∙_}
+-- Only a J is asked; then by its kinds, and by its widths.
 use borrow.Author.Needs.{needs}
 use Rattle.word.proofs.sides.base_wrong.Statement.{statement}
 use Rattle.word.proofs.sides.base_wrong.Tie as tie
@@ -20,10 +19,7 @@ not-kana-requires : tie.Need-not-kana-requires
 not-kana-requires c κs = search needs
 
 returns : tie.Need-returns
-returns c = rw (c .before .before .enum-told4 .given .1, ← c .before .not-kana .ensures, c .if1 .taken)
-
-any-but-requires : tie.Need-any-but-requires
-any-but-requires c κs = search needs
+returns c = let n = c .before in rw (n .before .enum-told4 .given .1, ← n .not-kana .ensures, c .if1 .taken)
 
 returns-2 : tie.Need-returns-2
 returns-2 c = search needs
@@ -35,7 +31,7 @@ returns-4 : tie.Need-returns-4
 returns-4 c = search needs
 
 returns-5 : tie.Need-returns-5
-returns-5 c = c .any-but .ensures ∙ rw (c .before .before .before .enum-told4 .given .1, ← c .before .before .not-kana .ensures, c .before .if1 .left)
+returns-5 c = let n = c .before in rw (n .before .enum-told4 .given .1, ← n .not-kana .ensures, c .if1 .left)
 
 pub base-wrong-spec : {M : Type 1} → statement M
 base-wrong-spec =
@@ -47,7 +43,6 @@ base-wrong-spec =
     enum-told-4
     not-kana-requires
     returns
-    any-but-requires
     returns-2
     returns-3
     returns-4

@@ -1,0 +1,21 @@
+-- The set has the classes on which ruby may lie to a quarter em, read off the table. What is asked of a class can be read back from it.
+use borrow.Author.Needs.{needs}
+use Rattle.class.specs.declared.Mark.the-variants.{Shallow}
+use Rattle.class.specs.Marks.{read-back}
+use Rattle.class.proofs.is_shallow.Statement.{statement}
+use Rattle.class.proofs.is_shallow.Tie as tie
+
+table-requires : tie.Need-table-requires
+table-requires c κs = search needs
+
+marked-in-requires : tie.Need-marked-in-requires
+marked-in-requires c κs = c .table .ensures
+
+has-requires : tie.Need-has-requires
+has-requires c κs = search needs
+
+returns : tie.Need-returns
+returns c = cc (read-back Shallow (c .before .before .before .args .class))
+
+pub is-shallow-spec : {M : Type 1} → statement M
+is-shallow-spec = tie.close (tie.spec table-requires marked-in-requires has-requires returns)
