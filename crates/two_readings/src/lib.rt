@@ -260,7 +260,7 @@ pub fn put_whole(
     }
 }
 
-// The base of an element with a left reading, as level one asks for it. `one_reading::base_at` is the same for the others: a function with two callers is put into neither, and a word
+// The base of an element with a left reading, as level one asks for it. `one_reading::base_at` is the same for the others: with two callers it would be put into neither, and a word
 // without a left reading would pay for that.
 pub fn base_beside(
     p: door::Piece,
