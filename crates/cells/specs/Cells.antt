@@ -26,14 +26,18 @@ use Rattle.cells.specs.declared.LeftRow.{LeftRow}
 use Rattle.cells.specs.declared.Share.{Share}
 use Rattle.cells.specs.declared.Step.{Step}
 
--- how many numbers a table of n rows has: seven at its head, and nineteen a row; and how many the left rows of n base characters have
+-- how many numbers a table of n rows has: eight at its head, and nineteen a row; and how many the left rows of n base characters have
 abbrev pub size : ℕ → ℕ
-size n = 7 + 19 * n
+size n = 8 + 19 * n
 
 abbrev pub leftSize : ℕ → ℕ
 leftSize n = 8 * n
 
--- the house ratios, at its head
+-- what stands at its head: the house ratios, and em
+pub record Head : Type 0 where
+  pub ratios : Ratios
+  pub em : ℕ
+
 abbrev pub ratiosAt : List ℕ → Ratios
 ratiosAt t =
     record {
@@ -41,9 +45,15 @@ ratiosAt t =
       base = record { a = getD t 3 0; m = getD t 4 0; c = getD t 5 0 };
     }
 
--- where the left readings begin, behind the rows; 0 where there are none
+abbrev pub emAt : List ℕ → ℕ
+emAt t = getD t 6 0
+
+abbrev pub headAt : List ℕ → Head
+headAt t = record { ratios = ratiosAt t; em = emAt t }
+
+-- and where the left readings begin, behind the rows; 0 where there are none
 abbrev pub leftsAt : List ℕ → ℕ
-leftsAt t = getD t 6 0
+leftsAt t = getD t 7 0
 
 abbrev pub noLeft : LeftRow
 noLeft = record { from = 0; upto = 0; within = 0; runs = false; first = 0; many = 0; own = 0; more = false }

@@ -1,4 +1,4 @@
-// The table of a job behind the door: at its head the house ratios and where the left readings begin, then a row of numbers for each base character, and behind the rows,
+// The table of a job behind the door: at its head the house ratios, em and where the left readings begin, then a row of numbers for each base character, and behind the rows,
 // in a job that has left readings, a second one for each with what is known of these. A row says how far its element goes on from here, where a line may end, and
 // what level one has decided of the element; of a J of two characters or more what any part of it is measured by. Nobody above reads classes, widths of words or
 // kinds. One function cuts a J (`part_upto`), one takes a line on by a piece (`advance`). It relies on `word` and `spread` for words and on `line` for places.
@@ -12,10 +12,10 @@ ghost use Rattle.spread.specs.Ratio.{ratiosOf};
 ghost use Rattle.word.specs.Word.{between};
 ghost use Rattle.line.specs.Setting.{furthest, total};
 ghost use Rattle.cells.specs.Put.{bitOf, numbersOf, leftNumbersOf, Copied, Puts, PutsLeft, headed};
-ghost use Rattle.cells.specs.Cells.{size, leftSize, ratiosAt, leftsAt, leftRowAt, leftAt, rowAt, beside, cellAt, eachOver, rubyWay, overWith, both, part, wordAt, shareOf, seen, elementOf, stepOf, stepAt, Cuts, hasRuby, Plain, Advances};
+ghost use Rattle.cells.specs.Cells.{size, leftSize, ratiosAt, emAt, leftsAt, leftRowAt, leftAt, rowAt, beside, cellAt, eachOver, rubyWay, overWith, both, part, wordAt, shareOf, seen, elementOf, stepOf, stepAt, Cuts, hasRuby, Plain, Advances};
 
 // How many numbers the head of a table has, how many a row, and how many a row of a left reading.
-pub const HEAD: usize = 7;
+pub const HEAD: usize = 8;
 
 pub const ROW: usize = 19;
 
@@ -86,10 +86,18 @@ pub fn ratios_at(t: &[u32]) -> [[u32; 3]; 2]
     [[t[0], t[1], t[2]], [t[3], t[4], t[5]]]
 }
 
-// The head written: the house ratios, and where the left readings begin, 0 where the job has none.
-pub fn put_head(t: &mut [u32], ratios: [[u32; 3]; 2], lefts: u32)
+// And em, in units.
+pub fn em_at(t: &[u32]) -> u32
     requires { ⌜ size 0 ≤ length (now t) ⌝ }
-    ensures { λ _. ⌜ now (t .exit) ≡ headed (was t) (ratiosOf ratios) lefts ⌝ }
+    ensures { λ r. ⌜ r ≡ emAt (was t) ⌝ }
+{
+    t[6]
+}
+
+// The head written: the house ratios, em, and where the left readings begin, 0 where the job has none.
+pub fn put_head(t: &mut [u32], ratios: [[u32; 3]; 2], em: u32, lefts: u32)
+    requires { ⌜ size 0 ≤ length (now t) ⌝ }
+    ensures { λ _. ⌜ now (t .exit) ≡ headed (was t) (record { ratios = ratiosOf ratios; em = em }) lefts ⌝ }
 {
     t[0] = ratios[0][0];
     t[1] = ratios[0][1];
@@ -97,7 +105,8 @@ pub fn put_head(t: &mut [u32], ratios: [[u32; 3]; 2], lefts: u32)
     t[3] = ratios[1][0];
     t[4] = ratios[1][1];
     t[5] = ratios[1][2];
-    t[6] = lefts;
+    t[6] = em;
+    t[7] = lefts;
 }
 
 // The left row that begins at `at`.
@@ -122,7 +131,7 @@ fn left_at(t: &[u32], i: usize) -> LeftRow
     requires { ⌜ size (i + 1) ≤ length (now t) ⌝ }
     ensures { λ r. ⌜ r ≡ leftAt (was t) i ⌝ }
 {
-    let from = t[6] as usize;
+    let from = t[7] as usize;
     if from == 0 {
         return NO_LEFT;
     }
@@ -292,7 +301,7 @@ pub fn put_left(t: &mut [u32], i: usize, l: LeftRow)
     ensures { λ _. ⌜ PutsLeft (was t) i l (now (t .exit)) ⌝ }
 {
     let row = left_numbers_of(l);
-    let from = t[6] as usize;
+    let from = t[7] as usize;
     copy_row(t, from + LEFT * i, &row);
 }
 
@@ -562,7 +571,7 @@ fn in_row(t: &[u32], i: usize) -> bool
     if cut_at(t, i) {
         return false;
     }
-    t[6] == 0
+    t[7] == 0
 }
 
 // A word with ruby after the line so far, in a job without left readings.

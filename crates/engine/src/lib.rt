@@ -202,7 +202,7 @@ fn set_table(
     match filling::fill_lines(t, sizes.bases, ends, extents, em, 2 * measure) {
         filling::Lines::Refused(why) => job::Answer::Refused(why),
         filling::Lines::Filled(n) => {
-            positions::put_lines(t, n, ends, em, width, rwidth, lwidth, base, ruby, left);
+            positions::put_lines(t, &ends[0..n], width, rwidth, lwidth, base, ruby, left);
             positions::put_ends(n, ends, lines);
             job::Answer::Set(n)
         }

@@ -55,7 +55,7 @@ use Rattle.job.specs.Declined.{Way, lines-way}
 use Rattle.job.specs.Words.{promise, readings-narrow, runs-of-j, none-of-j, is-j, left-fits, whole-piece}
 use Rattle.job.specs.Bounded.{piece-short}
 use Rattle.refusal.specs.declared.Refusal.the-variants.{NoBreak}
-use Rattle.join.specs.Rows.{firstAt, runAt, runWidth, wideBefore, longer, isCut, upto, runsBefore, none, leftRuns, leftRowBy, endsBehind, rowOf, HasRows, Holds}
+use Rattle.join.specs.Rows.{firstAt, runAt, runWidth, wideBefore, longer, isCut, upto, runsBefore, none, leftRuns, leftRowBy, endsBehind, rowOf, HasRows, Holds, house}
 use Rattle.join.specs.Runs.{first-next, first-more, wide-more, wide-next, longer-next, longer-few}
 use Rattle.join.specs.Part.{good, widths, reads, within, part-word, both-word}
 
@@ -277,7 +277,7 @@ module _ (job : Job) (passed : Passed job) (t : List ℕ) (table : Holds job t) 
         let low : x .base ≤ z = omega arith in
         let high : z < x .base + x .bases = omega arith in
         ap (λ n. cond (ltb 0 n) (cells.both (job .em) t i c) (byRatios (ratiosAt t) (cellAt t i) (cellAt t z))) (lefts-at nl i h (omega arith))
-        ∙ ap (λ r. byRatios r (cellAt t i) (cellAt t z)) (table .house)
+        ∙ ap (λ r. byRatios r (cellAt t i) (cellAt t z)) (house table)
         ∙ ap₂ (λ a b. byEnds a (cellAt t i .wide) b (cellAt t i .ruby) (cellAt t i .over) (overWith (job .em) (cellAt t z)) (cellAt t i .own) (cellAt t z .own) (cellAt t i .western))
         (wide-with j z low high ∙ ap (wideBefore job x) (top (x .base) h l)) (ruby-with j z low high ∙ ap (firstAt Right job x) (top (x .base) h l))
         ∙ ap₂ (λ a b. byEnds (wideBefore job x (k + (c - i))) a (firstAt Right job x (k + (c - i))) b (cellAt t i .over) (overWith (job .em) (cellAt t z)) (cellAt t i .own) (cellAt t z .own) (cellAt t i .western))
@@ -315,7 +315,7 @@ module _ (job : Job) (passed : Passed job) (t : List ℕ) (table : Holds job t) 
         let hl = has-jukugo (x .gloss) jl in
         let some : ltb 0 (cellAt t i .lefts) ≡ true = lt-ltb 0 (cellAt t i .lefts) (omega (arith, lefts-by hl j i h here, left-run hl j k (omega arith))) in
         ap (λ (b : Bool). cond b (bothBy (ratiosAt t) (job .em) (c - i) (record { width = cellAt t i .own; count = cellAt t i .rubies }) (record { width = cellAt t i .ownleft; count = cellAt t i .lefts }) (cellAt t z .own) (cellAt t z .ownleft)) (rest t)) some
-        ∙ ap (λ (r : Ratios). bothBy r (job .em) (c - i) (record { width = cellAt t i .own; count = cellAt t i .rubies }) (record { width = cellAt t i .ownleft; count = cellAt t i .lefts }) (cellAt t z .own) (cellAt t z .ownleft)) (table .house)
+        ∙ ap (λ (r : Ratios). bothBy r (job .em) (c - i) (record { width = cellAt t i .own; count = cellAt t i .rubies }) (record { width = cellAt t i .ownleft; count = cellAt t i .lefts }) (cellAt t z .own) (cellAt t z .ownleft)) (house table)
         ∙ ap₂ (λ (r l : Str). bothBy (job .ratios) (job .em) (c - i) r l (cellAt t z .own) (cellAt t z .ownleft))
         (ap₂ (λ (w n : ℕ). record { width = w; count = n }) (own-at j i h here) (rubies-at j i h here)) (ap₂ (λ (w n : ℕ). record { width = w; count = n }) (own-left-by hl j i h here) (lefts-by hl j i h here))
         ∙ ap₂ (λ (a b : ℕ). bothBy (job .ratios) (job .em) (c - i) (record { width = runWidth Right job x k; count = runAt Right job x k }) (record { width = runWidth Left job x k; count = runAt Left job x k }) a b)
@@ -583,7 +583,7 @@ module _ (job : Job) (passed : Passed job) (t : List ℕ) (table : Holds job t) 
   sound =
       record {
         small = passed .em;
-        house = subst Housed (sym (table .house)) (passed .house);
+        house = subst Housed (sym (house table)) (passed .house);
         few = passed .fewBase;
         long = table .long;
         row = λ i h. let v = covers i h in row (v .x) (is-word job passed (v .front) (v .rest) (v .x) (v .split)) i (v .from) (v .ahead);

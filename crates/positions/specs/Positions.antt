@@ -13,7 +13,7 @@ use Rattle.line.specs.declared.Side.{Side}
 use Rattle.line.specs.declared.Side.the-variants.{Right, Left}
 use Rattle.line.specs.declared.State.{State}
 use Rattle.line.specs.Setting.{start, origin}
-use Rattle.cells.specs.Cells.{cellAt, shareOf, wordAt, piece, next, stop}
+use Rattle.cells.specs.Cells.{emAt, cellAt, shareOf, wordAt, piece, next, stop}
 
 -- a table, and the lists that are read beside it: the widths of base characters, and of those of either side
 pub record Sheet : Type 0 where
@@ -25,6 +25,10 @@ pub record Sheet : Type 0 where
 
 abbrev pub sheet : ℕ → List ℕ → List ℕ → List ℕ → List ℕ → Sheet
 sheet em t width rubyWidth leftWidth = record { em = em; t = t; width = width; rubyWidth = rubyWidth; leftWidth = leftWidth }
+
+-- with the em at the table's head
+abbrev pub sheetAt : List ℕ → List ℕ → List ℕ → List ℕ → Sheet
+sheetAt t width rubyWidth leftWidth = sheet (emAt t) t width rubyWidth leftWidth
 
 abbrev pub widthsOf : Side → Sheet → List ℕ
 widthsOf Right g = g .rubyWidth

@@ -39,17 +39,24 @@ use Rattle.job.specs.Pieces.{IsWord, cut-is, cut-piece, runs-cut, plain-one}
 use Rattle.job.specs.Placed.{stands}
 use Rattle.job.specs.Sound.{plain-left}
 use Rattle.job.specs.Words.{GoodPiece, promise, runs-of-j, none-of-j, whole-piece}
-use Rattle.join.specs.Rows.{runsOf, runOf, firstAt, runAt, isCut, upto, runsBefore, leftRuns, Holds}
+use Rattle.join.specs.Rows.{runsOf, runOf, firstAt, runAt, isCut, upto, runsBefore, leftRuns, Holds, ems}
 use Rattle.join.specs.Runs.{first-more}
 use Rattle.join.specs.Part.{runsFrom, whole-runs}
 use Rattle.join.specs.Join as join
-use Rattle.positions.specs.Positions.{Sheet, sheet, lent, first, runEnd, readingEnd, readingLent, runsPut, readingBy, basePut, sidePut}
+use Rattle.positions.specs.Positions.{Sheet, sheet, sheetAt, lent, first, runEnd, readingEnd, readingLent, runsPut, readingBy, basePut, sidePut}
 use Rattle.positions.specs.Ready.{Runs}
 use Rattle.posjoin.specs.Runs.{Shared, right-shared, left-shared, reading-within, end-is, runs-put, runs-fit}
 
 -- a table and the lists of a job
 abbrev pub sheetOf : Job → List ℕ → Sheet
 sheetOf job t = sheet (job .em) t (job .width) (job .rubyWidth) (job .leftWidth)
+
+-- the same by the em at its head
+abbrev pub headSheet : Job → List ℕ → Sheet
+headSheet job t = sheetAt t (job .width) (job .rubyWidth) (job .leftWidth)
+
+pub same-sheet : {job : Job} {t : List ℕ} → Holds job t → headSheet job t ≡ sheetOf job t
+same-sheet {job} {t} table = ap (λ m. sheet m t (job .width) (job .rubyWidth) (job .leftWidth)) (ems table)
 
 -- a word's reading on one side, and the runs that it is given
 abbrev pub on : Side → Word → Reading
