@@ -4,6 +4,7 @@ use mathlib.Core.List.{List, [], _∷_, _++_}
 use Prim.Native.Nat.{ℕ, zero, suc, _+_, _-_, _*_}
 use lib.Dec.{ltb}
 use lib.ListN.{take, drop, length}
+use lib.Seq.{sets}
 use Rattle.spread.specs.Gap.{starts}
 use Rattle.word.specs.declared.Reading.{Reading}
 use Rattle.word.specs.declared.Word.{Word}
@@ -117,6 +118,13 @@ rubyOf = sideOf Right
 
 abbrev pub leftOf : Sheet → ℕ → ℕ → List ℕ
 leftOf = sideOf Left
+
+-- written where they belong
+abbrev pub baseOver : Sheet → ℕ → ℕ → List ℕ → List ℕ
+baseOver g s e was = sets was s (baseOf g s e)
+
+abbrev pub sideOver : Side → Sheet → ℕ → ℕ → List ℕ → List ℕ
+sideOver side g s e was = sets was (first side (g .t) s) (sideOf side g s e)
 
 -- line by line, from s on
 abbrev pub byLine : (ℕ → ℕ → List ℕ) → ℕ → List ℕ → List ℕ

@@ -11,7 +11,7 @@ ghost use Rattle.spread.specs.Gap.{starts};
 ghost use Rattle.word.specs.Word.{baseStarts};
 ghost use Rattle.line.specs.declared.Side.the-variants.{Right, Left};
 ghost use Rattle.cells.specs.Cells.{size, emAt};
-ghost use Rattle.positions.specs.Positions.{sheetAt, lent, over, first, readingEnd, runsPut, readingBy, baseOf, rubyOf, leftOf, linesOver};
+ghost use Rattle.positions.specs.Positions.{sheetAt, lent, over, first, readingEnd, runsPut, readingBy, baseOf, rubyOf, leftOf, baseOver, sideOver, linesOver};
 ghost use Rattle.positions.specs.Ready.{StringReady, LineReady, LinesReady};
 ghost use Rattle.positions.specs.Runs.{RunsReady};
 ghost use Rattle.positions.specs.Piece.{ReadingReady};
@@ -122,7 +122,7 @@ fn put_line(
     left: &mut [u32],
 )
     requires { ⌜ LineReady (sheetAt (now t) (now width) (now rwidth) (now lwidth)) (l .first) (l .upto) (now base) (now ruby) (now left) ⌝ }
-    ensures { λ _. let u = was t in let g = sheetAt u (was width) (was rwidth) (was lwidth) in let s = l .first in let e = l .upto in ⌜ (now (base .exit) ≡ sets (was base) s (baseOf g s e)) × (now (ruby .exit) ≡ sets (was ruby) (first Right u s) (rubyOf g s e)) × (now (left .exit) ≡ sets (was left) (first Left u s) (leftOf g s e)) ⌝ }
+    ensures { λ _. let g = sheetAt (was t) (was width) (was rwidth) (was lwidth) in let s = l .first in let e = l .upto in ⌜ (now (base .exit) ≡ baseOver g s e (was base)) × (now (ruby .exit) ≡ sideOver Right g s e (was ruby)) × (now (left .exit) ≡ sideOver Left g s e (was left)) ⌝ }
 {
     let em = cells::em_at(t);
     let e = l.upto;
