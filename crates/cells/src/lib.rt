@@ -360,10 +360,11 @@ fn over_with(em: u32, z: Cell) -> u32
 
 // A part of a J with a left J, none of whose runs is longer than one em on either side: one character is set as M with a mono left reading, of more each run stands over
 // its own character on both sides.
-fn both_upto(t: &[u32], i: usize, c: usize, em: u32) -> word::Word
-    requires { ⌜ (0 < cellAt (now t) i .lefts) × (Cuts em (now t) i c) ⌝ }
-    ensures { λ w. ⌜ w ≡ both em (was t) i c ⌝ }
+fn both_upto(t: &[u32], i: usize, c: usize) -> word::Word
+    requires { ⌜ (0 < cellAt (now t) i .lefts) × (Cuts (now t) i c) ⌝ }
+    ensures { λ w. ⌜ w ≡ both (was t) i c ⌝ }
 {
+    let em = t[6];
     let a = cell_at(t, i);
     let z = cell_at(t, c - 1);
     let n = (c - i) as u32;
@@ -387,13 +388,14 @@ fn both_upto(t: &[u32], i: usize, c: usize, em: u32) -> word::Word
 
 // The one place where a J is cut: the word of its base characters from i up to c. "A part of one character is set as M, a part of more as J": with no run longer than one
 // em each run stands over its own character, else the part is set as G.
-pub fn part_upto(t: &[u32], i: usize, c: usize, em: u32) -> word::Word
-    requires { ⌜ Cuts em (now t) i c ⌝ }
-    ensures { λ w. ⌜ w ≡ part em (was t) i c ⌝ }
+pub fn part_upto(t: &[u32], i: usize, c: usize) -> word::Word
+    requires { ⌜ Cuts (now t) i c ⌝ }
+    ensures { λ w. ⌜ w ≡ part (was t) i c ⌝ }
 {
+    let em = t[6];
     let a = cell_at(t, i);
     if 0 < a.lefts {
-        return both_upto(t, i, c, em);
+        return both_upto(t, i, c);
     }
     let z = cell_at(t, c - 1);
     let n = (c - i) as u32;
@@ -519,12 +521,12 @@ fn there_at(t: &[u32], i: usize) -> bool
 }
 
 // The word of the piece from i up to c.
-fn word_upto(t: &[u32], i: usize, c: usize, em: u32) -> word::Word
-    requires { ⌜ (size (i + 1) ≤ length (now t)) × (cellAt (now t) i .cut ≡ true → Cuts em (now t) i c) ⌝ }
-    ensures { λ w. ⌜ w ≡ wordAt em (was t) i c ⌝ }
+fn word_upto(t: &[u32], i: usize, c: usize) -> word::Word
+    requires { ⌜ (size (i + 1) ≤ length (now t)) × (cellAt (now t) i .cut ≡ true → Cuts (now t) i c) ⌝ }
+    ensures { λ w. ⌜ w ≡ wordAt (was t) i c ⌝ }
 {
     if cut_at(t, i) {
-        return part_upto(t, i, c, em);
+        return part_upto(t, i, c);
     }
     let a = cell_at(t, i);
     a.word
@@ -602,34 +604,34 @@ fn right_at(t: &[u32], i: usize, st: line::State) -> Step
 }
 
 // The part of a J from i up to c after the line so far. Ruby lies on no word, so both depths are 0.
-pub fn advance_cut(t: &[u32], i: usize, c: usize, em: u32, st: line::State) -> Step
-    requires { ⌜ (cellAt (now t) i .cut ≡ true) × (Advances em (now t) st i c) ⌝ }
-    ensures { λ r. ⌜ r ≡ stepAt em (was t) st i c ⌝ }
+pub fn advance_cut(t: &[u32], i: usize, c: usize, st: line::State) -> Step
+    requires { ⌜ (cellAt (now t) i .cut ≡ true) × (Advances (now t) st i c) ⌝ }
+    ensures { λ r. ⌜ r ≡ stepAt (was t) st i c ⌝ }
 {
-    step_of(word_upto(t, i, c, em), 0, 0, st)
+    step_of(word_upto(t, i, c), 0, 0, st)
 }
 
 // A word that does not stand in its row, after the line so far. A function of its own: `word_upto` stays a call, and where the table lies is put into memory for it at the
 // start of the function that makes the call, so here and not in `advance`, where every P would pay for it.
-fn found_at(t: &[u32], i: usize, c: usize, em: u32, st: line::State) -> Step
-    requires { ⌜ (hasRuby (cellAt (now t) i) ≡ true) × (Advances em (now t) st i c) ⌝ }
-    ensures { λ r. ⌜ r ≡ stepAt em (was t) st i c ⌝ }
+fn found_at(t: &[u32], i: usize, c: usize, st: line::State) -> Step
+    requires { ⌜ (hasRuby (cellAt (now t) i) ≡ true) × (Advances (now t) st i c) ⌝ }
+    ensures { λ r. ⌜ r ≡ stepAt (was t) st i c ⌝ }
 {
-    step_of(word_upto(t, i, c, em), 0, 0, st)
+    step_of(word_upto(t, i, c), 0, 0, st)
 }
 
 // The piece from i up to c after the line so far. Most pieces are a P, or a word in a job without left readings: these have ways of their own, which read no more of the
 // row than they need. It is as short as that so that it still becomes a part of the loops that call it: a step that came back from a call would be kept in memory, and
 // so would every line that is taken on by it.
-pub fn advance(t: &[u32], i: usize, c: usize, em: u32, st: line::State) -> Step
-    requires { ⌜ Advances em (now t) st i c ⌝ }
-    ensures { λ r. ⌜ r ≡ stepAt em (was t) st i c ⌝ }
+pub fn advance(t: &[u32], i: usize, c: usize, st: line::State) -> Step
+    requires { ⌜ Advances (now t) st i c ⌝ }
+    ensures { λ r. ⌜ r ≡ stepAt (was t) st i c ⌝ }
 {
     if has_ruby(t, i) {
         if in_row(t, i) {
             return right_at(t, i, st);
         }
-        return found_at(t, i, c, em, st);
+        return found_at(t, i, c, st);
     }
     plain_at(t, i, st)
 }

@@ -13,7 +13,7 @@ use Rattle.job.specs.Outcome.{Outcome, after, outcome}
 use Rattle.line.specs.declared.Side.the-variants.{Right, Left}
 use Rattle.positions.specs.Positions as rows
 use Rattle.positions.specs.Ready.{LinesReady}
-use Rattle.posjoin.specs.Piece.{headSheet}
+use Rattle.posjoin.specs.Piece.{sheetOf}
 use Rattle.posjoin.specs.Lines as written
 use Rattle.engine.specs.Fault.{long}
 use Rattle.engine.specs.Filled.{Full, Stopped, no-fault, front-is}
@@ -21,7 +21,7 @@ use Rattle.engine.specs.Filled.{Full, Stopped, no-fault, front-is}
 -- the positions of lines that end at `es`, put into lists
 abbrev pub Put : Job → List ℕ → List ℕ → List ℕ → List ℕ → List ℕ → List ℕ → List ℕ → List ℕ → Type 0
 Put job t es base ruby left b r g =
-    let rs = headSheet job t in
+    let rs = sheetOf job t in
     (b ≡ rows.linesOver (rows.baseOf rs) es base) × (r ≡ rows.linesOver (rows.rubyOf rs) es ruby) × (g ≡ rows.linesOver (rows.leftOf rs) es left)
 
 module _ (job : Job) (base ruby left lines : List ℕ) where
@@ -39,9 +39,9 @@ module _ (job : Job) (base ruby left lines : List ℕ) where
     front : rows.lent found 0 n ≡ take n found
     front = ap (λ z. take z found) (sub-zero n)
 
-    pub ready : let es = rows.lent found 0 n in LinesReady (headSheet job t) (length es) es base ruby left
+    pub ready : let es = rows.lent found 0 n in LinesReady (sheetOf job t) (length es) es base ruby left
     ready =
-        subst (λ es. LinesReady (headSheet job t) (length es) es base ruby left) (sym front)
+        subst (λ es. LinesReady (sheetOf job t) (length es) es base ruby left) (sym front)
         (written.front-ready job (full .passed) t (full .holds) n found (front-is full) (full .many) (full .none) base ruby left (room-for .0) (room-for .2) (room-for .3))
 
     pub room : (n ≤ 1024) × (n ≤ length found) × (n ≤ length lines)

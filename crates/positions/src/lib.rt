@@ -10,8 +10,8 @@ ghost use Rattle.basics.specs.Seen.{was};
 ghost use Rattle.spread.specs.Gap.{starts};
 ghost use Rattle.word.specs.Word.{baseStarts};
 ghost use Rattle.line.specs.declared.Side.the-variants.{Right, Left};
-ghost use Rattle.cells.specs.Cells.{size, emAt};
-ghost use Rattle.positions.specs.Positions.{sheetAt, lent, over, first, readingEnd, runsPut, readingBy, baseOf, rubyOf, leftOf, baseOver, sideOver, linesOver};
+ghost use Rattle.cells.specs.Cells.{size};
+ghost use Rattle.positions.specs.Positions.{sheet, lent, over, first, readingEnd, runsPut, readingBy, baseOf, rubyOf, leftOf, baseOver, sideOver, linesOver};
 ghost use Rattle.positions.specs.Ready.{StringReady, LineReady, LinesReady};
 ghost use Rattle.positions.specs.Runs.{RunsReady};
 ghost use Rattle.positions.specs.Piece.{ReadingReady};
@@ -33,19 +33,11 @@ fn put_base(w: word::Word, at: u32, i: usize, c: usize, width: &[u32], base: &mu
 }
 
 // One side's runs of a J from i up to c, each solid over its own character of one em, the first of which starts at `at`.
-fn put_runs(
-    t: &[u32],
-    i: usize,
-    c: usize,
-    side: line::Side,
-    em: u32,
-    at: u32,
-    ws: &[u32],
-    out: &mut [u32],
-)
-    requires { ⌜ RunsReady side em (now t) i c at (now ws) (now out) ⌝ }
-    ensures { λ _. let u = was t in ⌜ now (out .exit) ≡ sets (was out) (first side u i) (runsPut side em u (was ws) (c - i) i at) ⌝ }
+fn put_runs(t: &[u32], i: usize, c: usize, side: line::Side, at: u32, ws: &[u32], out: &mut [u32])
+    requires { ⌜ RunsReady side (now t) i c at (now ws) (now out) ⌝ }
+    ensures { λ _. let u = was t in ⌜ now (out .exit) ≡ sets (was out) (first side u i) (runsPut side u (was ws) (c - i) i at) ⌝ }
 {
+    let em = cells::em_at(t);
     let mut x = at;
     let mut k = i;
     while k < c {
@@ -83,12 +75,12 @@ fn put_reading(
     ws: &[u32],
     out: &mut [u32],
 )
-    requires { ⌜ ReadingReady side (emAt (now t)) (now t) i c v at (now ws) (now out) ⌝ }
-    ensures { λ _. let u = was t in ⌜ now (out .exit) ≡ sets (was out) (first side u i) (readingBy side (emAt u) u (was ws) v i c at) ⌝ }
+    requires { ⌜ ReadingReady side (now t) i c v at (now ws) (now out) ⌝ }
+    ensures { λ _. let u = was t in ⌜ now (out .exit) ≡ sets (was out) (first side u i) (readingBy side u (was ws) v i c at) ⌝ }
 {
     if v.there {
         if v.runs {
-            put_runs(t, i, c, side, cells::em_at(t), at, ws, out);
+            put_runs(t, i, c, side, at, ws, out);
             return;
         }
         let s = cells::share_at(t, i, side);
@@ -121,10 +113,9 @@ fn put_line(
     ruby: &mut [u32],
     left: &mut [u32],
 )
-    requires { ⌜ LineReady (sheetAt (now t) (now width) (now rwidth) (now lwidth)) (l .first) (l .upto) (now base) (now ruby) (now left) ⌝ }
-    ensures { λ _. let g = sheetAt (was t) (was width) (was rwidth) (was lwidth) in let s = l .first in let e = l .upto in ⌜ (now (base .exit) ≡ baseOver g s e (was base)) × (now (ruby .exit) ≡ sideOver Right g s e (was ruby)) × (now (left .exit) ≡ sideOver Left g s e (was left)) ⌝ }
+    requires { ⌜ LineReady (sheet (now t) (now width) (now rwidth) (now lwidth)) (l .first) (l .upto) (now base) (now ruby) (now left) ⌝ }
+    ensures { λ _. let g = sheet (was t) (was width) (was rwidth) (was lwidth) in let s = l .first in let e = l .upto in ⌜ (now (base .exit) ≡ baseOver g s e (was base)) × (now (ruby .exit) ≡ sideOver Right g s e (was ruby)) × (now (left .exit) ≡ sideOver Left g s e (was left)) ⌝ }
 {
-    let em = cells::em_at(t);
     let e = l.upto;
     let mut i = l.first;
     let mut st = line::START;
@@ -132,7 +123,7 @@ fn put_line(
         let a = cells::cell_at(t, i);
         let end = i + a.bases as usize;
         let c = fewer(e, end);
-        let step = cells::advance(t, i, c, em, st);
+        let step = cells::advance(t, i, c, st);
         let w = step.word;
         let over = w.right;
         if over.there {
@@ -159,8 +150,8 @@ pub fn put_lines(
     ruby: &mut [u32],
     left: &mut [u32],
 )
-    requires { ⌜ LinesReady (sheetAt (now t) (now width) (now rwidth) (now lwidth)) (length (now ends)) (now ends) (now base) (now ruby) (now left) ⌝ }
-    ensures { λ _. let g = sheetAt (was t) (was width) (was rwidth) (was lwidth) in let es = was ends in ⌜ (now (base .exit) ≡ linesOver (baseOf g) es (was base)) × (now (ruby .exit) ≡ linesOver (rubyOf g) es (was ruby)) × (now (left .exit) ≡ linesOver (leftOf g) es (was left)) ⌝ }
+    requires { ⌜ LinesReady (sheet (now t) (now width) (now rwidth) (now lwidth)) (length (now ends)) (now ends) (now base) (now ruby) (now left) ⌝ }
+    ensures { λ _. let g = sheet (was t) (was width) (was rwidth) (was lwidth) in let es = was ends in ⌜ (now (base .exit) ≡ linesOver (baseOf g) es (was base)) × (now (ruby .exit) ≡ linesOver (rubyOf g) es (was ruby)) × (now (left .exit) ≡ linesOver (leftOf g) es (was left)) ⌝ }
 {
     let mut s: usize = 0;
     let mut l: usize = 0;

@@ -15,7 +15,7 @@ use Rattle.job.specs.Demands.{lengths-kept}
 use Rattle.filling.specs.Lines.{extentsOf, length-extents}
 use Rattle.positions.specs.Positions.{lent, over}
 use Rattle.positions.specs.Ready.{LinesReady}
-use Rattle.posjoin.specs.Piece.{headSheet}
+use Rattle.posjoin.specs.Piece.{sheetOf}
 use Rattle.engine.specs.Fault.{long}
 use Rattle.engine.specs.Filled.{Full, Stopped, front-is}
 use Rattle.engine.specs.Whole as whole
@@ -40,7 +40,7 @@ module _ {job : Job} {base ruby left lines was wasFar t found far : List ℕ} (m
     full = rw (most .bases, most .rubies, most .lefts, most .ends) filled
 
     -- there is room for the positions, and for the ends of the lines
-    pub lines-ready : let es = lent found 0 n in LinesReady (headSheet job t) (length es) es base ruby left
+    pub lines-ready : let es = lent found 0 n in LinesReady (sheetOf job t) (length es) es base ruby left
     lines-ready = whole.ready job base ruby left lines was wasFar t found far n full
 
     pub ends-room : (n ≤ 1024) × (n ≤ length found) × (n ≤ length lines)
@@ -58,8 +58,8 @@ module _ {job : Job} {base ruby left lines was wasFar t found far : List ℕ} (m
 
       far-long : n ≤ length far
       far-long =
-          let xs = extentsOf (job .em) t 0 (ends job) in
-          omega (arith, full .many, ap length (full .told), length-append xs (drop (length xs) wasFar), length-extents (job .em) t 0 (ends job))
+          let xs = extentsOf t 0 (ends job) in
+          omega (arith, full .many, ap length (full .told), length-append xs (drop (length xs) wasFar), length-extents t 0 (ends job))
 
       room : (baseCount job ≤ length b) × (rubyCount job ≤ length r) × (leftCount job ≤ length g)
       room =

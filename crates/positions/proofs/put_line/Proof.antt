@@ -1,5 +1,5 @@
 -- Before each piece, what is written and what the pieces from there on add make up the whole line; a piece writes its base and its readings, or its one character.
-use mathlib.Core.Path.{_≡_, ap, ap₂, _∙_}
+use mathlib.Core.Path.{_≡_, ap, _∙_}
 use mathlib.Core.Logic.{⊎-elim}
 use Prim.Native.Nat.{ℕ, _-_}
 use lib.ListN.{set}
@@ -7,8 +7,8 @@ use lib.Seq.{sets}
 use Rattle.line.specs.declared.Side.the-variants.{Right, Left}
 use Rattle.line.specs.Setting.{origin}
 use Rattle.cells.specs.declared.Step.{Step}
-use Rattle.cells.specs.Cells.{emAt, stepAt, stop}
-use Rattle.positions.specs.Positions.{Sheet, sheetAt, first, pieceOf, basePut, sidePut}
+use Rattle.cells.specs.Cells.{stepAt, stop}
+use Rattle.positions.specs.Positions.{Sheet, sheet, first, pieceOf, basePut, sidePut}
 use Rattle.positions.specs.Line.{Along}
 use Rattle.positions.specs.Line as one
 use borrow.Author.Needs.{needs}
@@ -17,16 +17,16 @@ use Rattle.positions.proofs.put_line.Statement.{statement}
 use Rattle.positions.proofs.put_line.Tie as tie
 
 abbrev Inv-loop : tie.InvT-loop
-Inv-loop t width rwidth lwidth base₀ ruby₀ left₀ em e i₀ st₀ base ruby left i st = Along (sheetAt t width rwidth lwidth) i₀ e base₀ ruby₀ left₀ i st base ruby left
+Inv-loop t width rwidth lwidth base₀ ruby₀ left₀ e i₀ st₀ base ruby left i st = Along (sheet t width rwidth lwidth) i₀ e base₀ ruby₀ left₀ i st base ruby left
 
 abbrev μ-loop : tie.MeasureT-loop
-μ-loop t width rwidth lwidth base₀ ruby₀ left₀ em e i₀ st₀ base ruby left i st = e - i
+μ-loop t width rwidth lwidth base₀ ruby₀ left₀ e i₀ st₀ base ruby left i st = e - i
 
 abbrev entry : tie.At-loop Inv-loop μ-loop → tie.Start Inv-loop μ-loop
-entry c = c .before .before .before .before .before .before .before .before .before
+entry c = c .before .before .before .before .before .before .before .before
 
 abbrev g : tie.At-loop Inv-loop μ-loop → Sheet
-g c = let a = entry c .args in sheetAt (a .t .now) (a .width .now) (a .rwidth .now) (a .lwidth .now)
+g c = let a = entry c .args in sheet (a .t .now) (a .width .now) (a .rwidth .now) (a .lwidth .now)
 
 -- where the piece ends, and its origin
 abbrev end : tie.At-loop Inv-loop μ-loop → ℕ
@@ -39,16 +39,13 @@ end-is : (c : tie.After-fewer Inv-loop μ-loop) → c .fewer .result ≡ end (c 
 end-is c = c .fewer .ensures ∙ rw (c .before .before .cell-at .ensures)
 
 step-is : (c : tie.After-advance Inv-loop μ-loop) → let b = c .before .before .before .before .before in
-    c .advance .result ≡ stepAt (emAt (entry b .args .t .now)) (entry b .args .t .now) (b .loop .st) (b .loop .i) (end b)
+    c .advance .result ≡ stepAt (entry b .args .t .now) (b .loop .st) (b .loop .i) (end b)
 step-is c =
     let b = c .before .before .before .before .before in
-    c .advance .ensures ∙ ap₂ (λ m z. stepAt m (entry b .args .t .now) (b .loop .st) (b .loop .i) z) (b .before .em-at .ensures) (end-is (c .before))
-
-em-at-requires : tie.Need-em-at-requires Inv-loop μ-loop
-em-at-requires c κs = omega (arith, c .before .before .before .before .before .before .before .pre .table .sound .long)
+    c .advance .ensures ∙ ap (stepAt (entry b .args .t .now) (b .loop .st) (b .loop .i)) (end-is (c .before))
 
 loop-holds : tie.Need-loop-holds Inv-loop μ-loop
-loop-holds c = one.along-first (c .before .before .before .before .before .before .before .before .pre)
+loop-holds c = one.along-first (c .before .before .before .before .before .before .before .pre)
 
 cell-at-requires : tie.Need-cell-at-requires Inv-loop μ-loop
 cell-at-requires c κs = one.held (entry (c .before) .pre) (c .before .loop .inv) (c .loop-test .taken)
@@ -68,7 +65,7 @@ fewer-requires c κs = search needs
 advance-requires : tie.Need-advance-requires Inv-loop μ-loop
 advance-requires c κs =
     let b = c .before .before .before in
-    rw (b .before .before .em-at .ensures, end-is c) (one.can-advance (entry (b .before) .pre) (b .before .loop .inv) (b .loop-test .taken))
+    rw (end-is c) (one.can-advance (entry (b .before) .pre) (b .before .loop .inv) (b .loop-test .taken))
 
 put-base-requires : tie.Need-put-base-requires Inv-loop μ-loop
 put-base-requires c κs =
@@ -152,7 +149,6 @@ put-line-spec =
     (tie.spec
     Inv-loop
     μ-loop
-    em-at-requires
     loop-holds
     cell-at-requires
     cast-end

@@ -1,14 +1,14 @@
 -- Before each line, what is written and what the lines from there on add make up the whole. After the last nothing is left to do.
 use Prim.Native.Nat.{_-_}
 use lib.ListN.{length}
-use Rattle.positions.specs.Positions.{sheetAt}
+use Rattle.positions.specs.Positions.{sheet}
 use Rattle.positions.specs.Lines.{Going, going-first, line-ready, going-next, going-all}
 use native.Mathlib.Omega.{arith}
 use Rattle.positions.proofs.put_lines.Statement.{statement}
 use Rattle.positions.proofs.put_lines.Tie as tie
 
 abbrev Inv-loop : tie.InvT-loop
-Inv-loop t ends width rwidth lwidth base₀ ruby₀ left₀ s₀ l₀ base ruby left s l = Going (sheetAt t width rwidth lwidth) (length ends) ends base₀ ruby₀ left₀ s l base ruby left
+Inv-loop t ends width rwidth lwidth base₀ ruby₀ left₀ s₀ l₀ base ruby left s l = Going (sheet t width rwidth lwidth) (length ends) ends base₀ ruby₀ left₀ s l base ruby left
 
 abbrev μ-loop : tie.MeasureT-loop
 μ-loop t ends width rwidth lwidth base₀ ruby₀ left₀ s₀ l₀ base ruby left s l = length ends - l

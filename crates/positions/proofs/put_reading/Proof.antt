@@ -9,11 +9,8 @@ use Rattle.positions.proofs.put_reading.Tie as tie
 abbrev entry : tie.After-slice-known → tie.Start
 entry c = c .before .before .before
 
-em-at-requires : tie.Need-em-at-requires
-em-at-requires c κs = let a = entry (c .before .before) in omega (arith, a .pre .held)
-
 put-runs-requires : tie.Need-put-runs-requires
-put-runs-requires c κs = let b = c .before .before in rw (c .before .em-at .ensures) (entry (b .before .before) .pre .runs (b .before .if1 .taken) (b .if2 .taken))
+put-runs-requires c κs = let b = c .before in entry (b .before .before) .pre .runs (b .before .if1 .taken) (b .if2 .taken)
 
 same-length : tie.Need-same-length
 same-length c = search needs
@@ -22,9 +19,8 @@ returns : tie.Need-returns
 unfolding readingBy
 returns c =
     let d = c .before .before in
-    let e = d .before .before in
-    let b = e .before in
-    d .put-runs .ensures ∙ rw (e .em-at .ensures, b .before .if1 .taken, b .if2 .taken)
+    let b = d .before .before in
+    d .put-runs .ensures ∙ rw (b .before .if1 .taken, b .if2 .taken)
 
 share-at-requires : tie.Need-share-at-requires
 share-at-requires c κs = let a = entry (c .before .before) in omega (arith, a .pre .held, a .pre .ahead)
@@ -65,7 +61,6 @@ pub put-reading-spec : {M : Type 1} → statement M
 put-reading-spec =
     tie.close
     (tie.spec
-    em-at-requires
     put-runs-requires
     same-length
     returns
