@@ -14,6 +14,11 @@ ghost use Rattle.line.specs.Setting.{furthest, total};
 ghost use Rattle.cells.specs.Put.{bitOf, numbersOf, leftNumbersOf, Copied, Puts, PutsLeft, headed};
 ghost use Rattle.cells.specs.Cells.{size, leftSize, ratiosAt, emAt, leftsAt, leftRowAt, leftAt, rowAt, beside, cellAt, eachOver, rubyWay, overWith, both, part, wordAt, shareOf, seen, elementOf, stepOf, stepAt, Cuts, hasRuby, Plain, Advances};
 
+// Where the head has em, and where it says that the left readings begin: behind the six numbers of the ratios.
+const EM: usize = 6;
+
+const LEFTS: usize = 7;
+
 // How many numbers the head of a table has, how many a row, and how many a row of a left reading.
 pub const HEAD: usize = 8;
 
@@ -91,7 +96,7 @@ pub fn em_at(t: &[u32]) -> u32
     requires { ⌜ size 0 ≤ length (now t) ⌝ }
     ensures { λ r. ⌜ r ≡ emAt (was t) ⌝ }
 {
-    t[6]
+    t[EM]
 }
 
 // The head written: the house ratios, em, and where the left readings begin, 0 where the job has none.
@@ -105,8 +110,8 @@ pub fn put_head(t: &mut [u32], ratios: [[u32; 3]; 2], em: u32, lefts: u32)
     t[3] = ratios[1][0];
     t[4] = ratios[1][1];
     t[5] = ratios[1][2];
-    t[6] = em;
-    t[7] = lefts;
+    t[EM] = em;
+    t[LEFTS] = lefts;
 }
 
 // The left row that begins at `at`.
@@ -131,7 +136,7 @@ fn left_at(t: &[u32], i: usize) -> LeftRow
     requires { ⌜ size (i + 1) ≤ length (now t) ⌝ }
     ensures { λ r. ⌜ r ≡ leftAt (was t) i ⌝ }
 {
-    let from = t[7] as usize;
+    let from = t[LEFTS] as usize;
     if from == 0 {
         return NO_LEFT;
     }
@@ -301,7 +306,7 @@ pub fn put_left(t: &mut [u32], i: usize, l: LeftRow)
     ensures { λ _. ⌜ PutsLeft (was t) i l (now (t .exit)) ⌝ }
 {
     let row = left_numbers_of(l);
-    let from = t[7] as usize;
+    let from = t[LEFTS] as usize;
     copy_row(t, from + LEFT * i, &row);
 }
 
@@ -364,7 +369,7 @@ fn both_upto(t: &[u32], i: usize, c: usize) -> word::Word
     requires { ⌜ (0 < cellAt (now t) i .lefts) × (Cuts (now t) i c) ⌝ }
     ensures { λ w. ⌜ w ≡ both (was t) i c ⌝ }
 {
-    let em = t[6];
+    let em = t[EM];
     let a = cell_at(t, i);
     let z = cell_at(t, c - 1);
     let n = (c - i) as u32;
@@ -392,7 +397,7 @@ pub fn part_upto(t: &[u32], i: usize, c: usize) -> word::Word
     requires { ⌜ Cuts (now t) i c ⌝ }
     ensures { λ w. ⌜ w ≡ part (was t) i c ⌝ }
 {
-    let em = t[6];
+    let em = t[EM];
     let a = cell_at(t, i);
     if 0 < a.lefts {
         return both_upto(t, i, c);
@@ -573,7 +578,7 @@ fn in_row(t: &[u32], i: usize) -> bool
     if cut_at(t, i) {
         return false;
     }
-    t[7] == 0
+    t[LEFTS] == 0
 }
 
 // A word with ruby after the line so far, in a job without left readings.
