@@ -16,8 +16,8 @@
  *     the two ratios too;
  *   - nothing else writes these lists while the call runs. Calls on different lists may run at the same time: there is no
  *     state between calls, no heap and no file;
- *   - 560 kilobytes of stack are free: the functions keep their tables there, 133,688 bytes of them in bv_set_job (14,876 for a small
- *     job and 118,812 for a large one, of which a call uses one), 118,812 in bv_account_job, 479,296 in bv_set_sheet and 487,488 in
+ *   - 560 kilobytes of stack are free: the functions keep their tables there, 133,696 bytes of them in bv_set_job (14,880 for a small
+ *     job and 118,816 for a large one, of which a call uses one), 118,816 in bv_account_job, 479,300 in bv_set_sheet and 487,492 in
  *     bv_account_sheet; the rest is for the calls themselves.
  * Nothing else is asked: any numbers in the lists and the ratios, any profile and any lengths are answered.
  *

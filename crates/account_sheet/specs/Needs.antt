@@ -29,8 +29,8 @@ use Rattle.account_text.specs.Text.{needsText}
 use Rattle.account_sheet.specs.Answer.{refusedText, declinedText}
 
 -- what is asked for to write a refusal: room, and of a line that is declined a table of n rows that tells what it needs
-pub record Declined (em : ℕ) (t : List ℕ) (n measure : ℕ) (r : Refusal) (out : List ℕ) : Type 0 where
-  pub line : numberOf r ≡ 11 → ((Sound em t n) × (placeOf r < n)) × (measure < 2 ^ 31)
+pub record Declined (t : List ℕ) (n measure : ℕ) (r : Refusal) (out : List ℕ) : Type 0 where
+  pub line : numberOf r ≡ 11 → ((Sound t n) × (placeOf r < n)) × (measure < 2 ^ 31)
   pub room : 66 ≤ length out
 
 -- number 11 is the refusal of a line
@@ -56,16 +56,16 @@ module _ {job : Job} {was wasFar t found far : List ℕ} {q : Refusal} (stopped 
 
   -- so what it needs is asked of the table's rows, and they tell it
   module _ {n : ℕ} (many : n ≡ baseCount job) where
-    pub ready : {out : List ℕ} → 66 ≤ length out → Declined (job .em) t n (job .measure) q out
+    pub ready : {out : List ℕ} → 66 ≤ length out → Declined t n (job .measure) q out
     ready room = record { line = λ h. rw many ((sound job (door h) t (table h), ahead h), omega (arith, door h .measure)); room = room }
 
-    pub same-text : refusedText q (neededOf (job .em) t n (placeOf q)) (job .measure) ≡ declinedText job q
+    pub same-text : refusedText q (neededOf t n (placeOf q)) (job .measure) ≡ declinedText job q
     unfolding declinedText
     same-text = go (eqb (numberOf q) 11) refl
       where
         go : (b : Bool) → eqb (numberOf q) 11 ≡ b →
-            refusalText q ++ cond b (needsText (neededOf (job .em) t n (placeOf q)) (job .measure)) [] ≡ refusalText q ++ cond b (needsText (needed job (placeOf q)) (job .measure)) []
+            refusalText q ++ cond b (needsText (neededOf t n (placeOf q)) (job .measure)) [] ≡ refusalText q ++ cond b (needsText (needed job (placeOf q)) (job .measure)) []
         go true e =
             let h = eqb-true (numberOf q) 11 e in
-            ap (λ d. refusalText q ++ needsText d (job .measure)) (ap (λ k. neededOf (job .em) t k (placeOf q)) many ∙ needed-join job (door h) t (table h) (placeOf q) (ahead h))
+            ap (λ d. refusalText q ++ needsText d (job .measure)) (ap (λ k. neededOf t k (placeOf q)) many ∙ needed-join job (door h) t (table h) (placeOf q) (ahead h))
         go false e = refl

@@ -54,8 +54,8 @@ module _ (why : Refusal) (needs measure : ℕ) where
       go false = omega (arith, length-append (refusalText why) [], refusal-short why)
 
 -- The lists of n lines, as a table and the lines' ends and extents tell them; entries that are not used stay.
-pub record Listed (em : ℕ) (t : List ℕ) (n : ℕ) (found far : List ℕ) (was now : Lists) : Type 0 where
-  pub lines : (now .rows ≡ sets (was .rows) 0 (rowsBy em t first 0 (take n found))) × (now .told ≡ sets (was .told) 0 (countsBy t first 0 (take n found)))
+pub record Listed (t : List ℕ) (n : ℕ) (found far : List ℕ) (was now : Lists) : Type 0 where
+  pub lines : (now .rows ≡ sets (was .rows) 0 (rowsBy t first 0 (take n found))) × (now .told ≡ sets (was .told) 0 (countsBy t first 0 (take n found)))
   pub extent : now .wide ≡ sets (was .wide) 0 (take n far)
 
 -- An account is written from its lists and the table of its elements: their kinds are its first column, their left kinds its fourth.
@@ -120,7 +120,7 @@ module _ (job : Job) (rows told wide : List ℕ) (is : 1024 ≡ room rows told w
 
   -- it is accepted, and its n lines are told
   module _ (was wasFar t found far : List ℕ) (n : ℕ) (full : Full job 1024 2048 2048 1024 was wasFar t found far n) (rows2 told2 wide2 : List ℕ)
-      (listed : Listed (job .em) t n found far (lists rows told wide) (lists rows2 told2 wide2)) where
+      (listed : Listed t n found far (lists rows told wide) (lists rows2 told2 wide2)) where
     kept : LinesTold job rows told wide rows2 told2 wide2
     kept = outcome.lines-told job rows told wide 1024 is was wasFar t found far n full rows2 told2 wide2 (listed .lines) (listed .extent)
 

@@ -21,18 +21,17 @@ fn write_declined(
     why: refusal::Refusal,
     t: &[u32; engine::TABLE],
     n: usize,
-    em: u32,
     measure: u32,
     out: &mut [u8],
 ) -> usize
-    requires { ⌜ Declined em (now t) n measure why (now out) ⌝ }
-    ensures { λ r. ⌜ Wrote (was out) 0 (refusedText why (neededOf em (was t) n (placeOf why)) measure) r (now (out .exit)) ⌝ }
+    requires { ⌜ Declined (now t) n measure why (now out) ⌝ }
+    ensures { λ r. ⌜ Wrote (was out) 0 (refusedText why (neededOf (was t) n (placeOf why)) measure) r (now (out .exit)) ⌝ }
 {
     let at = result::write_refusal(why, out);
     if refusal::number(why) != 11 {
         return at;
     }
-    let needed = shortest::needed_extent(t, n, refusal::place(why) as usize, em);
+    let needed = shortest::needed_extent(t, n, refusal::place(why) as usize);
     account_text::put_needs(out, at, needed, measure)
 }
 
@@ -42,16 +41,15 @@ fn put_lists(
     n: usize,
     ends: &[u32; limits::MOST_BASES],
     found: &[u32; limits::MOST_BASES],
-    em: u32,
     rows: &mut [u32],
     told: &mut [u32],
     extents: &mut [u32],
 )
-    requires { ⌜ LinesReady em (now t) n (now ends) (now rows) (now told) ⌝ }
+    requires { ⌜ LinesReady (now t) n (now ends) (now rows) (now told) ⌝ }
     requires { ⌜ (n ≤ 1024) × (n ≤ length (now found)) × (n ≤ length (now extents)) ⌝ }
-    ensures { λ _. ⌜ Listed em (was t) n (was ends) (was found) (listsWas rows told extents) (listsNow (rows .exit) (told .exit) (extents .exit)) ⌝ }
+    ensures { λ _. ⌜ Listed (was t) n (was ends) (was found) (listsWas rows told extents) (listsNow (rows .exit) (told .exit) (extents .exit)) ⌝ }
 {
-    job_account::tell_lines(t, n, ends, em, rows, told);
+    job_account::tell_lines(t, n, ends, rows, told);
     job_account::put_extents(n, found, extents);
 }
 
@@ -118,11 +116,9 @@ pub fn account_sheet(
                 runs,
                 lruns,
             ) {
-                filling::Lines::Refused(why) => {
-                    write_declined(why, &t, n.bases, set[0], set[1], out)
-                }
+                filling::Lines::Refused(why) => { write_declined(why, &t, n.bases, set[1], out) }
                 filling::Lines::Filled(k) => {
-                    put_lists(&t, k, &ends, &found, set[0], rows, told, extents);
+                    put_lists(&t, k, &ends, &found, rows, told, extents);
                     write_clear(k, n.elements, elem, rows, told, extents, out)
                 }
             }

@@ -26,14 +26,18 @@ use Rattle.cells.specs.declared.LeftRow.{LeftRow}
 use Rattle.cells.specs.declared.Share.{Share}
 use Rattle.cells.specs.declared.Step.{Step}
 
--- how many numbers a table of n rows has: seven at its head, and nineteen a row; and how many the left rows of n base characters have
+-- how many numbers a table of n rows has: eight at its head, and nineteen a row; and how many the left rows of n base characters have
 abbrev pub size : ℕ → ℕ
-size n = 7 + 19 * n
+size n = 8 + 19 * n
 
 abbrev pub leftSize : ℕ → ℕ
 leftSize n = 8 * n
 
--- the house ratios, at its head
+-- what stands at its head: the house ratios, and em
+pub record Head : Type 0 where
+  pub ratios : Ratios
+  pub em : ℕ
+
 abbrev pub ratiosAt : List ℕ → Ratios
 ratiosAt t =
     record {
@@ -41,9 +45,15 @@ ratiosAt t =
       base = record { a = getD t 3 0; m = getD t 4 0; c = getD t 5 0 };
     }
 
--- where the left readings begin, behind the rows; 0 where there are none
+abbrev pub emAt : List ℕ → ℕ
+emAt t = getD t 6 0
+
+abbrev pub headAt : List ℕ → Head
+headAt t = record { ratios = ratiosAt t; em = emAt t }
+
+-- and where the left readings begin, behind the rows; 0 where there are none
 abbrev pub leftsAt : List ℕ → ℕ
-leftsAt t = getD t 6 0
+leftsAt t = getD t 7 0
 
 abbrev pub noLeft : LeftRow
 noLeft = record { from = 0; upto = 0; within = 0; runs = false; first = 0; many = 0; own = 0; more = false }
@@ -164,25 +174,25 @@ abbrev pub overWith : ℕ → Cell → ℕ
 overWith em z = z .over + cond (ltb em (z .own)) 1 0
 
 -- the base characters i up to c of a J, by the rows of the first and the last of them: with a left reading, and without
-unfoldable pub both : ℕ → List ℕ → ℕ → ℕ → Word
+unfoldable pub both : List ℕ → ℕ → ℕ → Word
 unfolding bothBy
-both em t i c =
+both t i c =
     let a = cellAt t i in
     let z = cellAt t (c - 1) in
-    bothBy (ratiosAt t) em (c - i) (record { width = a .own; count = a .rubies }) (record { width = a .ownleft; count = a .lefts }) (z .own) (z .ownleft)
+    bothBy (ratiosAt t) (emAt t) (c - i) (record { width = a .own; count = a .rubies }) (record { width = a .ownleft; count = a .lefts }) (z .own) (z .ownleft)
 
-unfoldable pub part : ℕ → List ℕ → ℕ → ℕ → Word
+unfoldable pub part : List ℕ → ℕ → ℕ → Word
 unfolding partBy both
-part em t i c =
+part t i c =
     let a = cellAt t i in
     let z = cellAt t (c - 1) in
-    cond (ltb 0 (a .lefts)) (both em t i c)
-    (partBy (ratiosAt t) em (c - i) (z .wide + z .own - a .wide) (z .ruby + z .rubies - a .ruby) (eqb (a .over) (overWith em z)) (a .own) (z .own) (a .western))
+    cond (ltb 0 (a .lefts)) (both t i c)
+    (partBy (ratiosAt t) (emAt t) (c - i) (z .wide + z .own - a .wide) (z .ruby + z .rubies - a .ruby) (eqb (a .over) (overWith (emAt t) z)) (a .own) (z .own) (a .western))
 
 -- the word of the piece from i up to c, its element's end or a break within it: no other element than a J is ever cut
-unfoldable pub wordAt : ℕ → List ℕ → ℕ → ℕ → Word
+unfoldable pub wordAt : List ℕ → ℕ → ℕ → Word
 unfolding part
-wordAt em t i c = cond (cellAt t i .cut) (part em t i c) (cellAt t i .word)
+wordAt t i c = cond (cellAt t i .cut) (part t i c) (cellAt t i .word)
 
 -- a word as a line sees it
 abbrev pub seen : Reading → line.Reading
@@ -191,8 +201,8 @@ seen v = record { there = v .there; from = v .from; upto = v .upto }
 abbrev pub elementOf : Word → ℕ → ℕ → Element
 elementOf w before after = record { front = w .front; len = w .len; right = seen (w .right); left = seen (w .left); before = before; after = after }
 
-abbrev pub piece : ℕ → List ℕ → ℕ → ℕ → Element
-piece em t i c = elementOf (wordAt em t i c) (cellAt t i .before) (cellAt t i .after)
+abbrev pub piece : List ℕ → ℕ → ℕ → Element
+piece t i c = elementOf (wordAt t i c) (cellAt t i .before) (cellAt t i .after)
 
 -- one piece more
 abbrev pub next : State → Element → State
@@ -203,57 +213,57 @@ abbrev pub stepOf : Word → ℕ → ℕ → State → Step
 stepOf w before after st = let e = elementOf w before after in record { word = w; at = origin st e; st = next st e }
 
 -- the piece from i up to c after the line so far
-abbrev pub stepAt : ℕ → List ℕ → State → ℕ → ℕ → Step
-stepAt em t st i c = stepOf (wordAt em t i c) (cellAt t i .before) (cellAt t i .after) st
+abbrev pub stepAt : List ℕ → State → ℕ → ℕ → Step
+stepAt t st i c = stepOf (wordAt t i c) (cellAt t i .before) (cellAt t i .after) st
 
 -- the piece from i ends with its element, or where the line does
 abbrev pub stop : List ℕ → ℕ → ℕ → ℕ
 stop t i c = min c (i + cellAt t i .bases)
 
 -- from i on up to c, at most k pieces
-unfoldable pub walk : ℕ → List ℕ → ℕ → State → ℕ → ℕ → State
+unfoldable pub walk : List ℕ → ℕ → State → ℕ → ℕ → State
 unfolding wordAt
-walk em t zero st i c = st
-walk em t (suc k) st i c = cond (ltb i c) (walk em t k (next st (piece em t i (stop t i c))) (i + cellAt t i .bases) c) st
+walk t zero st i c = st
+walk t (suc k) st i c = cond (ltb i c) (walk t k (next st (piece t i (stop t i c))) (i + cellAt t i .bases) c) st
 
-abbrev pub rest : ℕ → List ℕ → State → ℕ → ℕ → State
-rest em t st i c = walk em t (c - i) st i c
+abbrev pub rest : List ℕ → State → ℕ → ℕ → State
+rest t st i c = walk t (c - i) st i c
 
 -- the line from s up to c
-abbrev pub stateAt : ℕ → List ℕ → ℕ → ℕ → State
-stateAt em t s c = rest em t start s c
+abbrev pub stateAt : List ℕ → ℕ → ℕ → State
+stateAt t s c = rest t start s c
 
 -- a line may end before base character c of n: at the job's end, or by the row of the one before it
 abbrev pub mayEnd : List ℕ → ℕ → ℕ → Bool
 mayEnd t n c = let a = cellAt t (c - 1) in eqb c n || cond (eqb (a .bases) 1) (a .ends) (a .cut)
 
 -- the line from s up to c ends within the limit, in half units
-abbrev pub holds : ℕ → ℕ → List ℕ → ℕ → ℕ → Bool
-holds em limit t s c = leb (furthest (stateAt em t s c)) limit
+abbrev pub holds : ℕ → List ℕ → ℕ → ℕ → Bool
+holds limit t s c = leb (furthest (stateAt t s c)) limit
 
 -- the last of the k numbers behind s that passes a test, or d
 unfoldable pub lastOf : (ℕ → Bool) → ℕ → ℕ → ℕ → ℕ
 lastOf p d s zero = d
 lastOf p d s (suc k) = cond (p (s + suc k)) (s + suc k) (lastOf p d s k)
 
-abbrev pub breaks : ℕ → ℕ → List ℕ → ℕ → ℕ → ℕ → Bool
-breaks em limit t n s c = mayEnd t n c && holds em limit t s c
+abbrev pub breaks : ℕ → List ℕ → ℕ → ℕ → ℕ → Bool
+breaks limit t n s c = mayEnd t n c && holds limit t s c
 
 -- where the line from s ends, of n base characters: the furthest permitted break whose line can be set, or 0
-unfoldable pub endOf : ℕ → ℕ → List ℕ → ℕ → ℕ → ℕ
+unfoldable pub endOf : ℕ → List ℕ → ℕ → ℕ → ℕ
 unfolding lastOf walk
-endOf em limit t n s = lastOf (breaks em limit t n s) 0 s (n - s)
+endOf limit t n s = lastOf (breaks limit t n s) 0 s (n - s)
 
 -- the ends of at most k lines from s on
-unfoldable pub endsFrom : ℕ → ℕ → List ℕ → ℕ → ℕ → ℕ → List ℕ
+unfoldable pub endsFrom : ℕ → List ℕ → ℕ → ℕ → ℕ → List ℕ
 unfolding endOf
-endsFrom em limit t n zero s = []
-endsFrom em limit t n (suc k) s = let e = endOf em limit t n s in cond (eqb e 0) [] (e ∷ endsFrom em limit t n k e)
+endsFrom limit t n zero s = []
+endsFrom limit t n (suc k) s = let e = endOf limit t n s in cond (eqb e 0) [] (e ∷ endsFrom limit t n k e)
 
 -- the ends of all lines of a table of n rows
-unfoldable pub linesOf : ℕ → ℕ → List ℕ → ℕ → List ℕ
+unfoldable pub linesOf : ℕ → List ℕ → ℕ → List ℕ
 unfolding endsFrom
-linesOf em limit t n = endsFrom em limit t n n 0
+linesOf limit t n = endsFrom limit t n n 0
 
 -- What a part is measured by: the ruby from the run of one row up to and with that of another, and the first one's left run.
 
@@ -265,8 +275,8 @@ pub record Ran (a z : Cell) : Type 0 where
   pub fewLeft : a .lefts ≤ 4096
   pub narrowLeft : a .ownleft ≤ 262144
 
-pub record Cuts (em : ℕ) (t : List ℕ) (i c : ℕ) : Type 0 where
-  pub small : em ≤ 4096
+pub record Cuts (t : List ℕ) (i c : ℕ) : Type 0 where
+  pub small : emAt t ≤ 4096
   pub house : Housed (ratiosAt t)
   pub ahead : i < c
   pub few : c ≤ i + 32
@@ -292,10 +302,10 @@ pub record Flat (a : Cell) : Type 0 where
   pub after : a .after ≡ 0
 
 -- What a line asks for, to be taken on by the piece from i up to c.
-pub record Advances (em : ℕ) (t : List ℕ) (st : State) (i c : ℕ) : Type 0 where
+pub record Advances (t : List ℕ) (st : State) (i c : ℕ) : Type 0 where
   pub held : size (i + 1) ≤ length t
-  pub cuts : cellAt t i .cut ≡ true → Cuts em t i c
+  pub cuts : cellAt t i .cut ≡ true → Cuts t i c
   pub plain : hasRuby (cellAt t i) ≡ false → Plain (cellAt t i)
   pub flat : hasRuby (cellAt t i) ≡ true → Flat (cellAt t i)
-  pub short : total (piece em t i c) ≤ 524288
+  pub short : total (piece t i c) ≤ 524288
   pub near : furthest st ≤ 536870912

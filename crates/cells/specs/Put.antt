@@ -12,30 +12,31 @@ use lib.ListN.{length, getD, set, length-set}
 use lib.Seq.{getD-set-same, getD-set-other}
 use Rattle.cells.specs.declared.Cell.{Cell}
 use Rattle.cells.specs.declared.LeftRow.{LeftRow}
-use Rattle.spread.specs.Ratio.{Ratios}
-use Rattle.cells.specs.Cells.{size, leftSize, ratiosAt, leftsAt, noLeft, leftRowAt, leftAt, beside, cellAt}
+use Rattle.cells.specs.Cells.{Head, size, leftSize, headAt, leftsAt, noLeft, leftRowAt, leftAt, beside, cellAt}
 
--- the head: the ruby ratio, then the base ratio, and where the left readings begin
-abbrev pub headed : List ℕ → Ratios → ℕ → List ℕ
-headed t h z = set (set (set (set (set (set (set t 0 (h .ruby .a)) 1 (h .ruby .m)) 2 (h .ruby .c)) 3 (h .base .a)) 4 (h .base .m)) 5 (h .base .c)) 6 z
+-- the head: the ruby ratio, then the base ratio, em, and where the left readings begin
+abbrev pub headed : List ℕ → Head → ℕ → List ℕ
+headed t h z =
+    let r = h .ratios .ruby in
+    let b = h .ratios .base in
+    set (set (set (set (set (set (set (set t 0 (r .a)) 1 (r .m)) 2 (r .c)) 3 (b .a)) 4 (b .m)) 5 (b .c)) 6 (h .em)) 7 z
 
-pub length-headed : (t : List ℕ) (h : Ratios) (z : ℕ) → length (headed t h z) ≡ length t
+pub length-headed : (t : List ℕ) (h : Head) (z : ℕ) → length (headed t h z) ≡ length t
 length-headed t h z = simp length-set
 
-pub head-written : (t : List ℕ) (h : Ratios) (z : ℕ) → size 0 ≤ length t → (ratiosAt (headed t h z) ≡ h) × (leftsAt (headed t h z) ≡ z)
-head-written t h z l = go t (h .ruby .a) (h .ruby .m) (h .ruby .c) (h .base .a) (h .base .m) (h .base .c) l
+pub head-written : (t : List ℕ) (h : Head) (z : ℕ) → size 0 ≤ length t → (headAt (headed t h z) ≡ h) × (leftsAt (headed t h z) ≡ z)
+head-written t h z l = go t l
   where
-    go : (t : List ℕ) (a m c d n e : ℕ) → 7 ≤ length t →
-        let r : Ratios = record { ruby = record { a = a; m = m; c = c }; base = record { a = d; m = n; c = e } } in
-        (ratiosAt (headed t r z) ≡ r) × (leftsAt (headed t r z) ≡ z)
-    go [] a m c d n e l = absurd (omega arith)
-    go (_ ∷ []) a m c d n e l = absurd (omega arith)
-    go (_ ∷ _ ∷ []) a m c d n e l = absurd (omega arith)
-    go (_ ∷ _ ∷ _ ∷ []) a m c d n e l = absurd (omega arith)
-    go (_ ∷ _ ∷ _ ∷ _ ∷ []) a m c d n e l = absurd (omega arith)
-    go (_ ∷ _ ∷ _ ∷ _ ∷ _ ∷ []) a m c d n e l = absurd (omega arith)
-    go (_ ∷ _ ∷ _ ∷ _ ∷ _ ∷ _ ∷ []) a m c d n e l = absurd (omega arith)
-    go (_ ∷ _ ∷ _ ∷ _ ∷ _ ∷ _ ∷ _ ∷ t) a m c d n e l = (refl, refl)
+    go : (t : List ℕ) → 8 ≤ length t → (headAt (headed t h z) ≡ h) × (leftsAt (headed t h z) ≡ z)
+    go [] l = absurd (omega arith)
+    go (_ ∷ []) l = absurd (omega arith)
+    go (_ ∷ _ ∷ []) l = absurd (omega arith)
+    go (_ ∷ _ ∷ _ ∷ []) l = absurd (omega arith)
+    go (_ ∷ _ ∷ _ ∷ _ ∷ []) l = absurd (omega arith)
+    go (_ ∷ _ ∷ _ ∷ _ ∷ _ ∷ []) l = absurd (omega arith)
+    go (_ ∷ _ ∷ _ ∷ _ ∷ _ ∷ _ ∷ []) l = absurd (omega arith)
+    go (_ ∷ _ ∷ _ ∷ _ ∷ _ ∷ _ ∷ _ ∷ []) l = absurd (omega arith)
+    go (_ ∷ _ ∷ _ ∷ _ ∷ _ ∷ _ ∷ _ ∷ _ ∷ t) l = (refl, refl)
 
 abbrev pub bitOf : Bool → ℕ
 bitOf b = cond b 1 0
@@ -80,15 +81,15 @@ copied-more was at row k t h c =
         let e : j ≡ k = omega arith in
         ap (λ z. getD (set t (at + k) (getD row k 0)) (at + z) 0) e ∙ getD-set-same t (at + k) (getD row k 0) 0 (omega (arith, c .long)) ∙ ap (λ z. getD row z 0) (sym e)
 
--- the seven numbers of a head that a write from `at` on leaves
+-- the eight numbers of a head that a write from `at` on leaves
 pub record Headed (was t : List ℕ) : Type 0 where
-  pub ratios : ratiosAt t ≡ ratiosAt was
+  pub head : headAt t ≡ headAt was
   pub lefts : leftsAt t ≡ leftsAt was
 
 same-head : (was : List ℕ) (at : ℕ) (row : List ℕ) (k : ℕ) (t : List ℕ) → size 0 ≤ at → Copied was at row k t → Headed was t
 same-head was at row k t h c =
     record {
-      ratios =
+      head =
           rw (
             c .before 0 (omega arith),
             c .before 1 (omega arith),
@@ -96,8 +97,9 @@ same-head was at row k t h c =
             c .before 3 (omega arith),
             c .before 4 (omega arith),
             c .before 5 (omega arith),
+            c .before 6 (omega arith),
           );
-      lefts = c .before 6 (omega arith);
+      lefts = c .before 7 (omega arith);
     }
 
 -- Numbers that stay: those of a row, and those of a left row.
@@ -161,7 +163,7 @@ Behind t i = 0 < leftsAt t → size (i + 1) ≤ leftsAt t
 pub record Puts (was : List ℕ) (i : ℕ) (c : Cell) (t : List ℕ) : Type 0 where
   pub long : length t ≡ length was
   pub here : cellAt t i ≡ beside c (leftAt t i)
-  pub head : ratiosAt t ≡ ratiosAt was
+  pub head : headAt t ≡ headAt was
   pub lefts : leftsAt t ≡ leftsAt was
   pub left : Behind was i → (j : ℕ) → leftAt t j ≡ leftAt was j
   pub other : Behind was i → (j : ℕ) → (j ≡ i → ⊥) → cellAt t j ≡ cellAt was j
@@ -197,7 +199,7 @@ puts was i c t h =
             bit-is (c .word .right .runs),
             bit-is (c .western),
           );
-      head = top .ratios;
+      head = top .head;
       lefts = top .lefts;
       left = left;
       other = λ b j e. same-row was t j (same j e) ∙ ap (beside (cellAt was j)) (left b j);
@@ -220,7 +222,7 @@ puts was i c t h =
 pub record PutsLeft (was : List ℕ) (i : ℕ) (l : LeftRow) (t : List ℕ) : Type 0 where
   pub long : length t ≡ length was
   pub here : leftAt t i ≡ l
-  pub head : ratiosAt t ≡ ratiosAt was
+  pub head : headAt t ≡ headAt was
   pub lefts : leftsAt t ≡ leftsAt was
   pub other : (j : ℕ) → (j ≡ i → ⊥) → leftAt t j ≡ leftAt was j
   pub row : (j : ℕ) → size (j + 1) ≤ leftsAt was → cellAt t j ≡ beside (cellAt was j) (leftAt t j)
@@ -232,7 +234,7 @@ puts-left was i l t some room h =
     record {
       long = h .long;
       here = there;
-      head = top .ratios;
+      head = top .head;
       lefts = top .lefts;
       other = λ j e. same-left was t j (h .long) (top .lefts) (λ _ f m. same j e f m);
       row = row;

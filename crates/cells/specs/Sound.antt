@@ -26,7 +26,7 @@ use Rattle.line.specs.declared.Element.{Element}
 use Rattle.line.specs.declared.State.{State}
 use Rattle.line.specs.Setting.{furthest, total}
 use Rattle.cells.specs.declared.Cell.{Cell}
-use Rattle.cells.specs.Cells.{size, ratiosAt, leftsAt, rowAt, beside, cellAt, eachOver, rubyWay, partBy, bothBy, overWith, both, part, wordAt, elementOf, piece, stepOf, stepAt, Ran, Cuts, hasRuby, Plain, Flat, Advances}
+use Rattle.cells.specs.Cells.{size, ratiosAt, emAt, leftsAt, rowAt, beside, cellAt, eachOver, rubyWay, partBy, bothBy, overWith, both, part, wordAt, elementOf, piece, stepOf, stepAt, Ran, Cuts, hasRuby, Plain, Flat, Advances}
 use Rattle.cells.specs.Put.{no-left}
 
 -- the row behind a, in the same element
@@ -45,13 +45,13 @@ pub record Row (t : List ℕ) (n i : ℕ) : Type 0 where
   pub follows : 1 < cellAt t i .bases → Follows (cellAt t i) (cellAt t (i + 1))
   pub runs : cellAt t i .cut ≡ true → (c : ℕ) → i < c → c ≤ i + cellAt t i .bases → Ran (cellAt t i) (cellAt t (c - 1))
 
-pub record Sound (em : ℕ) (t : List ℕ) (n : ℕ) : Type 0 where
-  pub small : em ≤ 4096
+pub record Sound (t : List ℕ) (n : ℕ) : Type 0 where
+  pub small : emAt t ≤ 4096
   pub house : Housed (ratiosAt t)
   pub few : n ≤ 1024
   pub long : size n ≤ length t
   pub row : (i : ℕ) → i < n → Row t n i
-  pub wide : (i : ℕ) → i < n → cellAt t i .cut ≡ true → 0 < em
+  pub wide : (i : ℕ) → i < n → cellAt t i .cut ≡ true → 0 < emAt t
 
 -- how long a line sees a word, whatever the depths
 abbrev lengthOf : Word → ℕ
@@ -130,14 +130,14 @@ pub record Lone (a : Cell) : Type 0 where
   pub some : 0 < a .rubies
   pub few : a .rubies ≤ 4096
 
-pub lone : (em : ℕ) (t : List ℕ) (i c : ℕ) → Cuts em t i c → c - i ≡ 1 → Lone (cellAt t i)
-lone em t i c h e =
+pub lone : (t : List ℕ) (i c : ℕ) → Cuts t i c → c - i ≡ 1 → Lone (cellAt t i)
+lone t i c h e =
     let r : Ran (cellAt t i) (cellAt t i) = subst (λ (k : ℕ). Ran (cellAt t i) (cellAt t k)) (omega arith) (h .ran) in
     record { own = omega (arith, r .narrow); some = omega (arith, r .more); few = omega (arith, r .ends) }
 
-pub part-total : (em : ℕ) (t : List ℕ) (i c : ℕ) → Cuts em t i c → lengthOf (part em t i c) ≤ 524288
+pub part-total : (t : List ℕ) (i c : ℕ) → Cuts t i c → lengthOf (part t i c) ≤ 524288
 unfolding part both
-part-total em t i c h = go (ltb 0 (cellAt t i .lefts))
+part-total t i c h = go (ltb 0 (cellAt t i .lefts))
   where
     a : Cell
     a = cellAt t i
@@ -145,36 +145,36 @@ part-total em t i c h = go (ltb 0 (cellAt t i .lefts))
     z : Cell
     z = cellAt t (c - 1)
 
-    block : em * (c - i) ≤ 131072
-    block = mul-le-mul {n₁ = em} {m₁ = c - i} {n₂ = 4096} {m₂ = 32} (h .small) (omega (arith, h .few))
+    block : emAt t * (c - i) ≤ 131072
+    block = mul-le-mul {n₁ = emAt t} {m₁ = c - i} {n₂ = 4096} {m₂ = 32} (h .small) (omega (arith, h .few))
 
     go : (x : Bool) →
-        lengthOf (cond x (both em t i c)
-        (partBy (ratiosAt t) em (c - i) (z .wide + z .own - a .wide) (z .ruby + z .rubies - a .ruby) (eqb (a .over) (overWith em z)) (a .own) (z .own) (a .western))) ≤ 524288
+        lengthOf (cond x (both t i c)
+        (partBy (ratiosAt t) (emAt t) (c - i) (z .wide + z .own - a .wide) (z .ruby + z .rubies - a .ruby) (eqb (a .over) (overWith (emAt t) z)) (a .own) (z .own) (a .western))) ≤ 524288
     go true =
-        both-by-total (ratiosAt t) em (c - i) (record { width = a .own; count = a .rubies }) (record { width = a .ownleft; count = a .lefts }) (z .own) (z .ownleft)
-        block (λ e. lone em t i c h e .own) (h .ran .narrowLeft)
+        both-by-total (ratiosAt t) (emAt t) (c - i) (record { width = a .own; count = a .rubies }) (record { width = a .ownleft; count = a .lefts }) (z .own) (z .ownleft)
+        block (λ e. lone t i c h e .own) (h .ran .narrowLeft)
     go false =
-        by-total (ratiosAt t) em (c - i) (z .wide + z .own - a .wide) (z .ruby + z .rubies - a .ruby) (eqb (a .over) (overWith em z)) (a .own) (z .own) (a .western)
+        by-total (ratiosAt t) (emAt t) (c - i) (z .wide + z .own - a .wide) (z .ruby + z .rubies - a .ruby) (eqb (a .over) (overWith (emAt t) z)) (a .own) (z .own) (a .western)
         block (omega (arith, h .ran .narrow))
 
 -- Every line of a sound table can be taken on by the piece at its end.
 
-module _ (em : ℕ) (t : List ℕ) (n : ℕ) (sound : Sound em t n) (i c : ℕ) (l : i < c) (u : c ≤ i + cellAt t i .bases) (h : i < n) where
-  pub cuts : cellAt t i .cut ≡ true → Cuts em t i c
+module _ (t : List ℕ) (n : ℕ) (sound : Sound t n) (i c : ℕ) (l : i < c) (u : c ≤ i + cellAt t i .bases) (h : i < n) where
+  pub cuts : cellAt t i .cut ≡ true → Cuts t i c
   cuts j =
       let r = sound .row i h in
       record { small = sound .small; house = sound .house; ahead = l; few = omega (arith, r .few); held = omega (arith, sound .long, r .inside); ran = r .runs j c l u }
 
-  pub piece-total : total (piece em t i c) ≤ 524288
+  pub piece-total : total (piece t i c) ≤ 524288
   unfolding wordAt
   piece-total = go (cellAt t i .cut) refl
     where
-      go : (b : Bool) → cellAt t i .cut ≡ b → total (elementOf (cond b (part em t i c) (cellAt t i .word)) (cellAt t i .before) (cellAt t i .after)) ≤ 524288
-      go true j = part-total em t i c (cuts j)
+      go : (b : Bool) → cellAt t i .cut ≡ b → total (elementOf (cond b (part t i c) (cellAt t i .word)) (cellAt t i .before) (cellAt t i .after)) ≤ 524288
+      go true j = part-total t i c (cuts j)
       go false j = sound .row i h .total
 
-  pub advances : (st : State) → furthest st ≤ 524288 * i → Advances em t st i c
+  pub advances : (st : State) → furthest st ≤ 524288 * i → Advances t st i c
   advances st f =
       let r = sound .row i h in
       record {
@@ -187,35 +187,35 @@ module _ (em : ℕ) (t : List ℕ) (n : ℕ) (sound : Sound em t n) (i c : ℕ) 
       }
 
 -- the word of a row that is cut, and of one that is not
-pub cut-word : (em : ℕ) (t : List ℕ) (i c : ℕ) → cellAt t i .cut ≡ true → wordAt em t i c ≡ part em t i c
+pub cut-word : (t : List ℕ) (i c : ℕ) → cellAt t i .cut ≡ true → wordAt t i c ≡ part t i c
 unfolding wordAt
-cut-word em t i c e = rw e
+cut-word t i c e = rw e
 
-pub whole-word : (em : ℕ) (t : List ℕ) (i c : ℕ) → cellAt t i .cut ≡ false → wordAt em t i c ≡ cellAt t i .word
+pub whole-word : (t : List ℕ) (i c : ℕ) → cellAt t i .cut ≡ false → wordAt t i c ≡ cellAt t i .word
 unfolding wordAt
-whole-word em t i c e = rw e
+whole-word t i c e = rw e
 
 -- in a job without left readings a row has its whole word
 pub row-word : (t : List ℕ) (i : ℕ) → leftsAt t ≡ 0 → cellAt t i .word ≡ rowAt t i .word
 row-word t i e = ap (λ l. beside (rowAt t i) l .word) (no-left t i e)
 
 -- a step fits a number
-pub fits : (em : ℕ) (t : List ℕ) (st : State) (i c : ℕ) → Advances em t st i c → furthest st + total (piece em t i c) ≤ 4294967295
-fits em t st i c a = omega (arith, a .short, a .near)
+pub fits : (t : List ℕ) (st : State) (i c : ℕ) → Advances t st i c → furthest st + total (piece t i c) ≤ 4294967295
+fits t st i c a = omega (arith, a .short, a .near)
 
 -- a piece that has ruby, on which none lies
-module _ (em : ℕ) (t : List ℕ) (st : State) (i c : ℕ) (a : Advances em t st i c) (ruby : hasRuby (cellAt t i) ≡ true) where
-  pub flat-fits : furthest st + total (elementOf (wordAt em t i c) 0 0) ≤ 4294967295
-  flat-fits = fits em t st i c a
+module _ (t : List ℕ) (st : State) (i c : ℕ) (a : Advances t st i c) (ruby : hasRuby (cellAt t i) ≡ true) where
+  pub flat-fits : furthest st + total (elementOf (wordAt t i c) 0 0) ≤ 4294967295
+  flat-fits = fits t st i c a
 
   pub row-fits : cellAt t i .cut ≡ false → furthest st + total (elementOf (cellAt t i .word) 0 0) ≤ 4294967295
-  row-fits e = subst (λ w. furthest st + total (elementOf w 0 0) ≤ 4294967295) (whole-word em t i c e) flat-fits
+  row-fits e = subst (λ w. furthest st + total (elementOf w 0 0) ≤ 4294967295) (whole-word t i c e) flat-fits
 
-  pub flat-step : stepOf (wordAt em t i c) 0 0 st ≡ stepAt em t st i c
-  flat-step = let f = a .flat ruby in ap₂ (λ x y. stepOf (wordAt em t i c) x y st) (sym (f .before)) (sym (f .after))
+  pub flat-step : stepOf (wordAt t i c) 0 0 st ≡ stepAt t st i c
+  flat-step = let f = a .flat ruby in ap₂ (λ x y. stepOf (wordAt t i c) x y st) (sym (f .before)) (sym (f .after))
 
-  pub row-step : cellAt t i .cut ≡ false → stepOf (cellAt t i .word) 0 0 st ≡ stepAt em t st i c
-  row-step e = ap (λ w. stepOf w 0 0 st) (sym (whole-word em t i c e)) ∙ flat-step
+  pub row-step : cellAt t i .cut ≡ false → stepOf (cellAt t i .word) 0 0 st ≡ stepAt t st i c
+  row-step e = ap (λ w. stepOf w 0 0 st) (sym (whole-word t i c e)) ∙ flat-step
 
 -- where a row has its whole word
 pub in-row : (t : List ℕ) (i : ℕ) → (not (cellAt t i .cut) && eqb (leftsAt t) 0) ≡ true → (cellAt t i .cut ≡ false) × (leftsAt t ≡ 0)
@@ -226,7 +226,7 @@ in-row t i e = go (cellAt t i .cut) e
     go false e = (refl, eqb-true (leftsAt t) 0 e)
 
 -- and one that has none
-module _ (em : ℕ) (t : List ℕ) (st : State) (i c : ℕ) (a : Advances em t st i c) (ruby : hasRuby (cellAt t i) ≡ false) where
+module _ (t : List ℕ) (st : State) (i c : ℕ) (a : Advances t st i c) (ruby : hasRuby (cellAt t i) ≡ false) where
   uncut : cellAt t i .cut ≡ false
   uncut = go (cellAt t i .cut) ruby
     where
@@ -235,13 +235,13 @@ module _ (em : ℕ) (t : List ℕ) (st : State) (i c : ℕ) (a : Advances em t s
       go false e = refl
 
   pub plain-fits : furthest st + cellAt t i .word .len ≤ 4294967295
-  plain-fits = go (subst (λ w. furthest st + total (elementOf w 0 0) ≤ 4294967295) (whole-word em t i c uncut) (fits em t st i c a))
+  plain-fits = go (subst (λ w. furthest st + total (elementOf w 0 0) ≤ 4294967295) (whole-word t i c uncut) (fits t st i c a))
     where
       go : furthest st + total (elementOf (cellAt t i .word) 0 0) ≤ 4294967295 → furthest st + cellAt t i .word .len ≤ 4294967295
       go h = omega arith
 
-  pub plain-word : cellAt t i .word ≡ wordAt em t i c
-  plain-word = sym (whole-word em t i c uncut)
+  pub plain-word : cellAt t i .word ≡ wordAt t i c
+  plain-word = sym (whole-word t i c uncut)
 
 -- A part of a J is at least as long as its characters of one em.
 
@@ -274,9 +274,9 @@ both-long h em n r l last lastLeft = go (eqb n 1)
     go true = omega arith
     go false = omega arith
 
-pub part-long : (em : ℕ) (t : List ℕ) (i c : ℕ) → 2 * (em * (c - i)) ≤ part em t i c .len
+pub part-long : (t : List ℕ) (i c : ℕ) → 2 * (emAt t * (c - i)) ≤ part t i c .len
 unfolding part both
-part-long em t i c = go (ltb 0 (cellAt t i .lefts))
+part-long t i c = go (ltb 0 (cellAt t i .lefts))
   where
     a : Cell
     a = cellAt t i
@@ -285,39 +285,39 @@ part-long em t i c = go (ltb 0 (cellAt t i .lefts))
     z = cellAt t (c - 1)
 
     go : (x : Bool) →
-        2 * (em * (c - i)) ≤ cond x (both em t i c)
-        (partBy (ratiosAt t) em (c - i) (z .wide + z .own - a .wide) (z .ruby + z .rubies - a .ruby) (eqb (a .over) (overWith em z)) (a .own) (z .own) (a .western)) .len
-    go true = both-long (ratiosAt t) em (c - i) (record { width = a .own; count = a .rubies }) (record { width = a .ownleft; count = a .lefts }) (z .own) (z .ownleft)
+        2 * (emAt t * (c - i)) ≤ cond x (both t i c)
+        (partBy (ratiosAt t) (emAt t) (c - i) (z .wide + z .own - a .wide) (z .ruby + z .rubies - a .ruby) (eqb (a .over) (overWith (emAt t) z)) (a .own) (z .own) (a .western)) .len
+    go true = both-long (ratiosAt t) (emAt t) (c - i) (record { width = a .own; count = a .rubies }) (record { width = a .ownleft; count = a .lefts }) (z .own) (z .ownleft)
     go false =
-        by-long (ratiosAt t) em (c - i) (z .wide + z .own - a .wide) (z .ruby + z .rubies - a .ruby) (eqb (a .over) (overWith em z)) (a .own) (z .own) (a .western)
+        by-long (ratiosAt t) (emAt t) (c - i) (z .wide + z .own - a .wide) (z .ruby + z .rubies - a .ruby) (eqb (a .over) (overWith (emAt t) z)) (a .own) (z .own) (a .western)
 
 -- A part with a left reading, of one character and of more; and one without.
 
-pub both-one : (em : ℕ) (t : List ℕ) (i c : ℕ) → c - i ≡ 1 →
+pub both-one : (t : List ℕ) (i c : ℕ) → c - i ≡ 1 →
     let a = cellAt t i in
-    both em t i c ≡ monosWord (ratiosAt t) em (record { width = em * (c - i); count = c - i }) (record { width = a .own; count = a .rubies }) (record { width = a .ownleft; count = a .lefts })
+    both t i c ≡ monosWord (ratiosAt t) (emAt t) (record { width = emAt t * (c - i); count = c - i }) (record { width = a .own; count = a .rubies }) (record { width = a .ownleft; count = a .lefts })
 unfolding both bothBy
-both-one em t i c h = rw (eq-eqb (c - i) 1 h)
+both-one t i c h = rw (eq-eqb (c - i) 1 h)
 
-pub both-more : (em : ℕ) (t : List ℕ) (i c : ℕ) → (c - i ≡ 1 → ⊥) →
+pub both-more : (t : List ℕ) (i c : ℕ) → (c - i ≡ 1 → ⊥) →
     let a = cellAt t i in
     let z = cellAt t (c - 1) in
-    let b = em * (c - i) in
-    both em t i c ≡ eachOver b (between em b (a .own) (z .own)) (between em b (a .ownleft) (z .ownleft))
+    let b = emAt t * (c - i) in
+    both t i c ≡ eachOver b (between (emAt t) b (a .own) (z .own)) (between (emAt t) b (a .ownleft) (z .ownleft))
 unfolding both bothBy
-both-more em t i c h = rw (ne-eqb (c - i) 1 h)
+both-more t i c h = rw (ne-eqb (c - i) 1 h)
 
-pub part-both : (em : ℕ) (t : List ℕ) (i c : ℕ) → 0 < cellAt t i .lefts → part em t i c ≡ both em t i c
+pub part-both : (t : List ℕ) (i c : ℕ) → 0 < cellAt t i .lefts → part t i c ≡ both t i c
 unfolding part
-part-both em t i c h = rw (lt-ltb 0 (cellAt t i .lefts) h)
+part-both t i c h = rw (lt-ltb 0 (cellAt t i .lefts) h)
 
-pub part-one : (em : ℕ) (t : List ℕ) (i c : ℕ) → cellAt t i .lefts ≡ 0 →
+pub part-one : (t : List ℕ) (i c : ℕ) → cellAt t i .lefts ≡ 0 →
     let a = cellAt t i in
     let z = cellAt t (c - 1) in
-    part em t i c
-    ≡ partBy (ratiosAt t) em (c - i) (z .wide + z .own - a .wide) (z .ruby + z .rubies - a .ruby) (eqb (a .over) (overWith em z)) (a .own) (z .own) (a .western)
+    part t i c
+    ≡ partBy (ratiosAt t) (emAt t) (c - i) (z .wide + z .own - a .wide) (z .ruby + z .rubies - a .ruby) (eqb (a .over) (overWith (emAt t) z)) (a .own) (z .own) (a .western)
 unfolding part
-part-one em t i c h = rw (le-ltb 0 (cellAt t i .lefts) (omega arith))
+part-one t i c h = rw (le-ltb 0 (cellAt t i .lefts) (omega arith))
 
 -- a part of a J without left characters has no left reading
 
@@ -340,9 +340,9 @@ by-bare h em n r m same first last western = go (eqb n 1) same
     go false true = refl
     go false false = way-bare (rubyWay western) Spread h em (em * n) n r m
 
-pub part-bare : (em : ℕ) (t : List ℕ) (i c : ℕ) → cellAt t i .lefts ≡ 0 → part em t i c .left .there ≡ false
-part-bare em t i c h =
+pub part-bare : (t : List ℕ) (i c : ℕ) → cellAt t i .lefts ≡ 0 → part t i c .left .there ≡ false
+part-bare t i c h =
     let a = cellAt t i in
     let z = cellAt t (c - 1) in
-    ap (λ w. w .left .there) (part-one em t i c h)
-    ∙ by-bare (ratiosAt t) em (c - i) (z .wide + z .own - a .wide) (z .ruby + z .rubies - a .ruby) (eqb (a .over) (overWith em z)) (a .own) (z .own) (a .western)
+    ap (λ w. w .left .there) (part-one t i c h)
+    ∙ by-bare (ratiosAt t) (emAt t) (c - i) (z .wide + z .own - a .wide) (z .ruby + z .rubies - a .ruby) (eqb (a .over) (overWith (emAt t) z)) (a .own) (z .own) (a .western)

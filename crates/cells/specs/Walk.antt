@@ -29,7 +29,7 @@ pub record Along (a : Cell) (j : ℕ) (b : Cell) : Type 0 where
   pub cut : a .cut ≡ b .cut
   pub ends : a .ends ≡ b .ends
 
-module _ (em : ℕ) (t : List ℕ) (n : ℕ) (sound : Sound em t n) where
+module _ (t : List ℕ) (n : ℕ) (sound : Sound t n) where
   pub along : (i : ℕ) → i < n → (j : ℕ) → j < cellAt t i .bases → Along (cellAt t i) j (cellAt t (i + j))
   along i h zero l = subst (λ (k : ℕ). Along (cellAt t i) 0 (cellAt t k)) (sym (add-zero i)) (record { bases = omega arith; cut = refl; ends = refl })
   along i h (suc j) l =
@@ -61,49 +61,49 @@ module _ (em : ℕ) (t : List ℕ) (n : ℕ) (sound : Sound em t n) where
         let a = row-before (i + cellAt t i .bases) (omega arith) (omega arith) in
         rw (eq-eqb (cellAt t (i + cellAt t i .bases - 1) .bases) 1 (omega (arith, a .bases))) (ap (λ z. eqb (i + cellAt t i .bases) n || z) (sym (a .ends)))
 
-  enough : (k m : ℕ) (st : State) (i c : ℕ) → c ≤ n → c ≤ i + k → c ≤ i + m → walk em t k st i c ≡ walk em t m st i c
+  enough : (k m : ℕ) (st : State) (i c : ℕ) → c ≤ n → c ≤ i + k → c ≤ i + m → walk t k st i c ≡ walk t m st i c
   unfolding walk
   enough zero zero st i c l h g = refl
   enough zero (suc m) st i c l h g = rw (le-ltb i c (omega arith))
   enough (suc k) zero st i c l h g = rw (le-ltb i c (omega arith))
   enough (suc k) (suc m) st i c l h g =
-      go (decLt i c) (λ z. let s = sound .row i (omega arith) .some in enough k m (next st (piece em t i (stop t i c))) (i + cellAt t i .bases) c l (omega arith) (omega arith))
+      go (decLt i c) (λ z. let s = sound .row i (omega arith) .some in enough k m (next st (piece t i (stop t i c))) (i + cellAt t i .bases) c l (omega arith) (omega arith))
     where
-      go : Dec (i < c) → (i < c → walk em t k (next st (piece em t i (stop t i c))) (i + cellAt t i .bases) c ≡ walk em t m (next st (piece em t i (stop t i c))) (i + cellAt t i .bases) c) →
-          walk em t (suc k) st i c ≡ walk em t (suc m) st i c
+      go : Dec (i < c) → (i < c → walk t k (next st (piece t i (stop t i c))) (i + cellAt t i .bases) c ≡ walk t m (next st (piece t i (stop t i c))) (i + cellAt t i .bases) c) →
+          walk t (suc k) st i c ≡ walk t (suc m) st i c
       go (no z) f = rw (le-ltb i c (omega arith))
       go (yes z) f = rw (lt-ltb i c z) (f z)
 
   -- one piece more
-  pub step : (st : State) (i c : ℕ) → i < c → c ≤ n → rest em t st i c ≡ rest em t (next st (piece em t i (stop t i c))) (i + cellAt t i .bases) c
+  pub step : (st : State) (i c : ℕ) → i < c → c ≤ n → rest t st i c ≡ rest t (next st (piece t i (stop t i c))) (i + cellAt t i .bases) c
   unfolding walk
   step st i c h l =
       enough (c - i) (suc (c - i)) st i c l (omega arith) (omega arith)
       ∙ rw (lt-ltb i c h)
-      (enough (c - i) (c - (i + cellAt t i .bases)) (next st (piece em t i (stop t i c))) (i + cellAt t i .bases) c l (omega (arith, sound .row i (omega arith) .some)) (omega arith))
+      (enough (c - i) (c - (i + cellAt t i .bases)) (next st (piece t i (stop t i c))) (i + cellAt t i .bases) c l (omega (arith, sound .row i (omega arith) .some)) (omega arith))
 
   -- the line goes on from an element's end no further than its rows are many
-  pub next-near : (st : State) (i c : ℕ) → i < c → c ≤ i + cellAt t i .bases → i < n → furthest st ≤ 524288 * i → furthest (next st (piece em t i c)) ≤ 524288 * (i + cellAt t i .bases)
-  next-near st i c l u h f = omega (arith, put-bound st (piece em t i c), piece-total em t n sound i c l u h)
+  pub next-near : (st : State) (i c : ℕ) → i < c → c ≤ i + cellAt t i .bases → i < n → furthest st ≤ 524288 * i → furthest (next st (piece t i c)) ≤ 524288 * (i + cellAt t i .bases)
+  next-near st i c l u h f = omega (arith, put-bound st (piece t i c), piece-total t n sound i c l u h)
 
 -- no piece more
-pub rest-none : (em : ℕ) (t : List ℕ) (st : State) (i c : ℕ) → c ≤ i → rest em t st i c ≡ st
+pub rest-none : (t : List ℕ) (st : State) (i c : ℕ) → c ≤ i → rest t st i c ≡ st
 unfolding walk
-rest-none em t st i c h = rw (none i c h)
+rest-none t st i c h = rw (none i c h)
   where
     none : (i c : ℕ) → c ≤ i → c - i ≡ 0
     none i c h = omega arith
 
 -- a longer line reaches at least as far
-pub grows : (em : ℕ) (t : List ℕ) (k : ℕ) (st : State) (i c : ℕ) → furthest st ≤ furthest (walk em t k st i c)
+pub grows : (t : List ℕ) (k : ℕ) (st : State) (i c : ℕ) → furthest st ≤ furthest (walk t k st i c)
 unfolding walk
-grows em t zero st i c = omega arith
-grows em t (suc k) st i c =
-    let p = piece em t i (stop t i c) in
-    go (ltb i c) (walk em t k (next st p) (i + cellAt t i .bases) c) (grows em t k (next st p) (i + cellAt t i .bases) c)
+grows t zero st i c = omega arith
+grows t (suc k) st i c =
+    let p = piece t i (stop t i c) in
+    go (ltb i c) (walk t k (next st p) (i + cellAt t i .bases) c) (grows t k (next st p) (i + cellAt t i .bases) c)
   where
-    go : (b : Bool) (z : State) → furthest (next st (piece em t i (stop t i c))) ≤ furthest z → furthest st ≤ furthest (cond b z st)
-    go true z h = omega (arith, put-grows st (piece em t i (stop t i c)))
+    go : (b : Bool) (z : State) → furthest (next st (piece t i (stop t i c))) ≤ furthest z → furthest st ≤ furthest (cond b z st)
+    go true z h = omega (arith, put-grows st (piece t i (stop t i c)))
     go false z h = omega arith
 
 -- The last number that passes a test.

@@ -1,4 +1,4 @@
-// The table of a job behind the door: at its head the house ratios and where the left readings begin, then a row of numbers for each base character, and behind the rows,
+// The table of a job behind the door: at its head the house ratios, em and where the left readings begin, then a row of numbers for each base character, and behind the rows,
 // in a job that has left readings, a second one for each with what is known of these. A row says how far its element goes on from here, where a line may end, and
 // what level one has decided of the element; of a J of two characters or more what any part of it is measured by. Nobody above reads classes, widths of words or
 // kinds. One function cuts a J (`part_upto`), one takes a line on by a piece (`advance`). It relies on `word` and `spread` for words and on `line` for places.
@@ -12,10 +12,15 @@ ghost use Rattle.spread.specs.Ratio.{ratiosOf};
 ghost use Rattle.word.specs.Word.{between};
 ghost use Rattle.line.specs.Setting.{furthest, total};
 ghost use Rattle.cells.specs.Put.{bitOf, numbersOf, leftNumbersOf, Copied, Puts, PutsLeft, headed};
-ghost use Rattle.cells.specs.Cells.{size, leftSize, ratiosAt, leftsAt, leftRowAt, leftAt, rowAt, beside, cellAt, eachOver, rubyWay, overWith, both, part, wordAt, shareOf, seen, elementOf, stepOf, stepAt, Cuts, hasRuby, Plain, Advances};
+ghost use Rattle.cells.specs.Cells.{size, leftSize, ratiosAt, emAt, leftsAt, leftRowAt, leftAt, rowAt, beside, cellAt, eachOver, rubyWay, overWith, both, part, wordAt, shareOf, seen, elementOf, stepOf, stepAt, Cuts, hasRuby, Plain, Advances};
+
+// Where the head has em, and where it says that the left readings begin: behind the six numbers of the ratios.
+const EM: usize = 6;
+
+const LEFTS: usize = 7;
 
 // How many numbers the head of a table has, how many a row, and how many a row of a left reading.
-pub const HEAD: usize = 7;
+pub const HEAD: usize = 8;
 
 pub const ROW: usize = 19;
 
@@ -86,10 +91,18 @@ pub fn ratios_at(t: &[u32]) -> [[u32; 3]; 2]
     [[t[0], t[1], t[2]], [t[3], t[4], t[5]]]
 }
 
-// The head written: the house ratios, and where the left readings begin, 0 where the job has none.
-pub fn put_head(t: &mut [u32], ratios: [[u32; 3]; 2], lefts: u32)
+// And em, in units.
+pub fn em_at(t: &[u32]) -> u32
     requires { ⌜ size 0 ≤ length (now t) ⌝ }
-    ensures { λ _. ⌜ now (t .exit) ≡ headed (was t) (ratiosOf ratios) lefts ⌝ }
+    ensures { λ r. ⌜ r ≡ emAt (was t) ⌝ }
+{
+    t[EM]
+}
+
+// The head written: the house ratios, em, and where the left readings begin, 0 where the job has none.
+pub fn put_head(t: &mut [u32], ratios: [[u32; 3]; 2], em: u32, lefts: u32)
+    requires { ⌜ size 0 ≤ length (now t) ⌝ }
+    ensures { λ _. ⌜ now (t .exit) ≡ headed (was t) (record { ratios = ratiosOf ratios; em = em }) lefts ⌝ }
 {
     t[0] = ratios[0][0];
     t[1] = ratios[0][1];
@@ -97,7 +110,8 @@ pub fn put_head(t: &mut [u32], ratios: [[u32; 3]; 2], lefts: u32)
     t[3] = ratios[1][0];
     t[4] = ratios[1][1];
     t[5] = ratios[1][2];
-    t[6] = lefts;
+    t[EM] = em;
+    t[LEFTS] = lefts;
 }
 
 // The left row that begins at `at`.
@@ -122,7 +136,7 @@ fn left_at(t: &[u32], i: usize) -> LeftRow
     requires { ⌜ size (i + 1) ≤ length (now t) ⌝ }
     ensures { λ r. ⌜ r ≡ leftAt (was t) i ⌝ }
 {
-    let from = t[6] as usize;
+    let from = t[LEFTS] as usize;
     if from == 0 {
         return NO_LEFT;
     }
@@ -292,7 +306,7 @@ pub fn put_left(t: &mut [u32], i: usize, l: LeftRow)
     ensures { λ _. ⌜ PutsLeft (was t) i l (now (t .exit)) ⌝ }
 {
     let row = left_numbers_of(l);
-    let from = t[6] as usize;
+    let from = t[LEFTS] as usize;
     copy_row(t, from + LEFT * i, &row);
 }
 
@@ -351,10 +365,11 @@ fn over_with(em: u32, z: Cell) -> u32
 
 // A part of a J with a left J, none of whose runs is longer than one em on either side: one character is set as M with a mono left reading, of more each run stands over
 // its own character on both sides.
-fn both_upto(t: &[u32], i: usize, c: usize, em: u32) -> word::Word
-    requires { ⌜ (0 < cellAt (now t) i .lefts) × (Cuts em (now t) i c) ⌝ }
-    ensures { λ w. ⌜ w ≡ both em (was t) i c ⌝ }
+fn both_upto(t: &[u32], i: usize, c: usize) -> word::Word
+    requires { ⌜ (0 < cellAt (now t) i .lefts) × (Cuts (now t) i c) ⌝ }
+    ensures { λ w. ⌜ w ≡ both (was t) i c ⌝ }
 {
+    let em = t[EM];
     let a = cell_at(t, i);
     let z = cell_at(t, c - 1);
     let n = (c - i) as u32;
@@ -378,13 +393,14 @@ fn both_upto(t: &[u32], i: usize, c: usize, em: u32) -> word::Word
 
 // The one place where a J is cut: the word of its base characters from i up to c. "A part of one character is set as M, a part of more as J": with no run longer than one
 // em each run stands over its own character, else the part is set as G.
-pub fn part_upto(t: &[u32], i: usize, c: usize, em: u32) -> word::Word
-    requires { ⌜ Cuts em (now t) i c ⌝ }
-    ensures { λ w. ⌜ w ≡ part em (was t) i c ⌝ }
+pub fn part_upto(t: &[u32], i: usize, c: usize) -> word::Word
+    requires { ⌜ Cuts (now t) i c ⌝ }
+    ensures { λ w. ⌜ w ≡ part (was t) i c ⌝ }
 {
+    let em = t[EM];
     let a = cell_at(t, i);
     if 0 < a.lefts {
-        return both_upto(t, i, c, em);
+        return both_upto(t, i, c);
     }
     let z = cell_at(t, c - 1);
     let n = (c - i) as u32;
@@ -510,12 +526,12 @@ fn there_at(t: &[u32], i: usize) -> bool
 }
 
 // The word of the piece from i up to c.
-fn word_upto(t: &[u32], i: usize, c: usize, em: u32) -> word::Word
-    requires { ⌜ (size (i + 1) ≤ length (now t)) × (cellAt (now t) i .cut ≡ true → Cuts em (now t) i c) ⌝ }
-    ensures { λ w. ⌜ w ≡ wordAt em (was t) i c ⌝ }
+fn word_upto(t: &[u32], i: usize, c: usize) -> word::Word
+    requires { ⌜ (size (i + 1) ≤ length (now t)) × (cellAt (now t) i .cut ≡ true → Cuts (now t) i c) ⌝ }
+    ensures { λ w. ⌜ w ≡ wordAt (was t) i c ⌝ }
 {
     if cut_at(t, i) {
-        return part_upto(t, i, c, em);
+        return part_upto(t, i, c);
     }
     let a = cell_at(t, i);
     a.word
@@ -562,7 +578,7 @@ fn in_row(t: &[u32], i: usize) -> bool
     if cut_at(t, i) {
         return false;
     }
-    t[6] == 0
+    t[LEFTS] == 0
 }
 
 // A word with ruby after the line so far, in a job without left readings.
@@ -593,34 +609,34 @@ fn right_at(t: &[u32], i: usize, st: line::State) -> Step
 }
 
 // The part of a J from i up to c after the line so far. Ruby lies on no word, so both depths are 0.
-pub fn advance_cut(t: &[u32], i: usize, c: usize, em: u32, st: line::State) -> Step
-    requires { ⌜ (cellAt (now t) i .cut ≡ true) × (Advances em (now t) st i c) ⌝ }
-    ensures { λ r. ⌜ r ≡ stepAt em (was t) st i c ⌝ }
+pub fn advance_cut(t: &[u32], i: usize, c: usize, st: line::State) -> Step
+    requires { ⌜ (cellAt (now t) i .cut ≡ true) × (Advances (now t) st i c) ⌝ }
+    ensures { λ r. ⌜ r ≡ stepAt (was t) st i c ⌝ }
 {
-    step_of(word_upto(t, i, c, em), 0, 0, st)
+    step_of(word_upto(t, i, c), 0, 0, st)
 }
 
 // A word that does not stand in its row, after the line so far. A function of its own: `word_upto` stays a call, and where the table lies is put into memory for it at the
 // start of the function that makes the call, so here and not in `advance`, where every P would pay for it.
-fn found_at(t: &[u32], i: usize, c: usize, em: u32, st: line::State) -> Step
-    requires { ⌜ (hasRuby (cellAt (now t) i) ≡ true) × (Advances em (now t) st i c) ⌝ }
-    ensures { λ r. ⌜ r ≡ stepAt em (was t) st i c ⌝ }
+fn found_at(t: &[u32], i: usize, c: usize, st: line::State) -> Step
+    requires { ⌜ (hasRuby (cellAt (now t) i) ≡ true) × (Advances (now t) st i c) ⌝ }
+    ensures { λ r. ⌜ r ≡ stepAt (was t) st i c ⌝ }
 {
-    step_of(word_upto(t, i, c, em), 0, 0, st)
+    step_of(word_upto(t, i, c), 0, 0, st)
 }
 
 // The piece from i up to c after the line so far. Most pieces are a P, or a word in a job without left readings: these have ways of their own, which read no more of the
 // row than they need. It is as short as that so that it still becomes a part of the loops that call it: a step that came back from a call would be kept in memory, and
 // so would every line that is taken on by it.
-pub fn advance(t: &[u32], i: usize, c: usize, em: u32, st: line::State) -> Step
-    requires { ⌜ Advances em (now t) st i c ⌝ }
-    ensures { λ r. ⌜ r ≡ stepAt em (was t) st i c ⌝ }
+pub fn advance(t: &[u32], i: usize, c: usize, st: line::State) -> Step
+    requires { ⌜ Advances (now t) st i c ⌝ }
+    ensures { λ r. ⌜ r ≡ stepAt (was t) st i c ⌝ }
 {
     if has_ruby(t, i) {
         if in_row(t, i) {
             return right_at(t, i, st);
         }
-        return found_at(t, i, c, em, st);
+        return found_at(t, i, c, st);
     }
     plain_at(t, i, st)
 }

@@ -15,6 +15,9 @@ use Rattle.sheet.specs.declared.Reading.{Reading}
 use Rattle.sheet.specs.declared.Reading.the-variants.{Sound, Refused}
 use Rattle.sheet.specs.Sheet.{Sheet, reading, Tables, Into}
 use Rattle.sheet.specs.Form.{writtenOf}
+use Rattle.door.specs.declared.Checked.{Checked}
+use Rattle.door.specs.declared.Checked.the-variants as door
+use Rattle.door.specs.declared.Checked.the-variants.{Passed}
 use Rattle.job.specs.Refusals.{fault}
 use Rattle.result.specs.Text.{refusalText}
 use Rattle.sheet_job.specs.Tables.{sheetJob, Lent}
@@ -43,17 +46,19 @@ unfoldable pub convertText : List ℕ → List ℕ
 unfolding convertBy reading
 convertText s = convertBy s (reading s .end)
 
--- A sound sheet in its tables, and room for what is written.
-pub record TablesHold (s : List ℕ) (n : Counts) (t : Tables) (out : List ℕ) : Type 0 where
+-- the same by what the code finds: the line at fault, 0 if there is none, and the job's own refusal
+abbrev pub own : Option Refusal → Checked
+own none = Passed
+own (some r) = door.Refused r
+
+abbrev pub verdict : ℕ → Option Refusal → Checked
+verdict line g = cond (eqb line 0) (own g) (door.Refused (OtherForm line))
+
+-- A sound sheet in its tables.
+pub record TablesHold (s : List ℕ) (n : Counts) (t : Tables) : Type 0 where
   pub was : Tables
   pub into : Into s was (Sound n) t
   pub lent : Lent t
-  pub room : length out ≡ 65535
-
--- and form one can hold it
-pub record HoldsReady (s : List ℕ) (n : Counts) (t : Tables) (out : List ℕ) : Type 0 where
-  pub tables : TablesHold s n t out
-  pub holds : faultLine (writtenOf (reading s)) ≡ 0
 
 -- A sheet is converted: the tables hold what was read, and `out` begins with what is written.
 pub record Converted (s : List ℕ) (was : Tables) (out : List ℕ) (r : ℕ) (t : Tables) (newOut : List ℕ) : Type 0 where

@@ -71,8 +71,8 @@ module _ {s : List ℕ} {was t : Tables} {a : Reading} (into : Into s was a t) w
         read = as-read into;
       }
 
-  pub tables-hold : {n : Counts} {out : List ℕ} → a ≡ Sound n → Lent t → length out ≡ 65535 → TablesHold s n t out
-  tables-hold {n} {out} e lent room = record { was = was; into = subst (λ x. Into s was x t) e into; lent = lent; room = room }
+  pub tables-hold : {n : Counts} → a ≡ Sound n → Lent t → TablesHold s n t
+  tables-hold e lent = record { was = was; into = subst (λ x. Into s was x t) e into; lent = lent }
 
   pub converted-written : {out out' : List ℕ} {r : ℕ} → Wrote out 0 (convertText s) r out' → Converted s was out r t out'
   converted-written wrote = record { text = wrote; short = omega (arith, wrote .next, convert-short s); read = as-read into }

@@ -1,16 +1,18 @@
 // The converter of R-6: a sheet of one form in, the same sheet of the other form out, or `refused N P`; bytes to bytes, and nothing is asked of the caller. The tables are lent, so that a program says
 // once how large they are; what each holds afterwards is part of the contract. It relies on `sheet` for the reading, on `other_form` for the other sheet and the line that form one can't hold, on
 // `sheet_job` for the job's own refusal, and on `result` for the text of a refusal.
+ghost use mathlib.Core.Path.{_≡_};
 ghost use Rattle.basics.specs.Seen.{was};
 ghost use Rattle.sheet.specs.Seen.{tablesNow, tablesWas};
-ghost use Rattle.text.specs.Print.{Wrote};
-ghost use Rattle.sheet.specs.Sheet.{tables};
 ghost use Rattle.setter.specs.Answer.{Fits};
-ghost use Rattle.converter.specs.Convert.{HoldsReady, TablesHold, convertText, Converted};
+ghost use Rattle.job.specs.Refusals.{fault};
+ghost use Rattle.sheet_job.specs.Tables.{TablesLong, tablesJob};
+ghost use Rattle.other_form.specs.Ready.{FaultReady};
+ghost use Rattle.other_form.specs.Fault.{lineBy};
+ghost use Rattle.converter.specs.Convert.{verdict, Converted};
 
-// A sound sheet that form one can hold: the other sheet, where its job is accepted.
-fn write_judged(
-    s: &[u8],
+// A sound sheet's tables: "17 .. after 13", and then the refusal of its job.
+fn judge(
     n: sheet::Counts,
     set: &[u32],
     base: &[u32],
@@ -19,11 +21,14 @@ fn write_judged(
     elem: &[u32],
     runs: &[u32],
     lruns: &[u32],
-    out: &mut [u8],
-) -> usize
-    requires { ⌜ HoldsReady (now s) n (tablesNow set base ruby left elem runs lruns) (now out) ⌝ }
-    ensures { λ r. ⌜ Wrote (was out) 0 (convertText (was s)) r (now (out .exit)) ⌝ }
+) -> door::Checked
+    requires { ⌜ FaultReady n (now set) (now elem) × TablesLong n (tablesNow set base ruby left elem runs lruns) ⌝ }
+    ensures { λ r. let job = tablesJob n (tablesWas set base ruby left elem runs lruns) in ⌜ r ≡ verdict (lineBy n (was set) (was elem)) (fault job 1024 2048 2048 1024) ⌝ }
 {
+    let line = other_form::fault_line(n, set, elem);
+    if line != 0 {
+        return door::Checked::Refused(refusal::Refusal::OtherForm(line));
+    }
     let mut t = [0; engine::TABLE];
     let mut ends = [0; limits::MOST_BASES];
     let mut extents = [0; limits::MOST_BASES];
@@ -40,32 +45,9 @@ fn write_judged(
         runs,
         lruns,
     ) {
-        filling::Lines::Refused(why) => result::write_refusal(why, out),
-        filling::Lines::Filled(_) => other_form::write_other(s, n, out),
+        filling::Lines::Refused(why) => door::Checked::Refused(why),
+        filling::Lines::Filled(_) => door::Checked::Passed,
     }
-}
-
-// A sound sheet: "17 .. after 13", and then its job.
-fn convert_tables(
-    s: &[u8],
-    n: sheet::Counts,
-    set: &[u32],
-    base: &[u32],
-    ruby: &[u32],
-    left: &[u32],
-    elem: &[u32],
-    runs: &[u32],
-    lruns: &[u32],
-    out: &mut [u8],
-) -> usize
-    requires { ⌜ TablesHold (now s) n (tablesNow set base ruby left elem runs lruns) (now out) ⌝ }
-    ensures { λ r. ⌜ Wrote (was out) 0 (convertText (was s)) r (now (out .exit)) ⌝ }
-{
-    let line = other_form::fault_line(n, set, elem);
-    if line != 0 {
-        return result::write_refusal(refusal::Refusal::OtherForm(line), out);
-    }
-    write_judged(s, n, set, base, ruby, left, elem, runs, lruns, out)
 }
 
 // Converts a sheet. The answer is how many bytes of `out` are written: the other sheet, or `refused N P`.
@@ -85,17 +67,9 @@ pub fn convert(
 {
     match sheet::read_sheet(s, set, base, ruby, left, elem, runs, lruns) {
         sheet::Reading::Refused(why) => result::write_refusal(why, out),
-        sheet::Reading::Sound(n) => convert_tables(
-            s,
-            n,
-            set,
-            base,
-            ruby,
-            left,
-            elem,
-            runs,
-            lruns,
-            out,
-        ),
+        sheet::Reading::Sound(n) => match judge(n, set, base, ruby, left, elem, runs, lruns) {
+            door::Checked::Refused(why) => result::write_refusal(why, out),
+            door::Checked::Passed => other_form::write_other(s, n, out),
+        },
     }
 }

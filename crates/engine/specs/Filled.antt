@@ -53,7 +53,7 @@ foundOf job base ruby left lines = unless (ownFaults job base ruby left lines) (
 pub record Stopped (job : Job) (base ruby left lines : ℕ) (was wasFar t found far : List ℕ) (q : Refusal) : Type 0 where
   pub first : fault job base ruby left lines ≡ some q
   pub is : found ≡ over (foundOf job base ruby left lines) was
-  pub told : far ≡ over (extentsOf (job .em) t 0 (foundOf job base ruby left lines)) wasFar
+  pub told : far ≡ over (extentsOf t 0 (foundOf job base ruby left lines)) wasFar
   pub holds : ownFaults job base ruby left lines ≡ [] → Holds job t
 
 -- the job has no fault, its table is laid, and the lists have its k lines with their extents; all other entries are as they were
@@ -64,7 +64,7 @@ pub record Full (job : Job) (base ruby left lines : ℕ) (was wasFar t found far
   pub none : linesFaults job ≡ []
   pub many : k ≡ length (ends job)
   pub is : found ≡ over (ends job) was
-  pub told : far ≡ over (extentsOf (job .em) t 0 (ends job)) wasFar
+  pub told : far ≡ over (extentsOf t 0 (ends job)) wasFar
 
 abbrev pub Fills : Job → ℕ → ℕ → ℕ → ℕ → List ℕ → List ℕ → List ℕ → List ℕ → List ℕ → Lines → Type 0
 Fills job base ruby left lines was wasFar t found far (filling.Refused q) = Stopped job base ruby left lines was wasFar t found far q
@@ -127,7 +127,7 @@ module _ {job : Job} {base ruby left lines : ℕ} where
       record {
         first = fault.by-door job base ruby left lines e;
         is = ap (λ es. over es was) (sym empty);
-        told = ap (λ es. over (extentsOf (job .em) t 0 es) wasFar) (sym empty);
+        told = ap (λ es. over (extentsOf t 0 es) wasFar) (sym empty);
         holds = λ own. absurd (some-refused (ownFaults job base ruby left lines) e own);
       }
 
@@ -205,14 +205,14 @@ module _ {job : Job} {base ruby left lines : ℕ} where
       bases = ap (λ (n : Sizes). n .bases) (laid .judged .counted)
 
       -- what `fill_lines` asks for
-      pub fillable : {first found far : List ℕ} → Room job first found far → (Sound (job .em) t (sizes .bases)) × (sizes .bases ≤ length found) × (sizes .bases ≤ length far)
+      pub fillable : {first found far : List ℕ} → Room job first found far → (Sound t (sizes .bases)) × (sizes .bases ≤ length found) × (sizes .bases ≤ length far)
       fillable {found = found} {far = far} room =
-          subst (λ n. (Sound (job .em) t n) × (n ≤ length found) × (n ≤ length far)) (sym bases)
+          subst (λ n. (Sound t n) × (n ≤ length found) × (n ≤ length far)) (sym bases)
           (sound job passed t table, room .ends (passed .fewBase), room .extents (passed .fewBase))
 
       -- and what it told
       module _ (was found wasFar far : List ℕ) where
-        go : (a : Lines) → a ≡ toldOf (baseCount job) (ends job) → found ≡ over (ends job) was → far ≡ over (extentsOf (job .em) t 0 (ends job)) wasFar →
+        go : (a : Lines) → a ≡ toldOf (baseCount job) (ends job) → found ≡ over (ends job) was → far ≡ over (extentsOf t 0 (ends job)) wasFar →
             Fills job base ruby left lines was wasFar t found far a
         go (filling.Refused q) e f g =
             let b = is-stuck (eqb (lastOr 0 (ends job)) (baseCount job)) (length (ends job)) (lastOr 0 (ends job)) q e in
@@ -237,11 +237,11 @@ module _ {job : Job} {base ruby left lines : ℕ} where
 
         abbrev pub Told : Lines → ℕ → Type 0
         Told a n =
-            let es = linesOf (job .em) (2 * job .measure) t n in
-            (a ≡ toldOf n es) × (found ≡ over es was) × (far ≡ over (extentsOf (job .em) t 0 es) wasFar)
+            let es = linesOf (2 * job .measure) t n in
+            (a ≡ toldOf n es) × (found ≡ over es was) × (far ≡ over (extentsOf t 0 es) wasFar)
 
         pub fills : {a r : Lines} → Told a (sizes .bases) → a ≡ r → Fills job base ruby left lines was wasFar t found far r
         fills {a} {r} told same =
             let w : Told a (baseCount job) = subst (Told a) bases told in
             let e = lines-join job passed t table in
-            go r (sym same ∙ w .0 ∙ ap (toldOf (baseCount job)) e) (w .1 ∙ ap (λ es. over es was) e) (w .2 ∙ ap (λ es. over (extentsOf (job .em) t 0 es) wasFar) e)
+            go r (sym same ∙ w .0 ∙ ap (toldOf (baseCount job)) e) (w .1 ∙ ap (λ es. over es was) e) (w .2 ∙ ap (λ es. over (extentsOf t 0 es) wasFar) e)

@@ -1,7 +1,8 @@
 -- The answer and the lists by what was found: the first refusal of all, or the lines that are written.
-use mathlib.Core.Path.{_≡_, refl, sym, ap, _∙_}
+use mathlib.Core.Path.{_≡_, refl, sym, ap, _∙_, subst}
 use mathlib.Core.List.{List, []}
 use Prim.Native.Nat.{ℕ, _≤_}
+use native.Mathlib.Nat.{sub-zero}
 use native.Mathlib.Omega.{arith}
 use lib.ListN.{length, take}
 use Rattle.refusal.specs.declared.Refusal.{Refusal}
@@ -17,6 +18,12 @@ use Rattle.posjoin.specs.Lines as written
 use Rattle.engine.specs.Fault.{long}
 use Rattle.engine.specs.Filled.{Full, Stopped, no-fault, front-is}
 
+-- the positions of lines that end at `es`, put into lists
+abbrev pub Put : Job → List ℕ → List ℕ → List ℕ → List ℕ → List ℕ → List ℕ → List ℕ → List ℕ → Type 0
+Put job t es base ruby left b r g =
+    let rs = sheetOf job t in
+    (b ≡ rows.linesOver (rows.baseOf rs) es base) × (r ≡ rows.linesOver (rows.rubyOf rs) es ruby) × (g ≡ rows.linesOver (rows.leftOf rs) es left)
+
 module _ (job : Job) (base ruby left lines : List ℕ) where
   pub refused : {was wasFar t found far : List ℕ} {q : Refusal} → Stopped job (length base) (length ruby) (length left) (length lines) was wasFar t found far q →
       _≡_ {A = Outcome} (record { answer = Refused q; base = base; ruby = ruby; left = left; lines = lines }) (outcome job base ruby left lines)
@@ -28,9 +35,14 @@ module _ (job : Job) (base ruby left lines : List ℕ) where
     room-for : (baseCount job ≤ length base) × (baseCount job ≤ length lines) × (rubyCount job ≤ length ruby) × (leftCount job ≤ length left)
     room-for = long job (length base) (length ruby) (length left) (length lines) (full .own)
 
-    pub ready : LinesReady (sheetOf job t) n found base ruby left
+    -- the lines' ends, as they are lent
+    front : rows.lent found 0 n ≡ take n found
+    front = ap (λ z. take z found) (sub-zero n)
+
+    pub ready : let es = rows.lent found 0 n in LinesReady (sheetOf job t) (length es) es base ruby left
     ready =
-        written.lines-ready job (full .passed) t (full .holds) n found (front-is full) (full .many) (full .none) base ruby left (room-for .0) (room-for .2) (room-for .3)
+        subst (λ es. LinesReady (sheetOf job t) (length es) es base ruby left) (sym front)
+        (written.front-ready job (full .passed) t (full .holds) n found (front-is full) (full .many) (full .none) base ruby left (room-for .0) (room-for .2) (room-for .3))
 
     pub room : (n ≤ 1024) × (n ≤ length found) × (n ≤ length lines)
     room =
@@ -39,12 +51,12 @@ module _ (job : Job) (base ruby left lines : List ℕ) where
 
     -- the lines are written
     pub sets : (b r g l : List ℕ) →
-        (b ≡ rows.over (rows.byLine (rows.baseOf (sheetOf job t)) 0 (take n found)) base) × (r ≡ rows.over (rows.byLine (rows.rubyOf (sheetOf job t)) 0 (take n found)) ruby)
-        × (g ≡ rows.over (rows.byLine (rows.leftOf (sheetOf job t)) 0 (take n found)) left) →
+        Put job t (rows.lent found 0 n) base ruby left b r g →
         l ≡ rows.over (take n found) lines →
         _≡_ {A = Outcome} (record { answer = Set n; base = b; ruby = r; left = g; lines = l }) (outcome job base ruby left lines)
     unfolding outcome after
-    sets b r g l w v =
+    sets b r g l put v =
+        let w = subst (λ es. Put job t es base ruby left b r g) front put in
         let p = written.base-written job (full .passed) t (full .holds) n found (front-is full) (full .many) (full .none) base (w .0) in
         let q = written.reading-written job (full .passed) t (full .holds) n found (front-is full) (full .many) (full .none) Right ruby (w .1) in
         let u = written.reading-written job (full .passed) t (full .holds) n found (front-is full) (full .many) (full .none) Left left (w .2) in

@@ -105,7 +105,7 @@ pub fn fill_job(
         door::Checked::Refused(why) => return filling::Lines::Refused(why),
         door::Checked::Passed => {}
     }
-    filling::fill_lines(t, sizes.bases, ends, extents, em, 2 * measure)
+    filling::fill_lines(t, sizes.bases, ends, extents, 2 * measure)
 }
 
 // The job set by a table and lists of this size, for its rows and the ends and extents of its lines. It takes the steps of `fill_job` itself and does not call it, for speed alone:
@@ -199,10 +199,10 @@ fn set_table(
         door::Checked::Refused(why) => return job::Answer::Refused(why),
         door::Checked::Passed => {}
     }
-    match filling::fill_lines(t, sizes.bases, ends, extents, em, 2 * measure) {
+    match filling::fill_lines(t, sizes.bases, ends, extents, 2 * measure) {
         filling::Lines::Refused(why) => job::Answer::Refused(why),
         filling::Lines::Filled(n) => {
-            positions::put_lines(t, n, ends, em, width, rwidth, lwidth, base, ruby, left);
+            positions::put_lines(t, &ends[0..n], width, rwidth, lwidth, base, ruby, left);
             positions::put_ends(n, ends, lines);
             job::Answer::Set(n)
         }

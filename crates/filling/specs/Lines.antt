@@ -24,17 +24,17 @@ abbrev pub toldOf : ℕ → List ℕ → Lines
 toldOf n es = let z = lastOr 0 es in cond (eqb z n) (Filled (length es)) (Refused (NoBreak z))
 
 -- the extents of lines that end at es, the first from s on
-abbrev pub extentsOf : ℕ → List ℕ → ℕ → List ℕ → List ℕ
-extentsOf em t s [] = []
-extentsOf em t s (e ∷ es) = furthest (stateAt em t s e) ∷ extentsOf em t e es
+abbrev pub extentsOf : List ℕ → ℕ → List ℕ → List ℕ
+extentsOf t s [] = []
+extentsOf t s (e ∷ es) = furthest (stateAt t s e) ∷ extentsOf t e es
 
-pub length-extents : (em : ℕ) (t : List ℕ) (s : ℕ) (es : List ℕ) → length (extentsOf em t s es) ≡ length es
-length-extents em t s [] = refl
-length-extents em t s (e ∷ es) = ap suc (length-extents em t e es)
+pub length-extents : (t : List ℕ) (s : ℕ) (es : List ℕ) → length (extentsOf t s es) ≡ length es
+length-extents t s [] = refl
+length-extents t s (e ∷ es) = ap suc (length-extents t e es)
 
-extents-snoc : (em : ℕ) (t : List ℕ) (s : ℕ) (es : List ℕ) (e : ℕ) → extentsOf em t s (es ++ (e ∷ [])) ≡ extentsOf em t s es ++ (furthest (stateAt em t (lastOr s es) e) ∷ [])
-extents-snoc em t s [] e = refl
-extents-snoc em t s (d ∷ es) e = ap (λ (l : List ℕ). furthest (stateAt em t s d) ∷ l) (extents-snoc em t d es e)
+extents-snoc : (t : List ℕ) (s : ℕ) (es : List ℕ) (e : ℕ) → extentsOf t s (es ++ (e ∷ [])) ≡ extentsOf t s es ++ (furthest (stateAt t (lastOr s es) e) ∷ [])
+extents-snoc t s [] e = refl
+extents-snoc t s (d ∷ es) e = ap (λ (l : List ℕ). furthest (stateAt t s d) ∷ l) (extents-snoc t d es e)
 
 set-over : (done was : List ℕ) (e : ℕ) → length done < length was → set (over done was) (length done) e ≡ over (done ++ (e ∷ [])) was
 set-over [] [] e h = absurd (omega arith)
@@ -62,65 +62,65 @@ last-in p s (suc k) h = go (p (s + suc k)) (lastOf p 0 s k) (last-in p s k) h
     go false z f h = let q = f h in (q .0, omega (arith, q .1))
 
 -- k lines are found, up to s
-pub record Sofar (em limit : ℕ) (t : List ℕ) (n : ℕ) (was table wasFar far : List ℕ) (s k : ℕ) : Type 0 where
-  pub sound : Sound em t n
+pub record Sofar (limit : ℕ) (t : List ℕ) (n : ℕ) (was table wasFar far : List ℕ) (s k : ℕ) : Type 0 where
+  pub sound : Sound t n
   pub room : n ≤ length was
   pub roomFar : n ≤ length wasFar
   pub done : List ℕ
   pub fuel : ℕ
   pub written : table ≡ over done was
-  pub told : far ≡ over (extentsOf em t 0 done) wasFar
+  pub told : far ≡ over (extentsOf t 0 done) wasFar
   pub many : length done ≡ k
   pub last : lastOr 0 done ≡ s
-  pub all : linesOf em limit t n ≡ done ++ endsFrom em limit t n fuel s
+  pub all : linesOf limit t n ≡ done ++ endsFrom limit t n fuel s
   pub enough : n ≤ s + fuel
   pub few : k ≤ s
   pub upto : s ≤ n
 
-pub sofar-first : (em limit : ℕ) (t : List ℕ) (n : ℕ) (was wasFar : List ℕ) → Sound em t n → n ≤ length was → n ≤ length wasFar → Sofar em limit t n was was wasFar wasFar 0 0
+pub sofar-first : (limit : ℕ) (t : List ℕ) (n : ℕ) (was wasFar : List ℕ) → Sound t n → n ≤ length was → n ≤ length wasFar → Sofar limit t n was was wasFar wasFar 0 0
 unfolding linesOf
-sofar-first em limit t n was wasFar sound room far =
+sofar-first limit t n was wasFar sound room far =
     record { sound = sound; room = room; roomFar = far; done = []; fuel = n; written = refl; told = refl; many = refl; last = refl; all = refl; enough = omega arith; few = zero-le; upto = zero-le }
 
-module _ (em limit : ℕ) (t : List ℕ) (n : ℕ) (was table wasFar far : List ℕ) (s k : ℕ) (q : Sofar em limit t n was table wasFar far s k) where
+module _ (limit : ℕ) (t : List ℕ) (n : ℕ) (was table wasFar far : List ℕ) (s k : ℕ) (q : Sofar limit t n was table wasFar far s k) where
   pub long : length table ≡ length was
   long = ap length (q .written) ∙ length-over (q .done) was (omega (arith, q .many, q .few, q .upto, q .room))
 
   pub long-far : length far ≡ length wasFar
   long-far =
-      let e = length-extents em t 0 (q .done) in
-      ap length (q .told) ∙ length-over (extentsOf em t 0 (q .done)) wasFar (omega (arith, e, q .many, q .few, q .upto, q .roomFar))
+      let e = length-extents t 0 (q .done) in
+      ap length (q .told) ∙ length-over (extentsOf t 0 (q .done)) wasFar (omega (arith, e, q .many, q .few, q .upto, q .roomFar))
 
   -- no line more
-  ended : endOf em limit t n s ≡ 0 → linesOf em limit t n ≡ q .done
+  ended : endOf limit t n s ≡ 0 → linesOf limit t n ≡ q .done
   unfolding endsFrom
   ended e = q .all ∙ ap (λ (l : List ℕ). q .done ++ l) (none (q .fuel)) ∙ append-nil (q .done)
     where
-      none : (f : ℕ) → endsFrom em limit t n f s ≡ []
+      none : (f : ℕ) → endsFrom limit t n f s ≡ []
       none zero = refl
-      none (suc f) = rw (eq-eqb (endOf em limit t n s) 0 e)
+      none (suc f) = rw (eq-eqb (endOf limit t n s) 0 e)
 
-  pub stuck : s < n → endOf em limit t n s ≡ 0 → (Refused (NoBreak s) ≡ toldOf n (linesOf em limit t n)) × (table ≡ over (linesOf em limit t n) was) × (far ≡ over (extentsOf em t 0 (linesOf em limit t n)) wasFar)
+  pub stuck : s < n → endOf limit t n s ≡ 0 → (Refused (NoBreak s) ≡ toldOf n (linesOf limit t n)) × (table ≡ over (linesOf limit t n) was) × (far ≡ over (extentsOf t 0 (linesOf limit t n)) wasFar)
   stuck h e = rw (ended e, q .last, ne-eqb s n (λ z. omega arith)) (refl, q .written, q .told)
 
-  at-end : n ≤ s → endOf em limit t n s ≡ 0
+  at-end : n ≤ s → endOf limit t n s ≡ 0
   unfolding endOf lastOf
-  at-end h = ap (lastOf (breaks em limit t n s) 0 s) (none n s h)
+  at-end h = ap (lastOf (breaks limit t n s) 0 s) (none n s h)
     where
       none : (n s : ℕ) → n ≤ s → n - s ≡ 0
       none n s h = omega arith
 
-  pub full : n ≤ s → (Filled k ≡ toldOf n (linesOf em limit t n)) × (table ≡ over (linesOf em limit t n) was) × (far ≡ over (extentsOf em t 0 (linesOf em limit t n)) wasFar)
+  pub full : n ≤ s → (Filled k ≡ toldOf n (linesOf limit t n)) × (table ≡ over (linesOf limit t n) was) × (far ≡ over (extentsOf t 0 (linesOf limit t n)) wasFar)
   full h = (rw (ended (at-end h), q .last, eq-eqb s n (omega (arith, q .upto)), q .many), rw (ended (at-end h)) (q .written), rw (ended (at-end h)) (q .told))
 
-  module _ (h : s < n) (e : ℕ) (is : e ≡ endOf em limit t n s) (some : e ≡ 0 → ⊥) where
+  module _ (h : s < n) (e : ℕ) (is : e ≡ endOf limit t n s) (some : e ≡ 0 → ⊥) where
     pub further : (s < e) × (e ≤ n)
     unfolding endOf
     further =
-        let r = last-in (breaks em limit t n s) s (n - s) (λ z. some (is ∙ z)) in
+        let r = last-in (breaks limit t n s) s (n - s) (λ z. some (is ∙ z)) in
         (omega (arith, r .0), omega (arith, r .1))
 
-    pub sofar-next : Sofar em limit t n was (set table k e) wasFar (set far k (furthest (stateAt em t s e))) e (k + 1)
+    pub sofar-next : Sofar limit t n was (set table k e) wasFar (set far k (furthest (stateAt t s e))) e (k + 1)
     unfolding endsFrom
     sofar-next =
         record {
@@ -133,17 +133,17 @@ module _ (em limit : ℕ) (t : List ℕ) (n : ℕ) (was table wasFar far : List 
           told = told;
           many = simp length-append (omega (arith, q .many));
           last = last-snoc 0 (q .done) e;
-          all = q .all ∙ ap (λ (l : List ℕ). q .done ++ l) (one (q .fuel) (q .fuel - 1) (omega (arith, q .enough))) ∙ sym (append-assoc (q .done) (e ∷ []) (endsFrom em limit t n (q .fuel - 1) e));
+          all = q .all ∙ ap (λ (l : List ℕ). q .done ++ l) (one (q .fuel) (q .fuel - 1) (omega (arith, q .enough))) ∙ sym (append-assoc (q .done) (e ∷ []) (endsFrom limit t n (q .fuel - 1) e));
           enough = omega (arith, q .enough, further .0);
           few = omega (arith, q .few, further .0);
           upto = further .1;
         }
       where
-        told : set far k (furthest (stateAt em t s e)) ≡ over (extentsOf em t 0 (q .done ++ (e ∷ []))) wasFar
+        told : set far k (furthest (stateAt t s e)) ≡ over (extentsOf t 0 (q .done ++ (e ∷ []))) wasFar
         told =
-            let m = length-extents em t 0 (q .done) in
-            rw (q .told, extents-snoc em t 0 (q .done) e, q .last, sym (m ∙ q .many))
-            (set-over (extentsOf em t 0 (q .done)) wasFar (furthest (stateAt em t s e)) (omega (arith, m, q .many, q .few, q .upto, q .roomFar)))
+            let m = length-extents t 0 (q .done) in
+            rw (q .told, extents-snoc t 0 (q .done) e, q .last, sym (m ∙ q .many))
+            (set-over (extentsOf t 0 (q .done)) wasFar (furthest (stateAt t s e)) (omega (arith, m, q .many, q .few, q .upto, q .roomFar)))
 
-        one : (f g : ℕ) → f ≡ suc g → endsFrom em limit t n f s ≡ e ∷ endsFrom em limit t n g e
+        one : (f g : ℕ) → f ≡ suc g → endsFrom limit t n f s ≡ e ∷ endsFrom limit t n g e
         one f g z = rw (z, ← is, ne-eqb e 0 some)

@@ -12,7 +12,7 @@ use Rattle.line.specs.declared.State.{State}
 use Rattle.line.specs.declared.Side.the-variants.{Right}
 use Rattle.line.specs.Setting.{furthest, origin}
 use Rattle.line.specs.Least.{origin-near}
-use Rattle.cells.specs.Cells.{cellAt, part, wordAt, piece, next}
+use Rattle.cells.specs.Cells.{emAt, cellAt, part, wordAt, piece, next}
 use Rattle.cells.specs.Sound.{part-long}
 use Rattle.filling.specs.declared.Break.{Break}
 use Rattle.filling.specs.Search.{extentUpto, fitsUpto, innerBreak, mostOf, break-none}
@@ -27,19 +27,19 @@ beyond em end limit m h l =
     let e : m * (2 * em) ≡ 2 * (em * m) = mul-comm m (2 * em) ∙ mul-assoc 2 em m in
     omega (arith, k, e)
 
-module _ (em limit : ℕ) (t : List ℕ) (st : State) (i bases : ℕ) (cut : cellAt t i .cut ≡ true) (some : 0 < em) where
-  fails : (c : ℕ) → i + (limit - st .end) / (2 * em) < c → fitsUpto em limit t st i c ≡ false
+module _ (limit : ℕ) (t : List ℕ) (st : State) (i bases : ℕ) (cut : cellAt t i .cut ≡ true) (some : 0 < emAt t) where
+  fails : (c : ℕ) → i + (limit - st .end) / (2 * emAt t) < c → fitsUpto limit t st i c ≡ false
   unfolding wordAt
-  fails c l = lt-leb _ limit (omega (arith, block-far st (piece em t i c), long, beyond em (st .end) limit (c - i) some (omega arith)))
+  fails c l = lt-leb _ limit (omega (arith, block-far st (piece t i c), long, beyond (emAt t) (st .end) limit (c - i) some (omega arith)))
     where
-      long : 2 * (em * (c - i)) ≤ piece em t i c .len
-      long = rw cut (part-long em t i c)
+      long : 2 * (emAt t * (c - i)) ≤ piece t i c .len
+      long = rw cut (part-long t i c)
 
-  pub most : (last : Break) → innerBreak em limit t st i last (mostOf bases (st .end) em limit) ≡ innerBreak em limit t st i last (bases - 1)
+  pub most : (last : Break) → innerBreak limit t st i last (mostOf bases (st .end) (emAt t) limit) ≡ innerBreak limit t st i last (bases - 1)
   unfolding innerBreak
   most last =
-      sym (break-none (fitsUpto em limit t st i) (extentUpto em t st i) last i (mostOf bases (st .end) em limit) (bases - 1) (less _ (bases - 1))
-      (λ c l u. fails c (behind ((limit - st .end) / (2 * em)) (bases - 1) c l u)))
+      sym (break-none (fitsUpto limit t st i) (extentUpto t st i) last i (mostOf bases (st .end) (emAt t) limit) (bases - 1) (less _ (bases - 1))
+      (λ c l u. fails c (behind ((limit - st .end) / (2 * emAt t)) (bases - 1) c l u)))
     where
       less : (q b : ℕ) → min q b ≤ b
       less q b = omega arith

@@ -49,15 +49,14 @@ fn within(
     bases: usize,
     st: line::State,
     last: Break,
-    em: u32,
     limit: u32,
 ) -> Break
-    requires { ⌜ (Stands em (now t) n i st) × (bases ≡ cellAt (now t) i .bases) × (cellAt (now t) i .cut ≡ true) ⌝ }
-    ensures { λ r. ⌜ r ≡ innerBreak em limit (was t) st i last (bases - 1) ⌝ }
+    requires { ⌜ (Stands (now t) n i st) × (bases ≡ cellAt (now t) i .bases) × (cellAt (now t) i .cut ≡ true) ⌝ }
+    ensures { λ r. ⌜ r ≡ innerBreak limit (was t) st i last (bases - 1) ⌝ }
 {
-    let mut k = most_within(bases, st.end, em, limit);
+    let mut k = most_within(bases, st.end, cells::em_at(t), limit);
     while 0 < k {
-        let step = cells::advance_cut(t, i, i + k, em, st);
+        let step = cells::advance_cut(t, i, i + k, st);
         let extent = extent_of(step.st);
         if extent <= limit {
             return Break { at: i + k, extent };
@@ -75,11 +74,10 @@ fn break_behind(
     st: line::State,
     last: Break,
     extent: u32,
-    em: u32,
     limit: u32,
 ) -> Break
-    requires { ⌜ Stands em (now t) n i st ⌝ }
-    ensures { λ r. ⌜ r ≡ behind em limit (was t) i st last extent ⌝ }
+    requires { ⌜ Stands (now t) n i st ⌝ }
+    ensures { λ r. ⌜ r ≡ behind limit (was t) i st last extent ⌝ }
 {
     let a = cells::cell_at(t, i);
     let bases = a.bases as usize;
@@ -92,7 +90,7 @@ fn break_behind(
         }
     }
     if a.cut {
-        return within(t, n, i, bases, st, last, em, limit);
+        return within(t, n, i, bases, st, last, limit);
     }
     last
 }
@@ -109,9 +107,9 @@ fn break_whole(ends: bool, c: usize, last: Break, extent: u32) -> Break
 
 // Where the line from s ends: the furthest permitted break whose line can be set. A J gets copies of the state and of the last break: what goes to a function that
 // is not put into the loop lies in memory, and so would the state of every line.
-fn line_end(t: &[u32], n: usize, s: usize, em: u32, limit: u32) -> Break
-    requires { ⌜ (Sound em (now t) n) × (s < n) ⌝ }
-    ensures { λ r. ⌜ r ≡ endBreak em limit (was t) n s ⌝ }
+fn line_end(t: &[u32], n: usize, s: usize, limit: u32) -> Break
+    requires { ⌜ (Sound (now t) n) × (s < n) ⌝ }
+    ensures { λ r. ⌜ r ≡ endBreak limit (was t) n s ⌝ }
 {
     let mut st = line::START;
     let mut i = s;
@@ -122,16 +120,16 @@ fn line_end(t: &[u32], n: usize, s: usize, em: u32, limit: u32) -> Break
         if a.cut {
             let here = st;
             let kept = last;
-            let step = cells::advance_cut(t, i, c, em, here);
+            let step = cells::advance_cut(t, i, c, here);
             let extent = extent_of(step.st);
-            let found = break_behind(t, n, i, here, kept, extent, em, limit);
+            let found = break_behind(t, n, i, here, kept, extent, limit);
             if limit < extent {
                 return found;
             }
             last = found;
             st = step.st;
         } else {
-            let step = cells::advance(t, i, c, em, st);
+            let step = cells::advance(t, i, c, st);
             let extent = extent_of(step.st);
             if limit < extent {
                 return last;
@@ -155,21 +153,14 @@ pub enum Lines {
 
 // "Lines are filled from the first": the ends of all lines of a table of n rows, at the front of a lent list, and their extents at the front of another. `limit` is the
 // measure in half units.
-pub fn fill_lines(
-    t: &[u32],
-    n: usize,
-    ends: &mut [u32],
-    extents: &mut [u32],
-    em: u32,
-    limit: u32,
-) -> Lines
-    requires { ⌜ (Sound em (now t) n) × (n ≤ length (now ends)) × (n ≤ length (now extents)) ⌝ }
-    ensures { λ a. let es = linesOf em limit (was t) n in ⌜ (a ≡ toldOf n es) × (now (ends .exit) ≡ over es (was ends)) × (now (extents .exit) ≡ over (extentsOf em (was t) 0 es) (was extents)) ⌝ }
+pub fn fill_lines(t: &[u32], n: usize, ends: &mut [u32], extents: &mut [u32], limit: u32) -> Lines
+    requires { ⌜ (Sound (now t) n) × (n ≤ length (now ends)) × (n ≤ length (now extents)) ⌝ }
+    ensures { λ a. let es = linesOf limit (was t) n in ⌜ (a ≡ toldOf n es) × (now (ends .exit) ≡ over es (was ends)) × (now (extents .exit) ≡ over (extentsOf (was t) 0 es) (was extents)) ⌝ }
 {
     let mut s: usize = 0;
     let mut k: usize = 0;
     while s < n {
-        let found = line_end(t, n, s, em, limit);
+        let found = line_end(t, n, s, limit);
         let e = found.at;
         if e == 0 {
             return Lines::Refused(refusal::Refusal::NoBreak(s as u32));

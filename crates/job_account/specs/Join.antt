@@ -42,7 +42,7 @@ indexes job s z = map (λ (p : Piece). firstIn job (p .base)) (pieces job s z)
 
 -- the rows from i on, of at most n pieces, the first of element k, once the line from s up to z is told
 abbrev rowsOn : Job → List ℕ → ℕ → ℕ → ℕ → ℕ → ℕ → ℕ → List ℕ
-rowsOn job t s e n z k i = rowsFrom (job .em) t (indexes job s z) k n (stateOf job s z) (standingIn job s z) i e
+rowsOn job t s e n z k i = rowsFrom t (indexes job s z) k n (stateOf job s z) (standingIn job s z) i e
 
 -- what is told of the line from s up to z, and the pieces from i on, make up the line from s up to e
 record Joined (job : Job) (t : List ℕ) (s e n z k i : ℕ) : Type 0 where
@@ -52,7 +52,7 @@ record Joined (job : Job) (t : List ℕ) (s e n z k i : ℕ) : Type 0 where
 
 -- a whole line
 pub record LineJoined (job : Job) (t : List ℕ) (s e : ℕ) : Type 0 where
-  pub rows : lineRows (job .em) t (firstIn job s) s e ≡ rowsIn job s e
+  pub rows : lineRows t (firstIn job s) s e ≡ rowsIn job s e
   pub many : piecesIn t s e ≡ countIn job s e
   pub ends : firstIn job s + endedIn t s e ≡ firstIn job e
 
@@ -70,7 +70,7 @@ module _ (job : Job) (door : Passed job) (t : List ℕ) (table : Holds job t) (s
   done : (n z k i : ℕ) → z ≡ e → e ≤ i → k ≡ firstIn job e → Joined job t s e n z k i
   done n z k i h l f =
       record {
-        rows = ap (λ r. rowsIn job s z ++ r) (no-rows (job .em) t (indexes job s z) k n (stateOf job s z) (standingIn job s z) i e l) ∙ append-nil (rowsIn job s z) ∙ ap (rowsIn job s) h;
+        rows = ap (λ r. rowsIn job s z ++ r) (no-rows t (indexes job s z) k n (stateOf job s z) (standingIn job s z) i e l) ∙ append-nil (rowsIn job s z) ∙ ap (rowsIn job s) h;
         many = omega (arith, no-pieces t n i e l, ap (countIn job s) h);
         ends = omega (arith, none-ended t n i e l, f);
       }
@@ -112,10 +112,10 @@ module _ (job : Job) (door : Passed job) (t : List ℕ) (table : Holds job t) (s
     more : pieces job s d ≡ pieces job s (x .base) ++ (p ∷ [])
     more = into job x at s d (omega (arith, lies .0, lies .1)) (lies .2) ∙ ap (λ z. pieces job s (x .base) ++ z) (join.the-piece job door t table x at s i d from (lies .1) (lies .2))
 
-    seen-is : piece (job .em) t i d ≡ seen job p
+    seen-is : piece t i d ≡ seen job p
     seen-is = join.piece-join job door t table x at i d (lies .0) (lies .1) (lies .2)
 
-    told : toldAt (job .em) t i d (stateOf job s (x .base)) n (standingIn job s (x .base))
+    told : toldAt t i d (stateOf job s (x .base)) n (standingIn job s (x .base))
         ≡ record { account = accountIn job s d n; start = startIn job s d n; st = stateOf job s d; before = standingIn job s d }
     told =
         ap (λ z. toldOf z (stateOf job s (x .base)) n (standingIn job s (x .base))) seen-is
@@ -168,8 +168,8 @@ module _ (job : Job) (door : Passed job) (t : List ℕ) (table : Holds job t) (s
     step m =
         rw (lt-ltb i e ahead, stop-is, count-indexes)
         (ap₂ (λ (r : Told) z. row (λ j. getD (indexes job s (x .base)) j 0) k (r .start) (r .account)
-        ++ rowsFrom (job .em) t (indexes job s (x .base) ++ (k ∷ [])) next m (r .st) (r .before) z e) told row-end
-        ∙ ap₂ (λ r ks. r ++ rowsFrom (job .em) t ks next m (stateOf job s d) (standingIn job s d) (x .base + x .bases) e) row-is (sym indexes-more))
+        ++ rowsFrom t (indexes job s (x .base) ++ (k ∷ [])) next m (r .st) (r .before) z e) told row-end
+        ∙ ap₂ (λ r ks. r ++ rowsFrom t ks next m (stateOf job s d) (standingIn job s d) (x .base + x .bases) e) row-is (sym indexes-more))
 
     rows-on : (m : ℕ) → rowsIn job s (x .base) ++ rowsOn job t s e (suc m) (x .base) k i ≡ rowsIn job s d ++ rowsOn job t s e m d next (x .base + x .bases)
     rows-on m =
@@ -215,7 +215,7 @@ module _ (job : Job) (door : Passed job) (t : List ℕ) (table : Holds job t) (s
             record {
               rows =
                   rows-on m
-                  ∙ ap (λ r. rowsIn job s d ++ r) (no-rows (job .em) t (indexes job s d) next m (stateOf job s d) (standingIn job s d) (x .base + x .bases) e (omega arith))
+                  ∙ ap (λ r. rowsIn job s d ++ r) (no-rows t (indexes job s d) next m (stateOf job s d) (standingIn job s d) (x .base + x .bases) e (omega arith))
                   ∙ append-nil (rowsIn job s d) ∙ ap (rowsIn job s) is;
               many = omega (arith, pieces-on m, no-pieces t m (x .base + x .bases) e (omega arith), one-more, ap (countIn job s) is);
               ends = omega (arith, ended-on m, next-cut l, none-ended t m (x .base + x .bases) e (omega arith));
@@ -276,9 +276,9 @@ module _ (job : Job) (door : Passed job) (t : List ℕ) (table : Holds job t) (s
           (omega (arith, v .ahead)) h u (e - s - 1) (omega (arith, v .ahead))) in
           record {
             rows =
-                ap₂ (λ n k. rowsFrom (job .em) t [] k n start nothing s e) (one s e l) first
-                ∙ ap (λ ks. rowsFrom (job .em) t ks (firstIn job (x .base)) (suc (e - s - 1)) start nothing s e) (sym (ap (map (λ (p : Piece). firstIn job (p .base))) empty))
-                ∙ ap₂ (λ st b. rowsFrom (job .em) t (indexes job s (x .base)) (firstIn job (x .base)) (suc (e - s - 1)) st b s e)
+                ap₂ (λ n k. rowsFrom t [] k n start nothing s e) (one s e l) first
+                ∙ ap (λ ks. rowsFrom t ks (firstIn job (x .base)) (suc (e - s - 1)) start nothing s e) (sym (ap (map (λ (p : Piece). firstIn job (p .base))) empty))
+                ∙ ap₂ (λ st b. rowsFrom t (indexes job s (x .base)) (firstIn job (x .base)) (suc (e - s - 1)) st b s e)
                 (sym (state-none job s (x .base) empty)) (sym (tell.stands-none job s (x .base) empty))
                 ∙ ap (λ r. r ++ rowsOn job t s e (suc (e - s - 1)) (x .base) (firstIn job (x .base)) s) (sym (tell.rows-none job s (x .base) empty))
                 ∙ j .rows;
@@ -288,12 +288,12 @@ module _ (job : Job) (door : Passed job) (t : List ℕ) (table : Holds job t) (s
 
 -- Line by line.
 module _ (job : Job) (door : Passed job) (t : List ℕ) (table : Holds job t) where
-  pub rows-join : (at : Place) (s : ℕ) (es : List ℕ) (d : ℕ) → at .k ≡ firstIn job s → Chain job s es d → rowsBy (job .em) t at s es ≡ byLine (rowsIn job) s es
+  pub rows-join : (at : Place) (s : ℕ) (es : List ℕ) (d : ℕ) → at .k ≡ firstIn job s → Chain job s es d → rowsBy t at s es ≡ byLine (rowsIn job) s es
   rows-join at s [] d f c = refl
   rows-join at s (e ∷ es) d f c =
       let a = c .0 .at in
       let j = line-join job door t table s e (a .ahead) (a .within) in
-      ap₂ (λ x y. x ++ y) (ap (λ k. lineRows (job .em) t k s e) f ∙ j .rows) (rows-join (behind t s e at) e es d (ap (λ k. k + endedIn t s e) f ∙ j .ends) (c .1))
+      ap₂ (λ x y. x ++ y) (ap (λ k. lineRows t k s e) f ∙ j .rows) (rows-join (behind t s e at) e es d (ap (λ k. k + endedIn t s e) f ∙ j .ends) (c .1))
 
   pub counts-join : (at : Place) (s : ℕ) (es : List ℕ) (d : ℕ) → Chain job s es d → countsBy t at s es ≡ countsFrom job (at .q) s es
   counts-join at s [] d c = refl
@@ -302,7 +302,7 @@ module _ (job : Job) (door : Passed job) (t : List ℕ) (table : Holds job t) wh
       let j = ap (λ n. at .q + n) (line-join job door t table s e (a .ahead) (a .within) .many) in
       ap₂ (λ x y. x ∷ y) j (counts-join (behind t s e at) e es d (c .1) ∙ ap (λ q. countsFrom job q e es) j)
 
-  pub extents-join : (s : ℕ) (es : List ℕ) (d : ℕ) → Chain job s es d → extentsOf (job .em) t s es ≡ extentsFrom job s es
+  pub extents-join : (s : ℕ) (es : List ℕ) (d : ℕ) → Chain job s es d → extentsOf t s es ≡ extentsFrom job s es
   extents-join s [] d c = refl
   extents-join s (e ∷ es) d c =
       let a = c .0 .at in

@@ -27,9 +27,9 @@ use Rattle.job_account.specs.Rows.{otherBy, row, row-by, indexAt, RowRea
 use Rattle.job_account.specs.Table.{toldAt, ended, rowsFrom, lineRows, piecesFrom, piecesIn, endedFrom, endedIn, behind}
 
 -- The line from s up to e can be told: the table is sound, the list has six places for each of its rows, and no more elements are passed and rows told than there are characters before s.
-pub record LineReady (em : ℕ) (t : List ℕ) (s e : ℕ) (from : Place) (out : List ℕ) : Type 0 where
+pub record LineReady (t : List ℕ) (s e : ℕ) (from : Place) (out : List ℕ) : Type 0 where
   pub n : ℕ
-  pub sound : Sound em t n
+  pub sound : Sound t n
   pub ahead : s < e
   pub within : e ≤ n
   pub index : from .k ≤ s
@@ -49,10 +49,10 @@ row-first out p f k x a h = getD-first out (x ∷ a .gap ∷ number (a .reason) 
 
 -- Past the line's end there is no piece.
 
-pub no-rows : (em : ℕ) (t ks : List ℕ) (k n : ℕ) (st : State) (b : Before) (i e : ℕ) → e ≤ i → rowsFrom em t ks k n st b i e ≡ []
+pub no-rows : (t ks : List ℕ) (k n : ℕ) (st : State) (b : Before) (i e : ℕ) → e ≤ i → rowsFrom t ks k n st b i e ≡ []
 unfolding rowsFrom
-no-rows em t ks k zero st b i e h = refl
-no-rows em t ks k (suc n) st b i e h = rw (le-ltb i e h)
+no-rows t ks k zero st b i e h = refl
+no-rows t ks k (suc n) st b i e h = rw (le-ltb i e h)
 
 pub no-pieces : (t : List ℕ) (n i e : ℕ) → e ≤ i → piecesFrom t n i e ≡ 0
 unfolding piecesFrom
@@ -93,7 +93,7 @@ ended-few t (suc n) i e = go (ltb i e) (ended-one t i e) (ended-few t n (i + cel
     go false g h = zero-le
 
 -- Before the piece from i, number j of the line and of element k, the line so far in the state st; ks has the elements' indexes of the pieces before it.
-pub record Along (em : ℕ) (t : List ℕ) (s e : ℕ) (from : Place) (was : List ℕ) (i : ℕ) (st : State) (b : Before) (j k : ℕ) (out : List ℕ) : Type 0 where
+pub record Along (t : List ℕ) (s e : ℕ) (from : Place) (was : List ℕ) (i : ℕ) (st : State) (b : Before) (j k : ℕ) (out : List ℕ) : Type 0 where
   pub fuel : ℕ
   pub enough : e ≤ i + fuel
   pub near : furthest st ≤ 524288 * i
@@ -103,13 +103,13 @@ pub record Along (em : ℕ) (t : List ℕ) (s e : ℕ) (from : Place) (was : Lis
   pub ks : List ℕ
   pub count : length ks ≡ j
   pub told : (m : ℕ) → m < j → indexAt out (from .q) m ≡ getD ks m 0
-  pub rows : sets out (6 * (from .q + j)) (rowsFrom em t ks k fuel st b i e) ≡ sets was (6 * from .q) (lineRows em t (from .k) s e)
+  pub rows : sets out (6 * (from .q + j)) (rowsFrom t ks k fuel st b i e) ≡ sets was (6 * from .q) (lineRows t (from .k) s e)
   pub pieces : j + piecesFrom t fuel i e ≡ piecesIn t s e
   pub ends : k + endedFrom t fuel i e ≡ from .k + endedIn t s e
   pub long : length out ≡ length was
 
-module _ {em : ℕ} {t : List ℕ} {s e : ℕ} {from : Place} {was : List ℕ} (ready : LineReady em t s e from was) where
-  pub along-first : Along em t s e from was s start nothing 0 (from .k) was
+module _ {t : List ℕ} {s e : ℕ} {from : Place} {was : List ℕ} (ready : LineReady t s e from was) where
+  pub along-first : Along t s e from was s start nothing 0 (from .k) was
   along-first =
       record {
         fuel = e - s;
@@ -121,13 +121,13 @@ module _ {em : ℕ} {t : List ℕ} {s e : ℕ} {from : Place} {was : List ℕ} (
         ks = [];
         count = refl;
         told = λ m h. absurd (omega arith);
-        rows = ap (λ z. sets was (6 * z) (lineRows em t (from .k) s e)) (add-zero (from .q));
+        rows = ap (λ z. sets was (6 * z) (lineRows t (from .k) s e)) (add-zero (from .q));
         pieces = omega arith;
         ends = refl;
         long = refl;
       }
 
-  module _ {i : ℕ} {st : State} {b : Before} {j k : ℕ} {out : List ℕ} (q : Along em t s e from was i st b j k out) where
+  module _ {i : ℕ} {st : State} {b : Before} {j k : ℕ} {out : List ℕ} (q : Along t s e from was i st b j k out) where
     pub few-told : (j ≤ 1024) × (k ≤ 2048) × (from .q ≤ 1024)
     few-told =
         let m = ready .sound .few in
@@ -135,8 +135,8 @@ module _ {em : ℕ} {t : List ℕ} {s e : ℕ} {from : Place} {was : List ℕ} (
         (l, omega (arith, q .index, ready .index, ready .ahead, ready .within), omega (arith, ready .few, ready .ahead, ready .within))
 
     -- all is told, and where the walk stands
-    pub told-all : e ≤ i → out ≡ sets was (6 * from .q) (lineRows em t (from .k) s e)
-    told-all h = ap (sets out (6 * (from .q + j))) (sym (no-rows em t (q .ks) k (q .fuel) st b i e h)) ∙ q .rows
+    pub told-all : e ≤ i → out ≡ sets was (6 * from .q) (lineRows t (from .k) s e)
+    told-all h = ap (sets out (6 * (from .q + j))) (sym (no-rows t (q .ks) k (q .fuel) st b i e h)) ∙ q .rows
 
     pub at-end : e ≤ i → record { k = k; q = from .q + j } ≡ behind t s e from
     at-end h = same (omega (arith, q .ends, none-ended t (q .fuel) i e h)) (omega (arith, q .pieces, no-pieces t (q .fuel) i e h))
@@ -149,7 +149,7 @@ module _ {em : ℕ} {t : List ℕ} {s e : ℕ} {from : Place} {was : List ℕ} (
       c = stop t i e
 
       abbrev r : Told
-      r = toldAt em t i (stop t i e) st j b
+      r = toldAt t i (stop t i e) st j b
 
       pub in-table : i < ready .n
       in-table = omega (arith, ready .within)
@@ -163,11 +163,11 @@ module _ {em : ℕ} {t : List ℕ} {s e : ℕ} {from : Place} {was : List ℕ} (
       pub few : (i < 1024) × (0 < cellAt t i .bases) × (cellAt t i .bases ≤ 32)
       few = let row = ready .sound .row i in-table in (omega (arith, in-table, ready .sound .few), row .some, row .few)
 
-      pub can-advance : Advances em t st i (stop t i e)
-      can-advance = advances em t (ready .n) (ready .sound) i (stop t i e) (ahead .0) (ahead .1) in-table st (q .near)
+      pub can-advance : Advances t st i (stop t i e)
+      can-advance = advances t (ready .n) (ready .sound) i (stop t i e) (ahead .0) (ahead .1) in-table st (q .near)
 
       near-next : furthest (r .st) ≤ 524288 * (i + cellAt t i .bases)
-      near-next = next-near em t (ready .n) (ready .sound) st i c (ahead .0) (ahead .1) in-table (q .near)
+      near-next = next-near t (ready .n) (ready .sound) st i c (ahead .0) (ahead .1) in-table (q .near)
 
       -- the numbers of its row are small, and have their places
       pub small : (j ≤ 1024) × (k ≤ 1024) × (from .q ≤ 1024) × (6 * (from .q + j) + 6 ≤ length out)
@@ -179,7 +179,7 @@ module _ {em : ℕ} {t : List ℕ} {s e : ℕ} {from : Place} {was : List ℕ} (
       )
 
       earlier : Earlier j (r .account .reason)
-      earlier = reason-behind j b (piece em t i c) (origin st (piece em t i c)) (q .behind)
+      earlier = reason-behind j b (piece t i c) (origin st (piece t i c)) (q .behind)
 
       pub row-ready : RowReady (r .account) (from .q) j (r .start) out
       row-ready =
@@ -192,7 +192,7 @@ module _ {em : ℕ} {t : List ℕ} {s e : ℕ} {from : Place} {was : List ℕ} (
       this = row (indexAt out (from .q)) k (r .start) (r .account)
 
       -- one row more
-      along-one : Along em t s e from was (i + cellAt t i .bases) (r .st) (r .before) (j + 1) (k + ended t i e) (sets out (6 * (from .q + j)) this)
+      along-one : Along t s e from was (i + cellAt t i .bases) (r .st) (r .before) (j + 1) (k + ended t i e) (sets out (6 * (from .q + j)) this)
       unfolding rowsFrom piecesFrom endedFrom
       along-one = go (q .fuel) (q .enough) (q .rows) (q .pieces) (q .ends)
         where
@@ -228,9 +228,9 @@ module _ {em : ℕ} {t : List ℕ} {s e : ℕ} {from : Place} {was : List ℕ} (
           this-is : this ≡ row (λ m. getD (q .ks) m 0) k (r .start) (r .account)
           this-is = row-by (indexAt out (from .q)) (λ m. getD (q .ks) m 0) j k (r .start) (r .account) earlier (q .told)
 
-          go : (m : ℕ) → e ≤ i + m → sets out (6 * (from .q + j)) (rowsFrom em t (q .ks) k m st b i e) ≡ sets was (6 * from .q) (lineRows em t (from .k) s e) →
+          go : (m : ℕ) → e ≤ i + m → sets out (6 * (from .q + j)) (rowsFrom t (q .ks) k m st b i e) ≡ sets was (6 * from .q) (lineRows t (from .k) s e) →
               j + piecesFrom t m i e ≡ piecesIn t s e → k + endedFrom t m i e ≡ from .k + endedIn t s e →
-              Along em t s e from was (i + cellAt t i .bases) (r .st) (r .before) (j + 1) (k + ended t i e) (sets out (6 * (from .q + j)) this)
+              Along t s e from was (i + cellAt t i .bases) (r .st) (r .before) (j + 1) (k + ended t i e) (sets out (6 * (from .q + j)) this)
           go zero room u v w = absurd (omega arith)
           go (suc m) room u v w =
               record {
@@ -239,7 +239,7 @@ module _ {em : ℕ} {t : List ℕ} {s e : ℕ} {from : Place} {was : List ℕ} (
                 near = near-next;
                 many = omega (arith, q .many, few .1);
                 index = omega (arith, q .index, ended-one t i e);
-                behind = behind-next j b (piece em t i c) (origin st (piece em t i c)) (q .behind);
+                behind = behind-next j b (piece t i c) (origin st (piece t i c)) (q .behind);
                 ks = q .ks ++ (k ∷ []);
                 count = omega (arith, length-append (q .ks) (k ∷ []), q .count);
                 told = told;
@@ -257,15 +257,15 @@ module _ {em : ℕ} {t : List ℕ} {s e : ℕ} {from : Place} {was : List ℕ} (
             where
               -- by the number of the piece
               rowOf : ℕ → List ℕ
-              rowOf z = let r = toldAt em t i (stop t i e) st z b in row (λ m. getD (q .ks) m 0) k (r .start) (r .account)
+              rowOf z = let r = toldAt t i (stop t i e) st z b in row (λ m. getD (q .ks) m 0) k (r .start) (r .account)
 
               restOf : ℕ → List ℕ
               restOf z =
-                  let r = toldAt em t i (stop t i e) st z b in
-                  rowsFrom em t (q .ks ++ (k ∷ [])) (k + ended t i e) m (r .st) (r .before) (i + cellAt t i .bases) e
+                  let r = toldAt t i (stop t i e) st z b in
+                  rowsFrom t (q .ks ++ (k ∷ [])) (k + ended t i e) m (r .st) (r .before) (i + cellAt t i .bases) e
 
               rest : List ℕ
-              rest = rowsFrom em t (q .ks ++ (k ∷ [])) (k + ended t i e) m (r .st) (r .before) (i + cellAt t i .bases) e
+              rest = rowsFrom t (q .ks ++ (k ∷ [])) (k + ended t i e) m (r .st) (r .before) (i + cellAt t i .bases) e
 
               place : (q j : ℕ) → 6 * (q + (j + 1)) ≡ 6 * (q + j) + 6
               place q j = omega arith
@@ -278,12 +278,12 @@ module _ {em : ℕ} {t : List ℕ} {s e : ℕ} {from : Place} {was : List ℕ} (
 
       pub along-next : {end : ℕ} {told : Told} {next : ℕ} {out2 : List ℕ} → end ≡ i + cellAt t i .bases → told ≡ r → next ≡ k + ended t i e →
           out2 ≡ sets out (6 * (from .q + j)) (row (indexAt out (from .q)) k (told .start) (told .account)) →
-          Along em t s e from was end (told .st) (told .before) (j + 1) next out2
+          Along t s e from was end (told .st) (told .before) (j + 1) next out2
       along-next {end} {told} {next} {out2} u v x w =
-          subst (λ o. Along em t s e from was end (told .st) (told .before) (j + 1) next o) (sym w)
-          (subst (λ z. Along em t s e from was end (told .st) (told .before) (j + 1) z (written told)) (sym x)
-          (subst (λ z. Along em t s e from was z (told .st) (told .before) (j + 1) (k + ended t i e) (written told)) (sym u)
-          (subst (λ (z : Told). Along em t s e from was (i + cellAt t i .bases) (z .st) (z .before) (j + 1) (k + ended t i e) (written z)) (sym v) along-one)))
+          subst (λ o. Along t s e from was end (told .st) (told .before) (j + 1) next o) (sym w)
+          (subst (λ z. Along t s e from was end (told .st) (told .before) (j + 1) z (written told)) (sym x)
+          (subst (λ z. Along t s e from was z (told .st) (told .before) (j + 1) (k + ended t i e) (written told)) (sym u)
+          (subst (λ (z : Told). Along t s e from was (i + cellAt t i .bases) (z .st) (z .before) (j + 1) (k + ended t i e) (written z)) (sym v) along-one)))
         where
           written : Told → List ℕ
           written z = sets out (6 * (from .q + j)) (row (indexAt out (from .q)) k (z .start) (z .account))

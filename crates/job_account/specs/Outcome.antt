@@ -81,7 +81,7 @@ module _ (job : Job) (rows told wide : List ℕ) (m : ℕ) (is : m ≡ room rows
     long : (6 * baseCount job ≤ length rows) × (baseCount job ≤ length told) × (baseCount job ≤ length wide)
     long = room-long rows told wide (baseCount job) (omega (arith, is, fault.long job 1024 2048 2048 m (full .own) .1))
 
-    pub ready : LinesReady (job .em) t n found rows told
+    pub ready : LinesReady t n found rows told
     ready =
         record {
           m = baseCount job;
@@ -95,10 +95,10 @@ module _ (job : Job) (rows told wide : List ℕ) (m : ℕ) (is : m ≡ room rows
 
     -- the extents that the filling found
     abbrev lengths : List ℕ
-    lengths = extentsOf (job .em) t 0 (ends job)
+    lengths = extentsOf t 0 (ends job)
 
-    many-lengths : n ≡ length (extentsOf (job .em) t 0 (ends job))
-    many-lengths = full .many ∙ sym (length-extents (job .em) t 0 (ends job))
+    many-lengths : n ≡ length (extentsOf t 0 (ends job))
+    many-lengths = full .many ∙ sym (length-extents t 0 (ends job))
 
     pub room-extents : (n ≤ 1024) × (n ≤ length far) × (n ≤ length wide)
     room-extents = (
@@ -107,12 +107,12 @@ module _ (job : Job) (rows told wide : List ℕ) (m : ℕ) (is : m ≡ room rows
       omega (arith, few, long .2),
     )
 
-    front : take n far ≡ extentsOf (job .em) t 0 (ends job)
+    front : take n far ≡ extentsOf t 0 (ends job)
     front = rw (many-lengths, full .told) (take-append-seam lengths (drop (length lengths) wasFar))
 
     -- all is told as the job's meaning has it
     module _ (rows2 told2 wide2 : List ℕ)
-        (lines : (rows2 ≡ sets rows 0 (rowsBy (job .em) t first 0 (take n found))) × (told2 ≡ sets told 0 (countsBy t first 0 (take n found))))
+        (lines : (rows2 ≡ sets rows 0 (rowsBy t first 0 (take n found))) × (told2 ≡ sets told 0 (countsBy t first 0 (take n found))))
         (extent : wide2 ≡ sets wide 0 (take n far)) where
       pub lines-told : LinesTold job rows told wide rows2 told2 wide2
       unfolding accounts counts extents
@@ -120,7 +120,7 @@ module _ (job : Job) (rows told wide : List ℕ) (m : ℕ) (is : m ≡ room rows
           record {
             rows =
                 lines .0
-                ∙ ap (sets rows 0) (ap (rowsBy (job .em) t first 0) (front-is full)
+                ∙ ap (sets rows 0) (ap (rowsBy t first 0) (front-is full)
                 ∙ join.rows-join job (full .passed) t (full .holds) first 0 (ends job) (baseCount job) (first-none job (full .passed)) all);
             counts = lines .1 ∙ ap (sets told 0) (ap (countsBy t first 0) (front-is full) ∙ join.counts-join job (full .passed) t (full .holds) first 0 (ends job) (baseCount job) all);
             extents = extent ∙ ap (sets wide 0) (front ∙ join.extents-join job (full .passed) t (full .holds) 0 (ends job) (baseCount job) all);

@@ -22,8 +22,8 @@ abbrev pub toldOf : Element → State → ℕ → Before → Told
 toldOf e st j b = let x = origin st e in record { account = accountAfter j b e x; start = blockOf e x .start; st = next st e; before = passed j b e x }
 
 -- the piece from i up to c
-abbrev pub toldAt : ℕ → List ℕ → ℕ → ℕ → State → ℕ → Before → Told
-toldAt em t i c st j b = toldOf (piece em t i c) st j b
+abbrev pub toldAt : List ℕ → ℕ → ℕ → State → ℕ → Before → Told
+toldAt t i c st j b = toldOf (piece t i c) st j b
 
 pub same : {a a′ : Account} {x x′ : ℕ} {st st′ : State} {b b′ : Before} → a ≡ a′ → x ≡ x′ → st ≡ st′ → b ≡ b′ →
     _≡_ {A = Told} (record { account = a; start = x; st = st; before = b }) (record { account = a′; start = x′; st = st′; before = b′ })
@@ -34,17 +34,17 @@ abbrev pub ended : List ℕ → ℕ → ℕ → ℕ
 ended t i e = cond (cellAt t i .more) 0 (cond (leb (i + cellAt t i .bases) e) 1 0)
 
 -- the row of each of at most n pieces from i on up to e, the first of them of element k; ks has the elements' indexes of the pieces before it in its line
-unfoldable pub rowsFrom : ℕ → List ℕ → List ℕ → ℕ → ℕ → State → Before → ℕ → ℕ → List ℕ
+unfoldable pub rowsFrom : List ℕ → List ℕ → ℕ → ℕ → State → Before → ℕ → ℕ → List ℕ
 unfolding wordAt reasonAfter
-rowsFrom em t ks k zero st b i e = []
-rowsFrom em t ks k (suc n) st b i e =
-    let r = toldAt em t i (stop t i e) st (length ks) b in
+rowsFrom t ks k zero st b i e = []
+rowsFrom t ks k (suc n) st b i e =
+    let r = toldAt t i (stop t i e) st (length ks) b in
     cond (ltb i e)
-    (row (λ j. getD ks j 0) k (r .start) (r .account) ++ rowsFrom em t (ks ++ (k ∷ [])) (k + ended t i e) n (r .st) (r .before) (i + cellAt t i .bases) e) []
+    (row (λ j. getD ks j 0) k (r .start) (r .account) ++ rowsFrom t (ks ++ (k ∷ [])) (k + ended t i e) n (r .st) (r .before) (i + cellAt t i .bases) e) []
 
 -- the rows of the line from s up to e, whose first element has the index k
-abbrev pub lineRows : ℕ → List ℕ → ℕ → ℕ → ℕ → List ℕ
-lineRows em t k s e = rowsFrom em t [] k (e - s) start nothing s e
+abbrev pub lineRows : List ℕ → ℕ → ℕ → ℕ → List ℕ
+lineRows t k s e = rowsFrom t [] k (e - s) start nothing s e
 
 -- how many pieces there are from i on up to e, at most n,
 unfoldable pub piecesFrom : List ℕ → ℕ → ℕ → ℕ → ℕ
@@ -70,9 +70,9 @@ abbrev pub behind : List ℕ → ℕ → ℕ → Place → Place
 behind t s e at = record { k = at .k + endedIn t s e; q = at .q + piecesIn t s e }
 
 -- the rows of lines that end at es, the first of them from s on, and for each line the count of pieces up to its end
-abbrev pub rowsBy : ℕ → List ℕ → Place → ℕ → List ℕ → List ℕ
-rowsBy em t at s [] = []
-rowsBy em t at s (e ∷ es) = lineRows em t (at .k) s e ++ rowsBy em t (behind t s e at) e es
+abbrev pub rowsBy : List ℕ → Place → ℕ → List ℕ → List ℕ
+rowsBy t at s [] = []
+rowsBy t at s (e ∷ es) = lineRows t (at .k) s e ++ rowsBy t (behind t s e at) e es
 
 abbrev pub countsBy : List ℕ → Place → ℕ → List ℕ → List ℕ
 countsBy t at s [] = []

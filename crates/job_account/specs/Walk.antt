@@ -26,9 +26,9 @@ Chained m s [] = Unit
 Chained m s (e ∷ es) = (s < e) × (e ≤ m) × Chained m e es
 
 -- `ends` has at its front the ends of n lines of a sound table, and the lists have six places for each of its rows and one for each line.
-pub record LinesReady (em : ℕ) (t : List ℕ) (n : ℕ) (ends rows told : List ℕ) : Type 0 where
+pub record LinesReady (t : List ℕ) (n : ℕ) (ends rows told : List ℕ) : Type 0 where
   pub m : ℕ
-  pub sound : Sound em t m
+  pub sound : Sound t m
   pub held : n ≤ length ends
   pub few : n ≤ 1024
   pub lines : Chained m 0 (take n ends)
@@ -36,34 +36,34 @@ pub record LinesReady (em : ℕ) (t : List ℕ) (n : ℕ) (ends rows told : List
   pub roomTold : n ≤ length told
 
 -- six numbers for each piece
-rows-long : (em : ℕ) (t ks : List ℕ) (k n : ℕ) (st : State) (b : Before) (i e : ℕ) → length (rowsFrom em t ks k n st b i e) ≡ 6 * piecesFrom t n i e
+rows-long : (t ks : List ℕ) (k n : ℕ) (st : State) (b : Before) (i e : ℕ) → length (rowsFrom t ks k n st b i e) ≡ 6 * piecesFrom t n i e
 unfolding rowsFrom piecesFrom
-rows-long em t ks k zero st b i e = refl
-rows-long em t ks k (suc n) st b i e =
-    let r = toldAt em t i (stop t i e) st (length ks) b in
-    go (ltb i e) (row (λ j. getD ks j 0) k (r .start) (r .account)) (rowsFrom em t (ks ++ (k ∷ [])) (k + ended t i e) n (r .st) (r .before) (i + cellAt t i .bases) e)
-    (piecesFrom t n (i + cellAt t i .bases) e) refl (rows-long em t (ks ++ (k ∷ [])) (k + ended t i e) n (r .st) (r .before) (i + cellAt t i .bases) e)
+rows-long t ks k zero st b i e = refl
+rows-long t ks k (suc n) st b i e =
+    let r = toldAt t i (stop t i e) st (length ks) b in
+    go (ltb i e) (row (λ j. getD ks j 0) k (r .start) (r .account)) (rowsFrom t (ks ++ (k ∷ [])) (k + ended t i e) n (r .st) (r .before) (i + cellAt t i .bases) e)
+    (piecesFrom t n (i + cellAt t i .bases) e) refl (rows-long t (ks ++ (k ∷ [])) (k + ended t i e) n (r .st) (r .before) (i + cellAt t i .bases) e)
   where
     go : (p : Bool) (xs ys : List ℕ) (z : ℕ) → length xs ≡ 6 → length ys ≡ 6 * z → length (cond p (xs ++ ys) []) ≡ 6 * cond p (suc z) 0
     go true xs ys z h l = omega (arith, length-append xs ys)
     go false xs ys z h l = refl
 
 -- Before line l, which begins at base character s.
-pub record Going (em : ℕ) (t : List ℕ) (n : ℕ) (ends was wasTold : List ℕ) (at : Place) (s l : ℕ) (rows told : List ℕ) : Type 0 where
-  pub ready : LinesReady em t n ends was wasTold
+pub record Going (t : List ℕ) (n : ℕ) (ends was wasTold : List ℕ) (at : Place) (s l : ℕ) (rows told : List ℕ) : Type 0 where
+  pub ready : LinesReady t n ends was wasTold
   pub lines : Chained (ready .m) s (drop l (take n ends))
   pub index : at .k ≤ s
   pub few : at .q ≤ s
-  pub accounts : sets rows (6 * at .q) (rowsBy em t at s (drop l (take n ends))) ≡ sets was 0 (rowsBy em t first 0 (take n ends))
+  pub accounts : sets rows (6 * at .q) (rowsBy t at s (drop l (take n ends))) ≡ sets was 0 (rowsBy t first 0 (take n ends))
   pub counts : sets told l (countsBy t at s (drop l (take n ends))) ≡ sets wasTold 0 (countsBy t first 0 (take n ends))
   pub long : length rows ≡ length was
   pub longTold : length told ≡ length wasTold
 
-pub going-first : {em : ℕ} {t : List ℕ} {n : ℕ} {ends was wasTold : List ℕ} → LinesReady em t n ends was wasTold → Going em t n ends was wasTold first 0 0 was wasTold
+pub going-first : {t : List ℕ} {n : ℕ} {ends was wasTold : List ℕ} → LinesReady t n ends was wasTold → Going t n ends was wasTold first 0 0 was wasTold
 going-first ready = record { ready = ready; lines = ready .lines; index = zero-le; few = zero-le; accounts = refl; counts = refl; long = refl; longTold = refl }
 
-module _ {em : ℕ} {t : List ℕ} {n : ℕ} {ends was wasTold : List ℕ} {at : Place} {s l : ℕ} {rows told : List ℕ} (going : Going em t n ends was wasTold at s l rows told) where
-  abbrev ready : LinesReady em t n ends was wasTold
+module _ {t : List ℕ} {n : ℕ} {ends was wasTold : List ℕ} {at : Place} {s l : ℕ} {rows told : List ℕ} (going : Going t n ends was wasTold at s l rows told) where
+  abbrev ready : LinesReady t n ends was wasTold
   ready = going .ready
 
   abbrev es : List ℕ
@@ -82,7 +82,7 @@ module _ {em : ℕ} {t : List ℕ} {n : ℕ} {ends was wasTold : List ℕ} {at :
     chained : Chained (ready .m) s (e ∷ drop (suc l) es)
     chained = subst (λ xs. Chained (ready .m) s xs) split (going .lines)
 
-    pub line-ready : LineReady em t s e at rows
+    pub line-ready : LineReady t s e at rows
     line-ready =
         record {
           n = ready .m;
@@ -97,7 +97,7 @@ module _ {em : ℕ} {t : List ℕ} {n : ℕ} {ends was wasTold : List ℕ} {at :
     pub place : l < length told
     place = omega (arith, ready .roomTold, going .longTold)
 
-    module _ {next : Place} {rows2 : List ℕ} (line : (next ≡ behind t s e at) × (rows2 ≡ sets rows (6 * at .q) (lineRows em t (at .k) s e))) where
+    module _ {next : Place} {rows2 : List ℕ} (line : (next ≡ behind t s e at) × (rows2 ≡ sets rows (6 * at .q) (lineRows t (at .k) s e))) where
       next-few : (next .k ≤ e) × (next .q ≤ e)
       next-few =
           let k = ap (λ z. z .k) (line .0) in
@@ -107,7 +107,7 @@ module _ {em : ℕ} {t : List ℕ} {n : ℕ} {ends was wasTold : List ℕ} {at :
       pub count-small : next .q < 2 ^ 32
       count-small = omega (arith, next-few .1, chained .1, ready .sound .few)
 
-      pub going-next : Going em t n ends was wasTold next e (l + 1) rows2 (set told l (next .q))
+      pub going-next : Going t n ends was wasTold next e (l + 1) rows2 (set told l (next .q))
       going-next =
           rw (add-one l) (record {
             ready = ready;
@@ -115,28 +115,28 @@ module _ {em : ℕ} {t : List ℕ} {n : ℕ} {ends was wasTold : List ℕ} {at :
             index = next-few .0;
             few = next-few .1;
             accounts =
-                ap₂ (λ o (z : Place). sets o (6 * z .q) (rowsBy em t z e (drop (suc l) es))) (line .1) (line .0)
-                ∙ ap (λ k. sets (sets rows (6 * at .q) (lineRows em t (at .k) s e)) k (rowsBy em t (behind t s e at) e (drop (suc l) es))) six
-                ∙ sym (sets-append rows (lineRows em t (at .k) s e) (rowsBy em t (behind t s e at) e (drop (suc l) es)) (6 * at .q))
-                ∙ ap (λ xs. sets rows (6 * at .q) (rowsBy em t at s xs)) (sym split)
+                ap₂ (λ o (z : Place). sets o (6 * z .q) (rowsBy t z e (drop (suc l) es))) (line .1) (line .0)
+                ∙ ap (λ k. sets (sets rows (6 * at .q) (lineRows t (at .k) s e)) k (rowsBy t (behind t s e at) e (drop (suc l) es))) six
+                ∙ sym (sets-append rows (lineRows t (at .k) s e) (rowsBy t (behind t s e at) e (drop (suc l) es)) (6 * at .q))
+                ∙ ap (λ xs. sets rows (6 * at .q) (rowsBy t at s xs)) (sym split)
                 ∙ going .accounts;
             counts =
                 ap (λ (z : Place). sets told l (z .q ∷ countsBy t z e (drop (suc l) es))) (line .0)
                 ∙ ap (λ xs. sets told l (countsBy t at s xs)) (sym split)
                 ∙ going .counts;
-            long = ap length (line .1) ∙ length-sets rows (6 * at .q) (lineRows em t (at .k) s e) ∙ going .long;
+            long = ap length (line .1) ∙ length-sets rows (6 * at .q) (lineRows t (at .k) s e) ∙ going .long;
             longTold = length-set told l (next .q) ∙ going .longTold;
           })
         where
-          six : 6 * (at .q + piecesIn t s e) ≡ 6 * at .q + length (lineRows em t (at .k) s e)
-          six = omega (arith, rows-long em t [] (at .k) (e - s) start nothing s e)
+          six : 6 * (at .q + piecesIn t s e) ≡ 6 * at .q + length (lineRows t (at .k) s e)
+          six = omega (arith, rows-long t [] (at .k) (e - s) start nothing s e)
 
   -- after the last line all is told
-  pub going-end : n ≤ l → (rows ≡ sets was 0 (rowsBy em t first 0 es)) × (told ≡ sets wasTold 0 (countsBy t first 0 es))
+  pub going-end : n ≤ l → (rows ≡ sets was 0 (rowsBy t first 0 es)) × (told ≡ sets wasTold 0 (countsBy t first 0 es))
   going-end h =
       let past : length es ≤ l = omega (arith, many) in
       let none : drop l es ≡ [] = drop-of-length-le es past in (
-        ap (λ xs. sets rows (6 * at .q) (rowsBy em t at s xs)) (sym none) ∙ going .accounts,
+        ap (λ xs. sets rows (6 * at .q) (rowsBy t at s xs)) (sym none) ∙ going .accounts,
         ap (λ xs. sets told l (countsBy t at s xs)) (sym none) ∙ going .counts,
       )
 

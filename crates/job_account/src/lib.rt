@@ -31,16 +31,15 @@ pub fn tell_piece(
     t: &[u32],
     i: usize,
     c: usize,
-    em: u32,
     st: line::State,
     j: u32,
     b: account::Before,
 ) -> Told
-    requires { ⌜ Advances em (now t) st i c ⌝ }
-    ensures { λ r. ⌜ r ≡ toldAt em (was t) i c st j b ⌝ }
+    requires { ⌜ Advances (now t) st i c ⌝ }
+    ensures { λ r. ⌜ r ≡ toldAt (was t) i c st j b ⌝ }
 {
     let a = cells::cell_at(t, i);
-    let step = cells::advance(t, i, c, em, st);
+    let step = cells::advance(t, i, c, st);
     let w: word::Word = step.word;
     let e = cells::element_of(w, a.before, a.after);
     let at = step.at;
@@ -116,9 +115,9 @@ fn next_index(k: u32, more: bool, end: usize, e: usize) -> u32
 }
 
 // The accounts of the line from s up to e, a row for each piece from row `from.q` of the list on; the answer is where the walk stands behind it.
-pub fn tell_line(t: &[u32], s: usize, e: usize, em: u32, from: Place, out: &mut [u32]) -> Place
-    requires { ⌜ LineReady em (now t) s e from (now out) ⌝ }
-    ensures { λ r. let u = was t in ⌜ (r ≡ behind u s e from) × (now (out .exit) ≡ sets (was out) (6 * from .q) (lineRows em u (from .k) s e)) ⌝ }
+pub fn tell_line(t: &[u32], s: usize, e: usize, from: Place, out: &mut [u32]) -> Place
+    requires { ⌜ LineReady (now t) s e from (now out) ⌝ }
+    ensures { λ r. let u = was t in ⌜ (r ≡ behind u s e from) × (now (out .exit) ≡ sets (was out) (6 * from .q) (lineRows u (from .k) s e)) ⌝ }
 {
     let mut i = s;
     let mut st = line::START;
@@ -128,7 +127,7 @@ pub fn tell_line(t: &[u32], s: usize, e: usize, em: u32, from: Place, out: &mut 
     while i < e {
         let a = cells::cell_at(t, i);
         let end = i + a.bases as usize;
-        let told = tell_piece(t, i, door::fewer(e, end), em, st, j, b);
+        let told = tell_piece(t, i, door::fewer(e, end), st, j, b);
         put_row(told.account, from.q, j, k, told.start, out);
         k = next_index(k, a.more, end, e);
         st = told.st;
@@ -144,16 +143,16 @@ pub fn tell_line(t: &[u32], s: usize, e: usize, em: u32, from: Place, out: &mut 
 
 // The accounts of n lines that end where the front of `ends` says: in `rows` six numbers for each piece, in `told` for each line the count of pieces up to its end. Entries
 // that are not used stay as they were.
-pub fn tell_lines(t: &[u32], n: usize, ends: &[u32], em: u32, rows: &mut [u32], told: &mut [u32])
-    requires { ⌜ LinesReady em (now t) n (now ends) (now rows) (now told) ⌝ }
-    ensures { λ _. let u = was t in let es = take n (was ends) in ⌜ (now (rows .exit) ≡ sets (was rows) 0 (rowsBy em u first 0 es)) × (now (told .exit) ≡ sets (was told) 0 (countsBy u first 0 es)) ⌝ }
+pub fn tell_lines(t: &[u32], n: usize, ends: &[u32], rows: &mut [u32], told: &mut [u32])
+    requires { ⌜ LinesReady (now t) n (now ends) (now rows) (now told) ⌝ }
+    ensures { λ _. let u = was t in let es = take n (was ends) in ⌜ (now (rows .exit) ≡ sets (was rows) 0 (rowsBy u first 0 es)) × (now (told .exit) ≡ sets (was told) 0 (countsBy u first 0 es)) ⌝ }
 {
     let mut at = Place { k: 0, q: 0 };
     let mut s: usize = 0;
     let mut l: usize = 0;
     while l < n {
         let e = ends[l] as usize;
-        at = tell_line(t, s, e, em, at, rows);
+        at = tell_line(t, s, e, at, rows);
         told[l] = at.q as u32;
         s = e;
         l += 1;
@@ -244,7 +243,7 @@ pub fn account_job(
     ) {
         filling::Lines::Refused(why) => job::Answer::Refused(why),
         filling::Lines::Filled(n) => {
-            tell_lines(&t, n, &ends, em, rows, told);
+            tell_lines(&t, n, &ends, rows, told);
             put_extents(n, &found, extents);
             job::Answer::Set(n)
         }

@@ -34,7 +34,7 @@ use Rattle.line.specs.declared.State.{State}
 use Rattle.line.specs.Setting.{start, furthest, total}
 use Rattle.cells.specs.declared.Cell.{Cell}
 use Rattle.cells.specs.Cells as cells
-use Rattle.cells.specs.Cells.{ratiosAt, leftReading, cellAt, partBy, bothBy, overWith, wordAt, elementOf, Ran, Plain, Flat, bare, piece, next, stop, rest, stateAt, mayEnd, lastOf, breaks, endOf, linesOf}
+use Rattle.cells.specs.Cells.{Head, ratiosAt, emAt, headAt, leftReading, cellAt, partBy, bothBy, overWith, wordAt, elementOf, Ran, Plain, Flat, bare, piece, next, stop, rest, stateAt, mayEnd, lastOf, breaks, endOf, linesOf}
 use Rattle.cells.specs.Sound.{Row, Sound}
 use Rattle.cells.specs.Walk as walk
 use Rattle.door.specs.declared.Piece.{Piece}
@@ -55,7 +55,7 @@ use Rattle.job.specs.Declined.{Way, lines-way}
 use Rattle.job.specs.Words.{promise, readings-narrow, runs-of-j, none-of-j, is-j, left-fits, whole-piece}
 use Rattle.job.specs.Bounded.{piece-short}
 use Rattle.refusal.specs.declared.Refusal.the-variants.{NoBreak}
-use Rattle.join.specs.Rows.{firstAt, runAt, runWidth, wideBefore, longer, isCut, upto, runsBefore, none, leftRuns, leftRowBy, endsBehind, rowOf, HasRows, Holds}
+use Rattle.join.specs.Rows.{firstAt, runAt, runWidth, wideBefore, longer, isCut, upto, runsBefore, none, leftRuns, leftRowBy, endsBehind, rowOf, HasRows, Holds, house, ems}
 use Rattle.join.specs.Runs.{first-next, first-more, wide-more, wide-next, longer-next, longer-few}
 use Rattle.join.specs.Part.{good, widths, reads, within, part-word, both-word}
 
@@ -269,15 +269,15 @@ module _ (job : Job) (passed : Passed job) (t : List ℕ) (table : Holds job t) 
     own-left-by hl c i h l = left-own-at i h l ∙ rw (c, hl)
 
     -- a part of a J by its rows
-    one-part : hasLeft (x .gloss) ≡ false → cuts job x ≡ true → (i c : ℕ) → x .base ≤ i → i < c → c ≤ x .base + x .bases → cells.part (job .em) t i c ≡ line.wordOf job (part job x (i - x .base) (c - i))
+    one-part : hasLeft (x .gloss) ≡ false → cuts job x ≡ true → (i c : ℕ) → x .base ≤ i → i < c → c ≤ x .base + x .bases → cells.part t i c ≡ line.wordOf job (part job x (i - x .base) (c - i))
     unfolding cells.part
     one-part nl j i c h l u =
         let z = c - 1 in
         let k = i - x .base in
         let low : x .base ≤ z = omega arith in
         let high : z < x .base + x .bases = omega arith in
-        ap (λ n. cond (ltb 0 n) (cells.both (job .em) t i c) (byRatios (ratiosAt t) (cellAt t i) (cellAt t z))) (lefts-at nl i h (omega arith))
-        ∙ ap (λ r. byRatios r (cellAt t i) (cellAt t z)) (table .house)
+        ap (λ n. cond (ltb 0 n) (cells.both t i c) (byHead (headAt t) (cellAt t i) (cellAt t z))) (lefts-at nl i h (omega arith))
+        ∙ ap (λ h. byHead h (cellAt t i) (cellAt t z)) (table .head)
         ∙ ap₂ (λ a b. byEnds a (cellAt t i .wide) b (cellAt t i .ruby) (cellAt t i .over) (overWith (job .em) (cellAt t z)) (cellAt t i .own) (cellAt t z .own) (cellAt t i .western))
         (wide-with j z low high ∙ ap (wideBefore job x) (top (x .base) h l)) (ruby-with j z low high ∙ ap (firstAt Right job x) (top (x .base) h l))
         ∙ ap₂ (λ a b. byEnds (wideBefore job x (k + (c - i))) a (firstAt Right job x (k + (c - i))) b (cellAt t i .over) (overWith (job .em) (cellAt t z)) (cellAt t i .own) (cellAt t z .own) (cellAt t i .western))
@@ -290,9 +290,9 @@ module _ (job : Job) (passed : Passed job) (t : List ℕ) (table : Holds job t) 
         (western-at j i h (omega arith))
         ∙ part-word job x passed at j k (c - i) (omega arith) (omega arith) nl
       where
-        byRatios : Ratios → Cell → Cell → Word
-        byRatios h a z =
-            partBy h (job .em) (c - i) (z .wide + z .own - a .wide) (z .ruby + z .rubies - a .ruby) (eqb (a .over) (overWith (job .em) z)) (a .own) (z .own) (a .western)
+        byHead : Head → Cell → Cell → Word
+        byHead h a z =
+            partBy (h .ratios) (h .em) (c - i) (z .wide + z .own - a .wide) (z .ruby + z .rubies - a .ruby) (eqb (a .over) (overWith (h .em) z)) (a .own) (z .own) (a .western)
 
         byEnds : ℕ → ℕ → ℕ → ℕ → ℕ → ℕ → ℕ → ℕ → Bool → Word
         byEnds wz wa rz ra oa oz first last western = partBy (job .ratios) (job .em) (c - i) (wz - wa) (rz - ra) (eqb oa oz) first last western
@@ -304,7 +304,7 @@ module _ (job : Job) (passed : Passed job) (t : List ℕ) (table : Holds job t) 
         last b h l = omega arith
 
     -- with a left J
-    both-part : isJukugo (x .gloss) ≡ true → cuts job x ≡ true → (i c : ℕ) → x .base ≤ i → i < c → c ≤ x .base + x .bases → cells.part (job .em) t i c ≡ line.wordOf job (part job x (i - x .base) (c - i))
+    both-part : isJukugo (x .gloss) ≡ true → cuts job x ≡ true → (i c : ℕ) → x .base ≤ i → i < c → c ≤ x .base + x .bases → cells.part t i c ≡ line.wordOf job (part job x (i - x .base) (c - i))
     unfolding cells.part cells.both
     both-part jl j i c h l u =
         let z = c - 1 in
@@ -314,8 +314,8 @@ module _ (job : Job) (passed : Passed job) (t : List ℕ) (table : Holds job t) 
         let here : i < x .base + x .bases = omega arith in
         let hl = has-jukugo (x .gloss) jl in
         let some : ltb 0 (cellAt t i .lefts) ≡ true = lt-ltb 0 (cellAt t i .lefts) (omega (arith, lefts-by hl j i h here, left-run hl j k (omega arith))) in
-        ap (λ (b : Bool). cond b (bothBy (ratiosAt t) (job .em) (c - i) (record { width = cellAt t i .own; count = cellAt t i .rubies }) (record { width = cellAt t i .ownleft; count = cellAt t i .lefts }) (cellAt t z .own) (cellAt t z .ownleft)) (rest t)) some
-        ∙ ap (λ (r : Ratios). bothBy r (job .em) (c - i) (record { width = cellAt t i .own; count = cellAt t i .rubies }) (record { width = cellAt t i .ownleft; count = cellAt t i .lefts }) (cellAt t z .own) (cellAt t z .ownleft)) (table .house)
+        ap (λ (b : Bool). cond b (bothBy (ratiosAt t) (emAt t) (c - i) (record { width = cellAt t i .own; count = cellAt t i .rubies }) (record { width = cellAt t i .ownleft; count = cellAt t i .lefts }) (cellAt t z .own) (cellAt t z .ownleft)) (rest t)) some
+        ∙ ap (λ (h : Head). bothBy (h .ratios) (h .em) (c - i) (record { width = cellAt t i .own; count = cellAt t i .rubies }) (record { width = cellAt t i .ownleft; count = cellAt t i .lefts }) (cellAt t z .own) (cellAt t z .ownleft)) (table .head)
         ∙ ap₂ (λ (r l : Str). bothBy (job .ratios) (job .em) (c - i) r l (cellAt t z .own) (cellAt t z .ownleft))
         (ap₂ (λ (w n : ℕ). record { width = w; count = n }) (own-at j i h here) (rubies-at j i h here)) (ap₂ (λ (w n : ℕ). record { width = w; count = n }) (own-left-by hl j i h here) (lefts-by hl j i h here))
         ∙ ap₂ (λ (a b : ℕ). bothBy (job .ratios) (job .em) (c - i) (record { width = runWidth Right job x k; count = runAt Right job x k }) (record { width = runWidth Left job x k; count = runAt Left job x k }) a b)
@@ -326,15 +326,15 @@ module _ (job : Job) (passed : Passed job) (t : List ℕ) (table : Holds job t) 
         rest t =
             let a = cellAt t i in
             let z = cellAt t (c - 1) in
-            partBy (ratiosAt t) (job .em) (c - i) (z .wide + z .own - a .wide) (z .ruby + z .rubies - a .ruby) (eqb (a .over) (overWith (job .em) z)) (a .own) (z .own) (a .western)
+            partBy (ratiosAt t) (emAt t) (c - i) (z .wide + z .own - a .wide) (z .ruby + z .rubies - a .ruby) (eqb (a .over) (overWith (emAt t) z)) (a .own) (z .own) (a .western)
 
         last : (b : ℕ) → b ≤ i → i < c → c - 1 - b ≡ i - b + (c - i) - 1
         last b h l = omega arith
 
-    pub part-join : cuts job x ≡ true → (i c : ℕ) → x .base ≤ i → i < c → c ≤ x .base + x .bases → cells.part (job .em) t i c ≡ line.wordOf job (part job x (i - x .base) (c - i))
+    pub part-join : cuts job x ≡ true → (i c : ℕ) → x .base ≤ i → i < c → c ≤ x .base + x .bases → cells.part t i c ≡ line.wordOf job (part job x (i - x .base) (c - i))
     part-join j i c h l u = go (cut-gloss j)
       where
-        go : (hasLeft (x .gloss) ≡ false) ⊎ (isJukugo (x .gloss) ≡ true) → cells.part (job .em) t i c ≡ line.wordOf job (part job x (i - x .base) (c - i))
+        go : (hasLeft (x .gloss) ≡ false) ⊎ (isJukugo (x .gloss) ≡ true) → cells.part t i c ≡ line.wordOf job (part job x (i - x .base) (c - i))
         go (inl e) = one-part e j i c h l u
         go (inr e) = both-part e j i c h l u
 
@@ -390,11 +390,11 @@ module _ (job : Job) (passed : Passed job) (t : List ℕ) (table : Holds job t) 
         go true f = rw (le-ltb (c - i) (x .bases) (omega (arith, ltb-false 1 (x .bases) f)))
         go false f = refl
 
-    pub word-join : (i c : ℕ) → x .base ≤ i → i < c → c ≤ x .base + x .bases → wordAt (job .em) t i c ≡ line.wordOf job (upto job x i c)
+    pub word-join : (i c : ℕ) → x .base ≤ i → i < c → c ≤ x .base + x .bases → wordAt t i c ≡ line.wordOf job (upto job x i c)
     unfolding wordAt
     word-join i c h l u = go (isCut job x) refl
       where
-        go : (b : Bool) → isCut job x ≡ b → wordAt (job .em) t i c ≡ line.wordOf job (upto job x i c)
+        go : (b : Bool) → isCut job x ≡ b → wordAt t i c ≡ line.wordOf job (upto job x i c)
         go true e =
             let j = both (cuts job x) (ltb 1 (x .bases)) e in
             rw (cut-at i h (omega arith) ∙ e) (part-join (j .0) i c h l u ∙ ap (line.wordOf job) (upto-part (j .0) (ltb-true 1 (x .bases) (j .1)) i c h l u))
@@ -422,7 +422,7 @@ module _ (job : Job) (passed : Passed job) (t : List ℕ) (table : Holds job t) 
         go true false j = refl
         go true true j = on-j (x .form) _ (cut-is job x j .0) ∙ sym (on-part (eqb (c - i) 1) _)
 
-    pub piece-join : (i c : ℕ) → x .base ≤ i → i < c → c ≤ x .base + x .bases → piece (job .em) t i c ≡ seen job (upto job x i c)
+    pub piece-join : (i c : ℕ) → x .base ≤ i → i < c → c ≤ x .base + x .bases → piece t i c ≡ seen job (upto job x i c)
     unfolding seen
     piece-join i c h l u =
         let o : i < x .base + x .bases = omega arith in
@@ -438,7 +438,7 @@ module _ (job : Job) (passed : Passed job) (t : List ℕ) (table : Holds job t) 
         long : (b n : ℕ) → max s b ≡ i → c ≤ b + n → min c (b + n) - (b + (i - b)) ≡ c - i
         long b n e u = omega arith
 
-    pub one : (s i c : ℕ) → max s (x .base) ≡ i → i < c → c ≤ x .base + x .bases → next (stateOf job s (x .base)) (piece (job .em) t i c) ≡ stateOf job s c
+    pub one : (s i c : ℕ) → max s (x .base) ≡ i → i < c → c ≤ x .base + x .bases → next (stateOf job s (x .base)) (piece t i c) ≡ stateOf job s c
     one s i c e l u =
         ap (λ z. next (stateOf job s (x .base)) z) (piece-join i c (omega arith) l u)
         ∙ sym (state-more job s (x .base) c (upto job x i c) (into job x at s c (omega arith) u ∙ ap (λ z. pieces job s (x .base) ++ z) (the-piece s i c e l u)))
@@ -579,25 +579,25 @@ module _ (job : Job) (passed : Passed job) (t : List ℕ) (table : Holds job t) 
       positive zero n h = absurd (omega (arith, zero-mul n))
       positive (suc a) n h = omega arith
 
-  pub sound : Sound (job .em) t (baseCount job)
+  pub sound : Sound t (baseCount job)
   sound =
       record {
-        small = passed .em;
-        house = subst Housed (sym (table .house)) (passed .house);
+        small = omega (arith, ems table, passed .em);
+        house = subst Housed (sym (house table)) (passed .house);
         few = passed .fewBase;
         long = table .long;
         row = λ i h. let v = covers i h in row (v .x) (is-word job passed (v .front) (v .rest) (v .x) (v .split)) i (v .from) (v .ahead);
         wide = λ i h c. let v = covers i h in
             let at = is-word job passed (v .front) (v .rest) (v .x) (v .split) in
-            em-some (v .x) at (both (cuts job (v .x)) (ltb 1 (v .x .bases)) (sym (cut-at (v .x) at i (v .from) (v .ahead)) ∙ c) .0);
+            subst (λ m. 0 < m) (sym (ems table)) (em-some (v .x) at (both (cuts job (v .x)) (ltb 1 (v .x .bases)) (sym (cut-at (v .x) at i (v .from) (v .ahead)) ∙ c) .0));
       }
 
   -- on from a base character of an element
   on : (x : Piece) → IsWord job x → (s i c : ℕ) → max s (x .base) ≡ i → i < x .base + x .bases → i < c → c ≤ baseCount job →
-      (x .base + x .bases ≤ c → rest (job .em) t (stateOf job s (x .base + x .bases)) (x .base + x .bases) c ≡ stateOf job s c) →
-      rest (job .em) t (stateOf job s (x .base)) i c ≡ stateOf job s c
+      (x .base + x .bases ≤ c → rest t (stateOf job s (x .base + x .bases)) (x .base + x .bases) c ≡ stateOf job s c) →
+      rest t (stateOf job s (x .base)) i c ≡ stateOf job s c
   on x at s i c e g l u f =
-      walk.step (job .em) t (baseCount job) sound st i c l u ∙ ap (λ z. rest (job .em) t (next st (piece (job .em) t i (stop t i c))) z c) end ∙ go (decLt c (x .base + x .bases))
+      walk.step t (baseCount job) sound st i c l u ∙ ap (λ z. rest t (next st (piece t i (stop t i c))) z c) end ∙ go (decLt c (x .base + x .bases))
     where
       st : State
       st = stateOf job s (x .base)
@@ -608,43 +608,43 @@ module _ (job : Job) (passed : Passed job) (t : List ℕ) (table : Holds job t) 
       end : i + cellAt t i .bases ≡ x .base + x .bases
       end = omega (arith, bases-at x at i (from s (x .base) e) g)
 
-      upto-end : (d : ℕ) → stop t i c ≡ d → rest (job .em) t (next st (piece (job .em) t i (stop t i c))) (x .base + x .bases) c ≡ rest (job .em) t (next st (piece (job .em) t i d)) (x .base + x .bases) c
-      upto-end d h = ap (λ z. rest (job .em) t (next st (piece (job .em) t i z)) (x .base + x .bases) c) h
+      upto-end : (d : ℕ) → stop t i c ≡ d → rest t (next st (piece t i (stop t i c))) (x .base + x .bases) c ≡ rest t (next st (piece t i d)) (x .base + x .bases) c
+      upto-end d h = ap (λ z. rest t (next st (piece t i z)) (x .base + x .bases) c) h
 
-      go : Dec (c < x .base + x .bases) → rest (job .em) t (next st (piece (job .em) t i (stop t i c))) (x .base + x .bases) c ≡ stateOf job s c
+      go : Dec (c < x .base + x .bases) → rest t (next st (piece t i (stop t i c))) (x .base + x .bases) c ≡ stateOf job s c
       go (yes h) =
           upto-end c (walk.stop-within t i c (omega (arith, end)))
-          ∙ walk.rest-none (job .em) t (next st (piece (job .em) t i c)) (x .base + x .bases) c (omega arith) ∙ one x at s i c e l (omega arith)
+          ∙ walk.rest-none t (next st (piece t i c)) (x .base + x .bases) c (omega arith) ∙ one x at s i c e l (omega arith)
       go (no h) =
           upto-end (x .base + x .bases) (walk.stop-whole t i c (omega (arith, end)) ∙ end)
-          ∙ ap (λ z. rest (job .em) t z (x .base + x .bases) c) (one x at s i (x .base + x .bases) e g (omega arith))
+          ∙ ap (λ z. rest t z (x .base + x .bases) c) (one x at s i (x .base + x .bases) e g (omega arith))
           ∙ f (omega arith)
 
   -- on from an element's end
   walks : (front xs : List Piece) → words job ≡ front ++ xs → (i : ℕ) → BaseTiled i xs (baseCount job) → (s c : ℕ) → s ≤ i → i ≤ c → c ≤ baseCount job →
-      rest (job .em) t (stateOf job s i) i c ≡ stateOf job s c
-  walks front [] e i b s c h l u = walk.rest-none (job .em) t (stateOf job s i) i c (omega arith) ∙ ap (stateOf job s) (omega arith)
+      rest t (stateOf job s i) i c ≡ stateOf job s c
+  walks front [] e i b s c h l u = walk.rest-none t (stateOf job s i) i c (omega arith) ∙ ap (stateOf job s) (omega arith)
   walks front (x ∷ xs) e i b s c h l u =
       let at = is-word job passed front xs x e in
       go (decLt i c) at (λ k. walks (front ++ (x ∷ [])) xs (e ∙ sym (append-snoc front x xs)) (x .base + x .bases) (subst (λ z. BaseTiled (z + x .bases) xs (baseCount job)) (sym (b .0)) (b .1)) s c (omega (arith, b .0)) k u)
     where
-      go : Dec (i < c) → IsWord job x → (x .base + x .bases ≤ c → rest (job .em) t (stateOf job s (x .base + x .bases)) (x .base + x .bases) c ≡ stateOf job s c) →
-          rest (job .em) t (stateOf job s i) i c ≡ stateOf job s c
-      go (no k) at f = walk.rest-none (job .em) t (stateOf job s i) i c (omega arith) ∙ ap (stateOf job s) (omega arith)
+      go : Dec (i < c) → IsWord job x → (x .base + x .bases ≤ c → rest t (stateOf job s (x .base + x .bases)) (x .base + x .bases) c ≡ stateOf job s c) →
+          rest t (stateOf job s i) i c ≡ stateOf job s c
+      go (no k) at f = walk.rest-none t (stateOf job s i) i c (omega arith) ∙ ap (stateOf job s) (omega arith)
       go (yes k) at f =
-          subst (λ z. rest (job .em) t (stateOf job s z) i c ≡ stateOf job s c) (b .0)
+          subst (λ z. rest t (stateOf job s z) i c ≡ stateOf job s c) (b .0)
           (on x at s i c (most s (x .base) (b .0) h) (omega (arith, b .0, at .good .counts .some)) k u f)
         where
           most : (s y : ℕ) → y ≡ i → s ≤ i → max s y ≡ i
           most s y e h = omega arith
 
   -- THE JOIN: a line by rows is the job's line
-  pub state-join : (s c : ℕ) → s < c → c ≤ baseCount job → stateAt (job .em) t s c ≡ stateOf job s c
+  pub state-join : (s c : ℕ) → s < c → c ≤ baseCount job → stateAt t s c ≡ stateOf job s c
   state-join s c l u =
       let v = covers s (omega arith) in
       let x = v .x in
       let at = is-word job passed (v .front) (v .rest) x (v .split) in
-      subst (λ z. rest (job .em) t z s c ≡ stateOf job s c) (state-none job s (x .base) (none-before job x at s (v .from)))
+      subst (λ z. rest t z s c ≡ stateOf job s c) (state-none job s (x .base) (none-before job x at s (v .from)))
       (on x at s s c (most s (x .base) (v .from)) (v .ahead) l u
       (λ k. walks (v .front ++ (x ∷ [])) (v .rest) (v .split ∙ sym (append-snoc (v .front) x (v .rest))) (x .base + x .bases) (v .tiled) s c (omega (arith, v .ahead)) k u))
     where
@@ -674,10 +674,10 @@ module _ (job : Job) (passed : Passed job) (t : List ℕ) (table : Holds job t) 
           (ap₂ (λ a b. eqb a (baseCount job) || b) e (ends-at x at (c - 1) h k) ∙ sym (permitted-end job x at) ∙ ap (permitted job) (sym e))
 
   -- so lines end where the job's do
-  holds-join : (s c : ℕ) → s < c → c ≤ baseCount job → breaks (job .em) (2 * job .measure) t (baseCount job) s c ≡ (permitted job c && canSet job s c)
+  holds-join : (s c : ℕ) → s < c → c ≤ baseCount job → breaks (2 * job .measure) t (baseCount job) s c ≡ (permitted job c && canSet job s c)
   holds-join s c l u = rw (may-join c (omega arith) u, state-join s c l u, can-set job s c)
 
-  best-join : (s k : ℕ) → s + k ≤ baseCount job → lastOf (breaks (job .em) (2 * job .measure) t (baseCount job) s) 0 s k ≡ best job s (s + k)
+  best-join : (s k : ℕ) → s + k ≤ baseCount job → lastOf (breaks (2 * job .measure) t (baseCount job) s) 0 s k ≡ best job s (s + k)
   unfolding lastOf
   best-join s zero u = sym (best-none job s (s + 0) (omega arith))
   best-join s (suc k) u =
@@ -687,25 +687,25 @@ module _ (job : Job) (passed : Passed job) (t : List ℕ) (table : Holds job t) 
       one : (s k : ℕ) → s + suc k ≡ s + k + 1
       one s k = omega arith
 
-  pub end-join : (s : ℕ) → s ≤ baseCount job → endOf (job .em) (2 * job .measure) t (baseCount job) s ≡ line.furthest job s
+  pub end-join : (s : ℕ) → s ≤ baseCount job → endOf (2 * job .measure) t (baseCount job) s ≡ line.furthest job s
   unfolding endOf
   end-join s u = best-join s (baseCount job - s) (omega arith) ∙ ap (best job s) (all s (baseCount job) u) ∙ sym (best-all job s)
     where
       all : (s n : ℕ) → s ≤ n → s + (n - s) ≡ n
       all s n u = omega arith
 
-  ends-join : (k s : ℕ) → s ≤ baseCount job → cells.endsFrom (job .em) (2 * job .measure) t (baseCount job) k s ≡ line.endsFrom job k s
+  ends-join : (k s : ℕ) → s ≤ baseCount job → cells.endsFrom (2 * job .measure) t (baseCount job) k s ≡ line.endsFrom job k s
   unfolding cells.endsFrom line.endsFrom
   ends-join zero s u = refl
   ends-join (suc k) s u = rw (end-join s u) (go (line.furthest job s) (found-ahead job s) (λ e h. ends-join k e h))
     where
-      go : (e : ℕ) → (e ≡ 0) ⊎ ((s < e) × (e ≤ baseCount job)) → ((e : ℕ) → e ≤ baseCount job → cells.endsFrom (job .em) (2 * job .measure) t (baseCount job) k e ≡ line.endsFrom job k e) →
-          cond (eqb e 0) [] (e ∷ cells.endsFrom (job .em) (2 * job .measure) t (baseCount job) k e) ≡ cond (eqb e 0) [] (e ∷ line.endsFrom job k e)
+      go : (e : ℕ) → (e ≡ 0) ⊎ ((s < e) × (e ≤ baseCount job)) → ((e : ℕ) → e ≤ baseCount job → cells.endsFrom (2 * job .measure) t (baseCount job) k e ≡ line.endsFrom job k e) →
+          cond (eqb e 0) [] (e ∷ cells.endsFrom (2 * job .measure) t (baseCount job) k e) ≡ cond (eqb e 0) [] (e ∷ line.endsFrom job k e)
       go e (inl z) f = rw (eq-eqb e 0 z)
       go e (inr z) f = rw (f e (z .1))
 
   -- the lines of the table are the lines of the job
-  pub lines-join : linesOf (job .em) (2 * job .measure) t (baseCount job) ≡ line.ends job
+  pub lines-join : linesOf (2 * job .measure) t (baseCount job) ≡ line.ends job
   unfolding linesOf line.ends
   lines-join = ends-join (baseCount job) 0 zero-le
 

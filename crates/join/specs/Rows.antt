@@ -1,5 +1,5 @@
 -- The rows of a job's words, by the job's own definitions: a word is an element, or one character of a J with a mono left reading (`words`). What is said of runs is said of either side.
-use mathlib.Core.Path.{_≡_}
+use mathlib.Core.Path.{_≡_, ap}
 use mathlib.Core.Bool.{Bool, false, cond, _&&_, _||_}
 use mathlib.Core.List.{List, map}
 use Prim.Native.Nat.{ℕ, _+_, _-_, _*_, _≤_, _<_}
@@ -17,7 +17,7 @@ use Rattle.line.specs.declared.Side.{Side}
 use Rattle.line.specs.declared.Side.the-variants.{Right, Left}
 use Rattle.cells.specs.declared.Cell.{Cell}
 use Rattle.cells.specs.declared.LeftRow.{LeftRow}
-use Rattle.cells.specs.Cells.{size, ratiosAt, beside, cellAt}
+use Rattle.cells.specs.Cells.{Head, size, ratiosAt, emAt, headAt, beside, cellAt}
 use Rattle.door.specs.declared.Piece.{Piece}
 use Rattle.door.specs.Job.{Job, baseCount, entries, leftByRuns}
 use Rattle.job.specs.Line.{part, words, cuts, wordOf, onP, depthsAt, firstOf, manyOf, widthsOf}
@@ -127,8 +127,17 @@ rowOf job x i =
 abbrev pub HasRows : Job → List ℕ → Piece → Type 0
 HasRows job t x = (i : ℕ) → x .base ≤ i → i < x .base + x .bases → cellAt t i ≡ rowOf job x i
 
--- a table that has the job's ratios at its head and the rows of all words
+-- a table that has the job's ratios and its em at its head, and the rows of all words
+abbrev pub headOf : Job → Head
+headOf job = record { ratios = job .ratios; em = job .em }
+
 pub record Holds (job : Job) (t : List ℕ) : Type 0 where
   pub long : size (baseCount job) ≤ length t
-  pub house : ratiosAt t ≡ job .ratios
+  pub head : headAt t ≡ headOf job
   pub rows : All (HasRows job t) (words job)
+
+pub house : {job : Job} {t : List ℕ} → Holds job t → ratiosAt t ≡ job .ratios
+house h = ap (λ z. z .ratios) (h .head)
+
+pub ems : {job : Job} {t : List ℕ} → Holds job t → emAt t ≡ job .em
+ems h = ap (λ z. z .em) (h .head)

@@ -33,7 +33,7 @@ use Rattle.word.specs.Summed.{givenBase, ems-wide}
 use Rattle.word.specs.Sized.{Small}
 use Rattle.word.specs.Sized as size
 use Rattle.line.specs.declared.Side.the-variants.{Left as LeftSide}
-use Rattle.cells.specs.Cells.{ratiosAt, beside, cellAt}
+use Rattle.cells.specs.Cells.{headAt, beside, cellAt}
 use Rattle.door.specs.declared.Piece.{Piece}
 use Rattle.door.specs.declared.Taken.{Taken}
 use Rattle.door.specs.declared.Counted.the-variants.{Is, Out}
@@ -396,7 +396,7 @@ module _ {job : Job} {k : ℕ} {at : Taken} {was : List ℕ} (h : Standing job k
             }
 
         module _ {b : Base} (sums : b ≡ givenBase (x .form) (given job x)) where
-          based-ready-x : (t : List ℕ) → length t ≡ length was → ratiosAt t ≡ ratiosAt was → BasedReady (job .em) b x (job .rubyClass) (job .rubyWidth) t
+          based-ready-x : (t : List ℕ) → length t ≡ length was → headAt t ≡ headAt was → BasedReady (job .em) b x (job .rubyClass) (job .rubyWidth) t
           based-ready-x t long top =
               let n = length-entries (job .width) (x .base) (x .bases) in
               record {
@@ -405,7 +405,7 @@ module _ {job : Job} {k : ℕ} {at : Taken} {was : List ℕ} (h : Standing job k
                 short = subst (λ z. z .string .count ≤ 4096) (sym sums) (omega (arith, n, few .few));
                 narrow = subst (λ z. z .string .width ≤ 131072) (sym sums) (reads .sized .narrow);
                 ruby = ruby-ready-x;
-                house = subst Housed (sym (top ∙ h .head)) (h .house);
+                house = subst Housed (sym (ap (λ z. z .ratios) (top ∙ h .head))) (h .house);
                 room = omega (arith, held .0, h .room, long);
               }
 
@@ -418,8 +418,8 @@ module _ {job : Job} {k : ℕ} {at : Taken} {was : List ℕ} (h : Standing job k
                 whole = λ one. sym (few .whole j ∙ ap (λ n. sum (entries (job .run) (x .run) n)) one ∙ add-zero (getD (job .run) (x .run) 0));
               }
 
-          gives-x : (t : List ℕ) → ratiosAt t ≡ ratiosAt was → Gives (x .form) (job .em) b x (job .rubyClass) (job .rubyWidth) (job .run) t (given job x)
-          gives-x t top = record { ems = refl; house = sym (top ∙ h .head); summed = sums; rubyClass = refl; rubyWidth = refl; run = λ j. refl }
+          gives-x : (t : List ℕ) → headAt t ≡ headAt was → Gives (x .form) (job .em) b x (job .rubyClass) (job .rubyWidth) (job .run) t (given job x)
+          gives-x t top = record { ems = refl; house = sym (ap (λ z. z .ratios) (top ∙ h .head)); summed = sums; rubyClass = refl; rubyWidth = refl; run = λ j. refl }
 
         -- level one's answer taken apart
         steps : {a : Answer} {Done : Word → Type 0} {mid t : List ℕ} {s : Step} → length mid ≡ length was → answerBoth (x .form) k (given job x) (glossOf job x) ≡ a →

@@ -27,6 +27,6 @@ unfolding baseCount words wordsIn part
 measured job t h =
     record {
       long = h .long;
-      house = h .house;
+      head = h .head;
       rows = subst (λ es. All (HasRows job t) (each (wordsIn job) es)) (door.same-elements 0 job) (all-rows job t (words (unmeasured job)) (h .rows));
     }

@@ -9,7 +9,7 @@ use lib.Dec.{ltb}
 use lib.ListN.{length, getD}
 use Rattle.basics.specs.Lists.{All}
 use Rattle.spread.specs.Ratio.{Housed}
-use Rattle.cells.specs.Cells.{size, ratiosAt, leftsAt, cellAt}
+use Rattle.cells.specs.Cells.{size, headAt, leftsAt, cellAt}
 use Rattle.door.specs.declared.Piece.{Piece}
 use Rattle.door.specs.declared.Taken.{Taken}
 use Rattle.door.specs.declared.Step.{Step}
@@ -19,7 +19,7 @@ use Rattle.door.specs.Refusals.{runOut}
 use Rattle.door.specs.Whole.{element-within}
 use Rattle.door.specs.Walk.{Stands, elementStep}
 use Rattle.job.specs.Line.{wordsIn}
-use Rattle.join.specs.Rows.{HasRows}
+use Rattle.join.specs.Rows.{headOf, HasRows}
 use Rattle.word_rows.specs.Table.{Clear}
 use Rattle.two_readings.specs.Written.{leftFrom, LeftRoom}
 use Rattle.layout.specs.declared.Counts.{Counts}
@@ -32,7 +32,7 @@ countsOf job = record { bases = baseCount job; rubies = rubyCount job; lefts = l
 pub record Standing (job : Job) (k : ℕ) (at : Taken) (t : List ℕ) : Type 0 where
   pub stands : Stands job k at
   pub house : Housed (job .ratios)
-  pub head : ratiosAt t ≡ job .ratios
+  pub head : headAt t ≡ headOf job
   pub room : size (baseCount job) ≤ length t
   pub begins : leftsAt t ≡ leftFrom (baseCount job) (leftCount job)
   pub leftRoom : 0 < leftCount job → LeftRoom (baseCount job) t
@@ -41,7 +41,7 @@ pub record Standing (job : Job) (k : ℕ) (at : Taken) (t : List ℕ) : Type 0 w
 -- the rows of an element's words are written, and no other
 pub record Laid (job : Job) (x : Piece) (was t : List ℕ) : Type 0 where
   pub long : length t ≡ length was
-  pub head : ratiosAt t ≡ ratiosAt was
+  pub head : headAt t ≡ headAt was
   pub lefts : leftsAt t ≡ leftsAt was
   pub rows : All (HasRows job t) (wordsIn job x)
   pub other : (i : ℕ) → (i < x .base) ⊎ (x .base + x .bases ≤ i) → Clear was (i + 1) → cellAt t i ≡ cellAt was i

@@ -15,7 +15,7 @@ use Rattle.word.specs.declared.Form.the-variants.{P}
 use Rattle.word.specs.Word as word
 use Rattle.word.specs.Sides as sides
 use Rattle.cells.specs.declared.Cell.{Cell}
-use Rattle.cells.specs.Cells.{size, leftSize, ratiosAt, leftsAt, beside}
+use Rattle.cells.specs.Cells.{size, leftSize, headAt, leftsAt, beside}
 use Rattle.cells.specs.Put.{headed, length-headed, head-written, Puts}
 use Rattle.door.specs.declared.Piece.{Piece}
 use Rattle.door.specs.declared.Taken.{Taken}
@@ -30,7 +30,7 @@ use Rattle.job.specs.Laws.{all-append, all-each, each-append}
 use Rattle.job.specs.Apart.{by-apart}
 use Rattle.job.specs.Pieces.{tiled-ends}
 use Rattle.job.specs.Walk.{At, at-first, at-next, length-elements}
-use Rattle.join.specs.Rows.{rowOf, HasRows, Holds}
+use Rattle.join.specs.Rows.{headOf, rowOf, HasRows, Holds}
 use Rattle.word_rows.specs.Table.{Clear, filled-one}
 use Rattle.one_reading.specs.Lay.{PlainReady, plainRow}
 use Rattle.two_readings.specs.Written.{leftFrom, from-none, from-some, clear-upto, bareRow, BareReady, Bared, over-bared}
@@ -70,7 +70,7 @@ pub record Walking (job : Job) (was t : List ℕ) (k : ℕ) (at : Taken) : Type 
   pub along : Along job k at
   pub place : At job k at
   pub long : length t ≡ length was
-  pub head : ratiosAt t ≡ job .ratios
+  pub head : headAt t ≡ headOf job
   pub begins : leftsAt t ≡ leftFrom (baseCount job) (leftCount job)
   pub rows : All (HasRows job t) (each (wordsIn job) (take k (elements job)))
 
@@ -90,12 +90,12 @@ again e y =
       roomLeft = λ h. omega (arith, e, y .roomLeft h);
     }
 
-pub walking-first : (job : Job) (was : List ℕ) → Ready job was → let t = headed was (job .ratios) (leftFrom (baseCount job) (leftCount job)) in Walking job t t 0 nothing
+pub walking-first : (job : Job) (was : List ℕ) → Ready job was → let t = headed was (headOf job) (leftFrom (baseCount job) (leftCount job)) in Walking job t t 0 nothing
 walking-first job was ready =
     let from = leftFrom (baseCount job) (leftCount job) in
-    let w = head-written was (job .ratios) from (omega (arith, ready .room)) in
+    let w = head-written was (headOf job) from (omega (arith, ready .room)) in
     record {
-      ready = again (length-headed was (job .ratios) from) ready;
+      ready = again (length-headed was (headOf job) from) ready;
       along = loop.along-first job;
       place = at-first job;
       long = refl;
@@ -131,7 +131,7 @@ module _ (job : Job) (was t : List ℕ) (k : ℕ) (at : Taken) (q : Walking job 
   walking-end h =
       record {
         long = omega (arith, q .long, q .ready .room);
-        house = q .head;
+        head = q .head;
         rows = subst (λ es. All (HasRows job t) (each (wordsIn job) es)) (take-all k (elements job) (omega (arith, length-elements job))) (q .rows);
       }
 

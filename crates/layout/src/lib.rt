@@ -195,6 +195,7 @@ pub fn layout(
     cells::put_head(
         t,
         ratios,
+        em,
         two_readings::left_begins(counts.bases, counts.lefts),
     );
     let mut k: usize = 0;

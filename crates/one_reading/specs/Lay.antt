@@ -9,16 +9,18 @@ use lib.Dec.{eqb}
 use lib.ListN.{length, getD, take, drop}
 use Rattle.basics.specs.Lists.{sum, any, other}
 use Rattle.class.specs.Class.{depthsBy}
-use borrow.Author.Tests.{lt-ltb}
+use borrow.Author.Tests.{lt-ltb, eqb-true, eqb-false}
 use Rattle.spread.specs.Ratio.{Ratios, Housed}
 use Rattle.word.specs.declared.Form.{Form}
-use Rattle.word.specs.declared.Form.the-variants.{M, G, J}
+use Rattle.word.specs.declared.Form.the-variants.{P, M, G, J}
 use Rattle.word.specs.declared.Word.{Word}
 use Rattle.word.specs.declared.Base.{Base}
 use Rattle.word.specs.declared.Strand.{Strand}
 use Rattle.word.specs.declared.Answer.{Answer}
+use Rattle.word.specs.declared.Answer.the-variants.{Set}
 use Rattle.word.specs.Given.{Given, isG, isJ}
 use Rattle.word.specs.declared.Row.{Row}
+use Rattle.word.specs.declared.Row.the-variants.{None, Holds}
 use Rattle.word.specs.Word.{plain, wordOf}
 use Rattle.word.specs.Kinds.{sortOf}
 use Rattle.word.specs.Numbers.{Measured}
@@ -30,9 +32,10 @@ use Rattle.door.specs.declared.Piece.{Piece}
 use Rattle.door.specs.declared.Step.{Step}
 use Rattle.door.specs.Job.{Job, entries, given}
 use Rattle.door.specs.Entries.{part-of, length-entries}
-use Rattle.word_rows.specs.Table.{Filled}
+use Rattle.join.specs.Rows.{none}
+use Rattle.word_rows.specs.Table.{Filled, filled-as}
 use Rattle.word_rows.specs.Runs.{runsOnly, HasRuns, jukugoRow}
-use Rattle.word_rows.specs.Word.{wordRow, WordReady, Judged}
+use Rattle.word_rows.specs.Word.{wordRow, WordReady, Judged, judged-goes, judged-as}
 
 -- its rows, by level one's answer
 abbrev pub FilledBy : Answer → (Word → ℕ → Cell) → Piece → List ℕ → List ℕ → Step → Type 0
@@ -116,7 +119,19 @@ pub record RunsReady (em : ℕ) (base : Base) (x : Piece) (rubyClass rubyWidth r
   pub runs : HasRuns (runsOnly em rubyClass rubyWidth run) x t
   pub whole : x .bases ≡ 1 → getD run (x .run) 0 ≡ x .rubies
 
--- what level one is given: any lists whose base is this, with this ruby
+-- Level one by what it asks of the base and the ruby of a G or a J. A J of two characters or more is judged and not measured: its runs are, and no row holds its word.
+abbrev pub basedBy : Form → ℕ → ℕ → Ratios → ℕ → Base → Strand → Answer
+basedBy form bases place h em base ruby =
+    cond (isJ form) (cond (eqb bases 1) (singleBy place h em base ruby) (answeredBy (jukugoJudged place base (ruby .sort)) none)) (groupBy place h em base ruby)
+
+abbrev pub isBased : Form → Bool
+isBased form = isG form || isJ form
+
+-- the row of a word without a left reading
+abbrev pub basedRow : Job → Piece → Word → Bool → ℕ → Cell
+basedRow job x w ends i = cond (isJ (x .form)) (jukugoRow job x w ends i) (wordRow x w ends 0 0 i)
+
+-- That is document 01's answer to what level one is given: the lists whose base is this, with this ruby.
 pub record Gives (form : Form) (em : ℕ) (base : Base) (x : Piece) (rc rw rn t : List ℕ) (g : Given) : Type 0 where
   pub ems : g .em ≡ em
   pub house : g .ratios ≡ ratiosAt t
@@ -125,40 +140,63 @@ pub record Gives (form : Form) (em : ℕ) (base : Base) (x : Piece) (rc rw rn t 
   pub rubyWidth : g .rubyWidth ≡ entries rw (x .ruby) (x .rubies)
   pub run : isJ form ≡ true → g .run ≡ entries rn (x .run) (x .bases)
 
-module _ {em : ℕ} {base : Base} {x : Piece} {rc rw rn t : List ℕ} {g : Given} (place : ℕ) {h : Ratios} {r : Strand} (e : h ≡ ratiosAt t) (f : r ≡ rubyOf x rc rw) where
-  pub group-told : Gives G em base x rc rw rn t g → groupBy place h em base r ≡ answer G place g
+module _ (place : ℕ) {em : ℕ} {base : Base} {x : Piece} {rc rw rn t : List ℕ} {g : Given} where
+  same-ruby : {form : Form} → Gives form em base x rc rw rn t g → rubyOf x rc rw ≡ strandOf (g .rubyClass) (g .rubyWidth)
+  same-ruby v = ap₂ strandOf (sym (v .rubyClass)) (sym (v .rubyWidth))
+
+  group-told : Gives G em base x rc rw rn t g → groupBy place (ratiosAt t) em base (rubyOf x rc rw) ≡ answer G place g
   group-told v =
-      ap₂ (λ u z. groupBy place u z base r) (e ∙ sym (v .house)) (sym (v .ems))
-      ∙ ap₂ (groupBy place (g .ratios) (g .em)) (v .summed) (f ∙ ap₂ strandOf (sym (v .rubyClass)) (sym (v .rubyWidth)))
+      ap₂ (λ h z. groupBy place h z base (rubyOf x rc rw)) (sym (v .house)) (sym (v .ems))
+      ∙ ap₂ (groupBy place (g .ratios) (g .em)) (v .summed) (same-ruby v)
       ∙ sym (group-by place g)
 
-  pub single-told : Gives J em base x rc rw rn t g → x .bases ≡ 1 → getD rn (x .run) 0 ≡ x .rubies → singleBy place h em base r ≡ answer J place g
+  single-told : Gives J em base x rc rw rn t g → x .bases ≡ 1 → getD rn (x .run) 0 ≡ x .rubies → singleBy place (ratiosAt t) em base (rubyOf x rc rw) ≡ answer J place g
   single-told v one whole =
-      ap₂ (λ u z. singleBy place u z base r) (e ∙ sym (v .house)) (sym (v .ems))
-      ∙ ap₂ (singleBy place (g .ratios) (g .em)) (v .summed) (f ∙ ap₂ strandOf (sym (v .rubyClass)) (sym (v .rubyWidth)))
+      ap₂ (λ h z. singleBy place h z base (rubyOf x rc rw)) (sym (v .house)) (sym (v .ems))
+      ∙ ap₂ (singleBy place (g .ratios) (g .em)) (v .summed) (same-ruby v)
       ∙ sym (single-by place g (v .run refl ∙ ap (entries rn (x .run)) one ∙ ap (λ n. n ∷ []) (whole ∙ sym (length-entries rw (x .ruby) (x .rubies)) ∙ ap length (sym (v .rubyWidth)))))
 
--- a G has no runs
-pub gives-group : {em : ℕ} {base : Base} {x : Piece} {rc rw rn t : List ℕ} {g : Given} → Gives G em base x rc rw rn t g → Gives G em base x rc rw [] t g
-gives-group v = record { ems = v .ems; house = v .house; summed = v .summed; rubyClass = v .rubyClass; rubyWidth = v .rubyWidth; run = λ j. absurd (false≢true j) }
+  cut-told : Gives J em base x rc rw rn t g → answeredBy (jukugoJudged place base (rubyOf x rc rw .sort)) (wordOf J g) ≡ answer J place g
+  cut-told v =
+      ap₂ (λ b r. answeredBy (jukugoJudged place b r) (wordOf J g)) (v .summed) (ap sortOf (sym (v .rubyClass)))
+      ∙ sym (jukugo-judged place g)
 
--- a J that is judged alone
-pub cut-told : {em : ℕ} {base : Base} {x : Piece} {rc rw rn t : List ℕ} {g : Given} (place : ℕ) {r : Strand} {q : Row} → r ≡ rubyOf x rc rw → Gives J em base x rc rw rn t g →
-    q ≡ jukugoJudged place base (r .sort) → answer J place g ≡ answeredBy q (wordOf J g)
-cut-told {g = g} place f v e =
-    jukugo-judged place g
-    ∙ ap (λ z. answeredBy z (wordOf J g)) (sym (e ∙ ap₂ (jukugoJudged place) (v .summed) (ap (λ z. z .sort) f ∙ ap sortOf (sym (v .rubyClass)))))
-
--- and has the same rows whatever its word is
-pub cut-row : (job : Job) (x : Piece) (v w : Word) (ends : Bool) (i : ℕ) → 1 < x .bases → jukugoRow job x v ends i ≡ jukugoRow job x w ends i
+-- a J that is cut has the same rows whatever its word is
+cut-row : (job : Job) (x : Piece) (v w : Word) (ends : Bool) (i : ℕ) → 1 < x .bases → jukugoRow job x v ends i ≡ jukugoRow job x w ends i
 cut-row job x v w ends i h = rw (lt-ltb 1 (x .bases) h)
 
-abbrev pub isBased : Form → Bool
-isBased form = isG form || isJ form
+cut-as : (job : Job) (x : Piece) (ends : Bool) {was t : List ℕ} {s : Step} (q : Row) (w : Word) → 1 < x .bases →
+    FilledBy (answeredBy q none) (λ v. jukugoRow job x v ends) x was t s → FilledBy (answeredBy q w) (λ v. jukugoRow job x v ends) x was t s
+cut-as job x ends (Holds why) w h j = j
+cut-as job x ends {was} {t} None w h j =
+    let g = j .goes none refl in
+    subst (FilledBy (Set w) (λ v. jukugoRow job x v ends) x was t) (sym (g .0))
+    (judged-goes refl (j .long)
+    (filled-as (jukugoRow job x none ends) (jukugoRow job x w ends) (x .base) (x .base + x .bases) was t (λ i l m. cut-row job x none w ends i h) (g .1)))
 
--- the row of a word without a left reading
-abbrev pub basedRow : Job → Piece → Word → Bool → ℕ → Cell
-basedRow job x w ends i = cond (isJ (x .form)) (jukugoRow job x w ends i) (wordRow x w ends 0 0 i)
+pub based-told : (place : ℕ) (job : Job) (x : Piece) (ends : Bool) {em : ℕ} {base : Base} {rc rw rn was t : List ℕ} {g : Given} {s : Step} →
+    isBased (x .form) ≡ true → (isJ (x .form) ≡ true → RunsReady em base x rc rw rn was) → Gives (x .form) em base x rc rw rn was g →
+    FilledBy (basedBy (x .form) (x .bases) place (ratiosAt was) em base (rubyOf x rc rw)) (λ w. basedRow job x w ends) x was t s →
+    FilledBy (answer (x .form) place g) (λ w. basedRow job x w ends) x was t s
+based-told place job x ends {em} {base} {rc} {rw} {rn} {was} {t} {g} {s} h runs v j = go (x .form) h runs v j
+  where
+    Row-of : Form → Word → ℕ → Cell
+    Row-of f w i = cond (isJ f) (jukugoRow job x w ends i) (wordRow x w ends 0 0 i)
+
+    jukugo : RunsReady em base x rc rw rn was → Gives J em base x rc rw rn was g → (b : Bool) → eqb (x .bases) 1 ≡ b →
+        FilledBy (cond b (singleBy place (ratiosAt was) em base (rubyOf x rc rw)) (answeredBy (jukugoJudged place base (rubyOf x rc rw .sort)) none)) (λ w. jukugoRow job x w ends) x was t s →
+        FilledBy (answer J place g) (λ w. jukugoRow job x w ends) x was t s
+    jukugo r v true e j = let one = eqb-true (x .bases) 1 e in judged-as (single-told place v one (r .whole one)) (λ w d f. f) j
+    jukugo r v false e j =
+        judged-as (cut-told place v) (λ w d f. f)
+        (cut-as job x ends (jukugoJudged place base (rubyOf x rc rw .sort)) (wordOf J g) (omega (arith, eqb-false (x .bases) 1 e, r .some)) j)
+
+    go : (f : Form) → isBased f ≡ true → (isJ f ≡ true → RunsReady em base x rc rw rn was) → Gives f em base x rc rw rn was g →
+        FilledBy (basedBy f (x .bases) place (ratiosAt was) em base (rubyOf x rc rw)) (Row-of f) x was t s → FilledBy (answer f place g) (Row-of f) x was t s
+    go P h r v j = absurd (false≢true h)
+    go M h r v j = absurd (false≢true h)
+    go G h r v j = judged-as (group-told place v) (λ w d f. f) j
+    go J h r v j = jukugo (r refl) v (eqb (x .bases) 1) refl j
 
 -- A P.
 

@@ -2,24 +2,25 @@
 // left rows, and leaves those that are there. It relies on `word` for level one, on `class` for depths, and on `word_rows` and `cells` for rows.
 ghost use mathlib.Core.Path.{_≡_};
 ghost use mathlib.Core.Bool.{true};
-ghost use mathlib.Core.List.{[]};
 ghost use Prim.Native.Nat.{_<_};
 ghost use lib.Dec.{eqb};
 ghost use lib.ListN.{length, getD};
 ghost use Rattle.class.specs.Class.{depthsBy};
 ghost use Rattle.basics.specs.Seen.{was};
 ghost use Rattle.word.specs.declared.Form.the-variants as Form;
-ghost use Rattle.word.specs.Given.{Given, isJ};
+ghost use Rattle.word.specs.Given.{isJ};
 ghost use Rattle.word.specs.Answer.{answer};
-ghost use Rattle.word.specs.Summed.{givenBase};
+ghost use Rattle.word.specs.Summed.{givenBase, groupBy, singleBy, jukugoJudged, answeredBy};
 ghost use Rattle.door.specs.Job.{given};
+ghost use Rattle.cells.specs.Cells.{ratiosAt};
 ghost use Rattle.cells.specs.Put.{Puts};
+ghost use Rattle.join.specs.Rows.{none};
 ghost use Rattle.word_rows.specs.Base.{BaseReady, basesNow, basesWas};
 ghost use Rattle.word_rows.specs.Runs.{HasRuns, jukugoRow};
 ghost use Rattle.word_rows.specs.Word.{wordRow, WordReady, flagged};
 ghost use Rattle.word_rows.specs.Seen.{runsNow, runsWas};
 ghost use Rattle.one_reading.specs.Single.{singleRow};
-ghost use Rattle.one_reading.specs.Lay.{RubyReady, rubyOf, BasedReady, RunsReady, Gives, isBased, basedRow, PlainReady, plainRow, FilledBy};
+ghost use Rattle.one_reading.specs.Lay.{RubyReady, rubyOf, BasedReady, RunsReady, isBased, basedBy, basedRow, PlainReady, plainRow, FilledBy};
 ghost use Rattle.one_reading.specs.Seen.{monoNow, monoWas};
 use refusal::Refusal;
 
@@ -208,7 +209,7 @@ fn lay_group(
     rwidth: &[u32],
 ) -> door::Step
     requires { ⌜ BasedReady em base p (now rclass) (now rwidth) (now t) ⌝ }
-    ensures { λ s. ⌜ (length (now (t .exit)) ≡ length (was t)) × ((g : Given) → Gives Form.G em base p (was rclass) (was rwidth) [] (was t) g → FilledBy (answer Form.G place g) (λ w. wordRow p w ends 0 0) p (was t) (now (t .exit)) s) ⌝ }
+    ensures { λ s. let ruby = rubyOf p (was rclass) (was rwidth) in ⌜ FilledBy (groupBy place (ratiosAt (was t)) em base ruby) (λ w. wordRow p w ends 0 0) p (was t) (now (t .exit)) s ⌝ }
 {
     let ruby = ruby_at(p, rclass, rwidth);
     let answer = word::group_answer(place, cells::ratios_at(t), em, base, ruby);
@@ -232,7 +233,7 @@ fn lay_single(
     runs: &[u32],
 ) -> door::Step
     requires { ⌜ (p .bases ≡ 1) × BasedReady em base p (now rclass) (now rwidth) (now t) × RunsReady em base p (now rclass) (now rwidth) (now runs) (now t) ⌝ }
-    ensures { λ s. ⌜ (length (now (t .exit)) ≡ length (was t)) × ((g : Given) → Gives Form.J em base p (was rclass) (was rwidth) (was runs) (was t) g → FilledBy (answer Form.J place g) (λ w. jukugoRow (runsWas em rclass rwidth runs) p w ends) p (was t) (now (t .exit)) s) ⌝ }
+    ensures { λ s. let ruby = rubyOf p (was rclass) (was rwidth) in let job = runsWas em rclass rwidth runs in ⌜ FilledBy (singleBy place (ratiosAt (was t)) em base ruby) (λ w. jukugoRow job p w ends) p (was t) (now (t .exit)) s ⌝ }
 {
     let ruby = ruby_at(p, rclass, rwidth);
     let answer = word::single_answer(place, cells::ratios_at(t), em, base, ruby);
@@ -256,7 +257,7 @@ fn lay_cut(
     runs: &[u32],
 ) -> door::Step
     requires { ⌜ (1 < p .bases) × BasedReady em base p (now rclass) (now rwidth) (now t) × RunsReady em base p (now rclass) (now rwidth) (now runs) (now t) ⌝ }
-    ensures { λ s. ⌜ (length (now (t .exit)) ≡ length (was t)) × ((g : Given) → Gives Form.J em base p (was rclass) (was rwidth) (was runs) (was t) g → FilledBy (answer Form.J place g) (λ w. jukugoRow (runsWas em rclass rwidth runs) p w ends) p (was t) (now (t .exit)) s) ⌝ }
+    ensures { λ s. let ruby = rubyOf p (was rclass) (was rwidth) in let job = runsWas em rclass rwidth runs in ⌜ FilledBy (answeredBy (jukugoJudged place base (ruby .sort)) none) (λ w. jukugoRow job p w ends) p (was t) (now (t .exit)) s ⌝ }
 {
     let ruby = ruby_at(p, rclass, rwidth);
     let sort = ruby.sort;
@@ -281,7 +282,7 @@ pub fn lay_based(
     runs: &[u32],
 ) -> door::Step
     requires { ⌜ (isBased (p .form) ≡ true) × BasedReady em base p (now rclass) (now rwidth) (now t) × (isJ (p .form) ≡ true → RunsReady em base p (now rclass) (now rwidth) (now runs) (now t)) ⌝ }
-    ensures { λ s. ⌜ (length (now (t .exit)) ≡ length (was t)) × ((g : Given) → Gives (p .form) em base p (was rclass) (was rwidth) (was runs) (was t) g → FilledBy (answer (p .form) place g) (λ w. basedRow (runsWas em rclass rwidth runs) p w ends) p (was t) (now (t .exit)) s) ⌝ }
+    ensures { λ s. let ruby = rubyOf p (was rclass) (was rwidth) in let job = runsWas em rclass rwidth runs in ⌜ FilledBy (basedBy (p .form) (p .bases) place (ratiosAt (was t)) em base ruby) (λ w. basedRow job p w ends) p (was t) (now (t .exit)) s ⌝ }
 {
     let form = p.form;
     match form {

@@ -118,8 +118,8 @@ module _ {g : Sheet} {s e : ℕ} {was wasRuby wasLeft : List ℕ} (ready : LineR
       pub few : (i < 1024) × (0 < cellAt (g .t) i .bases) × (cellAt (g .t) i .bases ≤ 32)
       few = let row = ready .table .sound .row i in-table in (omega (arith, in-table, ready .table .sound .few), row .some, row .few)
 
-      pub can-advance : Advances (g .em) (g .t) st i (stop (g .t) i e)
-      can-advance = advances (g .em) (g .t) (ready .n) (ready .table .sound) i (stop (g .t) i e) (ahead .0) (ahead .1) in-table st (q .near)
+      pub can-advance : Advances (g .t) st i (stop (g .t) i e)
+      can-advance = advances (g .t) (ready .n) (ready .table .sound) i (stop (g .t) i e) (ahead .0) (ahead .1) in-table st (q .near)
 
       not-far : origin st (pieceOf g i (stop (g .t) i e)) ≤ 536870912
       not-far = omega (arith, origin-bound st (pieceOf g i (stop (g .t) i e)), q .near, in-table, ready .table .sound .few)
@@ -127,10 +127,10 @@ module _ {g : Sheet} {s e : ℕ} {was wasRuby wasLeft : List ℕ} (ready : LineR
       pub asks-base : wordOf g i c .right .there ≡ true → StringReady (o + wordOf g i c .front) (wordOf g i c .inbase) i c (g .width) base
       asks-base w = base-ready (ready .table) (ahead .0) (ahead .1) in-table here o not-far w (omega (arith, ready .room, q .bases .long))
 
-      pub asks-ruby : ReadingReady Right (g .em) (g .t) i c (wordOf g i c .right) o (g .rubyWidth) ruby
+      pub asks-ruby : ReadingReady Right (g .t) i c (wordOf g i c .right) o (g .rubyWidth) ruby
       asks-ruby = side-ready (ready .table) (ahead .0) (ahead .1) in-table Right (reads Right) o not-far (omega (arith, ready .roomRuby, q .rubies .long))
 
-      pub asks-left : ReadingReady Left (g .em) (g .t) i c (wordOf g i c .left) o (g .leftWidth) left
+      pub asks-left : ReadingReady Left (g .t) i c (wordOf g i c .left) o (g .leftWidth) left
       asks-left = side-ready (ready .table) (ahead .0) (ahead .1) in-table Left (reads Left) o not-far (omega (arith, ready .roomLeft, q .lefts .long))
 
       pub in-base : i < length base
@@ -141,7 +141,7 @@ module _ {g : Sheet} {s e : ℕ} {was wasRuby wasLeft : List ℕ} (ready : LineR
       unfolding basePut
       wrote-base w x = x ∙ ap (λ b. sets base i (cond b (baseStarts (wordOf g i c) o (lent (g .width) i c)) (o ∷ []))) (sym w)
 
-      pub wrote-side : (v : Side) (out now : List ℕ) → now ≡ sets out (first v (g .t) i) (readingBy v (g .em) (g .t) (widthsOf v g) (readingOf v g i c) i c o) →
+      pub wrote-side : (v : Side) (out now : List ℕ) → now ≡ sets out (first v (g .t) i) (readingBy v (g .t) (widthsOf v g) (readingOf v g i c) i c o) →
           now ≡ sets out (first v (g .t) i) (sidePut v g i c o)
       unfolding sidePut
       wrote-side v out now x = x
@@ -178,7 +178,7 @@ module _ {g : Sheet} {s e : ℕ} {was wasRuby wasLeft : List ℕ} (ready : LineR
                 fuel = k;
                 enough = omega (arith, few .1);
                 begins = λ _. begins-next (ready .table) i in-table;
-                near = next-near (g .em) (g .t) (ready .n) (ready .table .sound) st i c (ahead .0) (ahead .1) in-table (q .near);
+                near = next-near (g .t) (ready .n) (ready .table .sound) st i c (ahead .0) (ahead .1) in-table (q .near);
                 bases =
                     strand-next b h (i + cellAt (g .t) i .bases)
                     (λ u. omega (arith, base-long (ready .table) (ahead .0) (ahead .1) in-table here o, stop-whole (g .t) i e (omega arith)));

@@ -8,7 +8,7 @@ use native.Mathlib.Numerals.{add-one}
 use native.Mathlib.Omega.{arith}
 use native.Mathlib.Decide.{decLt}
 use lib.ListN.{length, getD, set, take, drop, length-set, length-append, drop-of-length-le}
-use lib.Seq.{sets, length-sets, drop-cons, getD-take, length-take-le}
+use lib.Seq.{sets, length-sets, drop-cons, getD-take, length-take-le, take-length}
 use Rattle.basics.specs.Laws.{sets-append}
 use Rattle.line.specs.declared.Side.{Side}
 use Rattle.line.specs.declared.Side.the-variants.{Right, Left}
@@ -77,6 +77,24 @@ strand-next {f} {s} {e} {todo} {rest} {all} {was} {here} {out} {now} q split w t
 strand-end : {f : ℕ → ℕ → List ℕ} {s : ℕ} {todo all was : List ℕ} {here : ℕ} {out : List ℕ} → Strand f s todo all was here out → todo ≡ [] → length (byLine f 0 all) ≤ length was →
     out ≡ over (byLine f 0 all) was
 strand-end {f} {s} {todo} {all} {was} {here} {out} q none few = ap (λ xs. sets out here (byLine f s xs)) (sym none) ∙ q .made ∙ sets-over was (byLine f 0 all) few
+
+-- lines at the front of a list, and that front by itself
+pub lines-front : {g : Sheet} {k : ℕ} {found base ruby left : List ℕ} → LinesReady g k found base ruby left → LinesReady g (length (take k found)) (take k found) base ruby left
+lines-front {g} {k} {found} {base} {ruby} {left} r =
+    let many = length-take-le k found (r .held) in
+    record {
+      n = r .n;
+      m = r .m;
+      l = r .l;
+      table = r .table;
+      room = r .room;
+      roomRuby = r .roomRuby;
+      roomLeft = r .roomLeft;
+      held = omega arith;
+      few = omega (arith, many, r .few);
+      chained = subst (Chained (g .t) (r .n) 0) (sym (take-length (take k found))) (r .chained);
+      start = r .start;
+    }
 
 -- Before line k, which begins at base character s: what is written and what is to do make up the whole.
 pub record Going (g : Sheet) (k : ℕ) (found was wasRuby wasLeft : List ℕ) (s at : ℕ) (base ruby left : List ℕ) : Type 0 where
@@ -188,6 +206,13 @@ module _ {g : Sheet} {k : ℕ} {found was wasRuby wasLeft : List ℕ} {s l : ℕ
       few : (side : Side) → Dec (0 < ready .n) → length (byLine (sideOf side g) 0 (take k found)) ≤ pick (ready .m) (ready .l) side
       few side (yes z) = omega (arith, side-all (ready .table) side 0 (take k found) z (inr (inl refl)) (ready .chained))
       few side (no z) = rw (none-chained (g .t) (ready .n) 0 (take k found) (omega arith) (ready .chained)) zero-le
+
+-- of a list that has no more than the ends
+pub going-all : {g : Sheet} {found was wasRuby wasLeft : List ℕ} {s l : ℕ} {base ruby left : List ℕ} → Going g (length found) found was wasRuby wasLeft s l base ruby left → length found ≤ l →
+    (base ≡ over (byLine (baseOf g) 0 found) was) × (ruby ≡ over (byLine (sideOf Right g) 0 found) wasRuby) × (left ≡ over (byLine (sideOf Left g) 0 found) wasLeft)
+going-all {g} {found} {was} {wasRuby} {wasLeft} {base = base} {ruby = ruby} {left = left} q h =
+    subst (λ es. (base ≡ over (byLine (baseOf g) 0 es) was) × (ruby ≡ over (byLine (sideOf Right g) 0 es) wasRuby) × (left ≡ over (byLine (sideOf Left g) 0 es) wasLeft)) (take-length found)
+    (going-end q h)
 
 -- The ends: what is copied and what is left to copy make up the whole.
 pub record Ending (n : ℕ) (ends was : List ℕ) (l : ℕ) (lines : List ℕ) : Type 0 where

@@ -20,11 +20,11 @@ use Rattle.positions.specs.Ready.{StringReady, Runs, Fits, SideFits, pic
 use Rattle.positions.specs.Runs.{RunsReady, runs-long}
 
 -- What the writing of a piece's reading asks for, v where it has one and x its origin.
-pub record ReadingReady (side : Side) (em : ℕ) (t : List ℕ) (i c : ℕ) (v : Reading) (x : ℕ) (ws out : List ℕ) : Type 0 where
+pub record ReadingReady (side : Side) (t : List ℕ) (i c : ℕ) (v : Reading) (x : ℕ) (ws out : List ℕ) : Type 0 where
   pub ahead : i < c
   pub rows : c ≤ 1024
   pub held : size c ≤ length t
-  pub runs : v .there ≡ true → v .runs ≡ true → RunsReady side em t i c x ws out
+  pub runs : v .there ≡ true → v .runs ≡ true → RunsReady side t i c x ws out
   pub string : v .there ≡ true → v .runs ≡ false → StringReady (x + v .from) (v .within) (first side t i) (readingEnd side t i c) ws out
 
 module _ {g : Sheet} {n m l : ℕ} (table : Writable g n m l) {i c : ℕ} (ahead : i < c) (upto : c ≤ i + cellAt (g .t) i .bases) (h : i < n) where
@@ -80,12 +80,12 @@ module _ {g : Sheet} {n m l : ℕ} (table : Writable g n m l) {i c : ℕ} (ahead
         adds a b k e = omega arith
 
         go : (b d : Bool) → readingOf side g i c .there ≡ b → readingOf side g i c .runs ≡ d →
-            r + length (cond b (cond d (runsPut side (g .em) (g .t) ws (c - i) i x)
+            r + length (cond b (cond d (runsPut side (g .t) ws (c - i) i x)
             (starts (readingOf side g i c .within) (x + readingOf side g i c .from) (readingLent side (g .t) ws i c))) []) ≡ readingEnd side (g .t) i c
         go false d e k = omega (arith, f .none e)
         go true true e k =
-            rw (one i c ahead) (runs-long side (g .em) (g .t) ws (pick m l side) (table .widths side) (c - 1 - i) i x
-            (subst (λ (z : ℕ). Runs side (g .em) (g .t) ws (pick m l side) i z) (top i c ahead) (f .runs e k)) ∙ ap (runEnd side (g .t)) (last i c ahead) ∙ sym (f .last e k))
+            rw (one i c ahead) (runs-long side (g .t) ws (pick m l side) (table .widths side) (c - 1 - i) i x
+            (subst (λ (z : ℕ). Runs side (g .t) ws (pick m l side) i z) (top i c ahead) (f .runs e k)) ∙ ap (runEnd side (g .t)) (last i c ahead) ∙ sym (f .last e k))
         go true false e k =
             adds _ (readingEnd side (g .t) i c) (f .ahead)
             (length-starts _ _ (readingLent side (g .t) ws i c)
@@ -102,13 +102,13 @@ module _ {g : Sheet} {n m l : ℕ} (table : Writable g n m l) {i c : ℕ} (ahead
           where
             back : (i : ℕ) → i + 1 - 1 ≡ i
             back i = omega arith
-        none-cut Left z k = ap (λ w. w .left .there) (cut-word (g .em) (g .t) i c k) ∙ part-bare (g .em) (g .t) i c z
+        none-cut Left z k = ap (λ w. w .left .there) (cut-word (g .t) i c k) ∙ part-bare (g .t) i c z
 
         go : (b : Bool) → cellAt (g .t) i .cut ≡ b → cond b (runEnd side (g .t) (c - 1)) (runEnd side (g .t) i) ≡ first side (g .t) i
         go true k = sym (rw k) ∙ f .none (none-cut side e k)
         go false k = ap (λ z. first side (g .t) i + z) e ∙ add-zero (first side (g .t) i)
 
-    pub side-ready : (x : ℕ) → x ≤ 536870912 → {out : List ℕ} → pick m l side ≤ length out → ReadingReady side (g .em) (g .t) i c (readingOf side g i c) x (widthsOf side g) out
+    pub side-ready : (x : ℕ) → x ≤ 536870912 → {out : List ℕ} → pick m l side ≤ length out → ReadingReady side (g .t) i c (readingOf side g i c) x (widthsOf side g) out
     side-ready x near room =
         record {
           ahead = ahead;

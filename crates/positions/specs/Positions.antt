@@ -4,6 +4,7 @@ use mathlib.Core.List.{List, [], _∷_, _++_}
 use Prim.Native.Nat.{ℕ, zero, suc, _+_, _-_, _*_}
 use lib.Dec.{ltb}
 use lib.ListN.{take, drop, length}
+use lib.Seq.{sets}
 use Rattle.spread.specs.Gap.{starts}
 use Rattle.word.specs.declared.Reading.{Reading}
 use Rattle.word.specs.declared.Word.{Word}
@@ -13,18 +14,17 @@ use Rattle.line.specs.declared.Side.{Side}
 use Rattle.line.specs.declared.Side.the-variants.{Right, Left}
 use Rattle.line.specs.declared.State.{State}
 use Rattle.line.specs.Setting.{start, origin}
-use Rattle.cells.specs.Cells.{cellAt, shareOf, wordAt, piece, next, stop}
+use Rattle.cells.specs.Cells.{emAt, cellAt, shareOf, wordAt, piece, next, stop}
 
 -- a table, and the lists that are read beside it: the widths of base characters, and of those of either side
 pub record Sheet : Type 0 where
-  pub em : ℕ
   pub t : List ℕ
   pub width : List ℕ
   pub rubyWidth : List ℕ
   pub leftWidth : List ℕ
 
-abbrev pub sheet : ℕ → List ℕ → List ℕ → List ℕ → List ℕ → Sheet
-sheet em t width rubyWidth leftWidth = record { em = em; t = t; width = width; rubyWidth = rubyWidth; leftWidth = leftWidth }
+abbrev pub sheet : List ℕ → List ℕ → List ℕ → List ℕ → Sheet
+sheet t width rubyWidth leftWidth = record { t = t; width = width; rubyWidth = rubyWidth; leftWidth = leftWidth }
 
 abbrev pub widthsOf : Side → Sheet → List ℕ
 widthsOf Right g = g .rubyWidth
@@ -59,22 +59,22 @@ abbrev pub readingLent : Side → List ℕ → List ℕ → ℕ → ℕ → List
 readingLent side t ws i c = lent ws (first side t i) (readingEnd side t i c)
 
 -- the runs of k rows from i on, each solid over its own character of one em, the first of which starts at x
-unfoldable pub runsPut : Side → ℕ → List ℕ → List ℕ → ℕ → ℕ → ℕ → List ℕ
+unfoldable pub runsPut : Side → List ℕ → List ℕ → ℕ → ℕ → ℕ → List ℕ
 unfolding starts
-runsPut side em t ws zero i x = []
-runsPut side em t ws (suc k) i x = starts 0 (x + (em - own side t i)) (runLent side t ws i) ++ runsPut side em t ws k (i + 1) (x + 2 * em)
+runsPut side t ws zero i x = []
+runsPut side t ws (suc k) i x = starts 0 (x + (emAt t - own side t i)) (runLent side t ws i) ++ runsPut side t ws k (i + 1) (x + 2 * emAt t)
 
 -- the reading v of the piece from i up to c, the origin of its word at x: run by run, or as one string
-unfoldable pub readingBy : Side → ℕ → List ℕ → List ℕ → Reading → ℕ → ℕ → ℕ → List ℕ
+unfoldable pub readingBy : Side → List ℕ → List ℕ → Reading → ℕ → ℕ → ℕ → List ℕ
 unfolding starts runsPut
-readingBy side em t ws v i c x = cond (v .there) (cond (v .runs) (runsPut side em t ws (c - i) i x) (starts (v .within) (x + v .from) (readingLent side t ws i c))) []
+readingBy side t ws v i c x = cond (v .there) (cond (v .runs) (runsPut side t ws (c - i) i x) (starts (v .within) (x + v .from) (readingLent side t ws i c))) []
 
 abbrev pub wordOf : Sheet → ℕ → ℕ → Word
-wordOf g i c = wordAt (g .em) (g .t) i c
+wordOf g i c = wordAt (g .t) i c
 
 -- what a line sees of a piece
 abbrev pub pieceOf : Sheet → ℕ → ℕ → Element
-pieceOf g i c = piece (g .em) (g .t) i c
+pieceOf g i c = piece (g .t) i c
 
 -- its reading on one side
 abbrev pub readingOf : Side → Sheet → ℕ → ℕ → Reading
@@ -88,7 +88,7 @@ basePut g i c x = let w = wordOf g i c in cond (w .right .there) (baseStarts w x
 
 unfoldable pub sidePut : Side → Sheet → ℕ → ℕ → ℕ → List ℕ
 unfolding readingBy wordAt
-sidePut side g i c x = readingBy side (g .em) (g .t) (widthsOf side g) (readingOf side g i c) i c x
+sidePut side g i c x = readingBy side (g .t) (widthsOf side g) (readingOf side g i c) i c x
 
 -- what f gives for each piece and its origin, of at most k pieces from i on up to e
 unfoldable pub putFrom : (ℕ → ℕ → ℕ → List ℕ) → Sheet → ℕ → State → ℕ → ℕ → List ℕ
@@ -113,6 +113,13 @@ rubyOf = sideOf Right
 
 abbrev pub leftOf : Sheet → ℕ → ℕ → List ℕ
 leftOf = sideOf Left
+
+-- written where they belong
+abbrev pub baseOver : Sheet → ℕ → ℕ → List ℕ → List ℕ
+baseOver g s e was = sets was s (baseOf g s e)
+
+abbrev pub sideOver : Side → Sheet → ℕ → ℕ → List ℕ → List ℕ
+sideOver side g s e was = sets was (first side (g .t) s) (sideOf side g s e)
 
 -- line by line, from s on
 abbrev pub byLine : (ℕ → ℕ → List ℕ) → ℕ → List ℕ → List ℕ

@@ -8,7 +8,7 @@ use lib.ListN.{length, take}
 use Rattle.basics.specs.Lists.{sum}
 use Rattle.line.specs.declared.Side.{Side}
 use Rattle.line.specs.declared.Side.the-variants.{Right, Left}
-use Rattle.cells.specs.Cells.{cellAt, shareOf, mayEnd}
+use Rattle.cells.specs.Cells.{emAt, cellAt, shareOf, mayEnd}
 use Rattle.cells.specs.Sound.{Sound}
 use Rattle.positions.specs.Positions.{Sheet, lent, widthsOf, first, own, runEnd, readingEnd, runLent, readingLent, wordOf, readingOf}
 
@@ -23,15 +23,15 @@ pub record StringReady (at within a e : ℕ) (ws out : List ℕ) : Type 0 where
   pub near : at + 2 * sum (lent ws a e) + within ≤ 4294967295
 
 -- The run of row i on one side, of m characters there in all: it is no longer than one em.
-pub record Run (side : Side) (em : ℕ) (t ws : List ℕ) (m i : ℕ) : Type 0 where
+pub record Run (side : Side) (t ws : List ℕ) (m i : ℕ) : Type 0 where
   pub few : shareOf side (cellAt t i) .many ≤ 64
   pub within : runEnd side t i ≤ m
   pub long : sum (runLent side t ws i) ≡ own side t i
-  pub short : own side t i ≤ em
+  pub short : own side t i ≤ emAt t
 
 -- The runs of the rows i up to c follow each other.
-pub record Runs (side : Side) (em : ℕ) (t ws : List ℕ) (m i c : ℕ) : Type 0 where
-  pub each : (k : ℕ) → i ≤ k → k < c → Run side em t ws m k
+pub record Runs (side : Side) (t ws : List ℕ) (m i c : ℕ) : Type 0 where
+  pub each : (k : ℕ) → i ≤ k → k < c → Run side t ws m k
   pub follows : (k : ℕ) → i ≤ k → k + 1 < c → first side t (k + 1) ≡ runEnd side t k
 
 -- The piece from i up to c: one without ruby has one base character, and no left reading.
@@ -48,7 +48,7 @@ pub record SideFits (side : Side) (g : Sheet) (n m i c : ℕ) : Type 0 where
   pub within : readingEnd side (g .t) i c ≤ m
   pub string : readingOf side g i c .there ≡ true → readingOf side g i c .runs ≡ false →
       readingOf side g i c .from + 2 * sum (readingLent side (g .t) (widthsOf side g) i c) + readingOf side g i c .within ≤ 1048576
-  pub runs : readingOf side g i c .there ≡ true → readingOf side g i c .runs ≡ true → Runs side (g .em) (g .t) (widthsOf side g) m i c
+  pub runs : readingOf side g i c .there ≡ true → readingOf side g i c .runs ≡ true → Runs side (g .t) (widthsOf side g) m i c
   pub last : readingOf side g i c .there ≡ true → readingOf side g i c .runs ≡ true → readingEnd side (g .t) i c ≡ runEnd side (g .t) (c - 1)
   pub follows : c < n → first side (g .t) c ≡ readingEnd side (g .t) i c
 
@@ -66,7 +66,7 @@ pick m l Left = l
 
 -- A table of n base characters, m of ruby and l on the left, and the widths of all of them.
 pub record Writable (g : Sheet) (n m l : ℕ) : Type 0 where
-  pub sound : Sound (g .em) (g .t) n
+  pub sound : Sound (g .t) n
   pub width : n ≤ length (g .width)
   pub widths : (side : Side) → pick m l side ≤ length (widthsOf side g)
   pub few : (side : Side) → pick m l side ≤ 4096

@@ -40,7 +40,7 @@ module _ {g : Sheet} {n m l : ℕ} (table : Writable g n m l) where
       some = table .sound .row i h .some
 
       last : cellAt (g .t) i .bases ≡ cellAt (g .t) (i + (cellAt (g .t) i .bases - 1)) .bases + (cellAt (g .t) i .bases - 1)
-      last = along (g .em) (g .t) n (table .sound) i h (cellAt (g .t) i .bases - 1) (omega (arith, some)) .bases
+      last = along (g .t) n (table .sound) i h (cellAt (g .t) i .bases - 1) (omega (arith, some)) .bases
 
       back : (i b : ℕ) → 0 < b → i + (b - 1) ≡ i + b - 1
       back i b l = omega arith
@@ -73,7 +73,7 @@ module _ {g : Sheet} {n m l : ℕ} (table : Writable g n m l) where
       stops = go (decLt e (i + cellAt (g .t) i .bases))
         where
           go : Dec (e < i + cellAt (g .t) i .bases) → Stops (g .t) i (stop (g .t) i e)
-          go (yes u) = inl (sym (may-within (g .em) (g .t) n (table .sound) i (omega arith) e h u) ∙ permits)
+          go (yes u) = inl (sym (may-within (g .t) n (table .sound) i (omega arith) e h u) ∙ permits)
           go (no u) = inr (omega arith)
 
       pub fits-here : Begins (g .t) i → Fits g i (stop (g .t) i e)

@@ -11,7 +11,7 @@ ghost use Rattle.spread.specs.Gap.{starts};
 ghost use Rattle.word.specs.Word.{baseStarts};
 ghost use Rattle.line.specs.declared.Side.the-variants.{Right, Left};
 ghost use Rattle.cells.specs.Cells.{size};
-ghost use Rattle.positions.specs.Positions.{sheet, lent, over, first, readingEnd, runsPut, readingBy, baseOf, rubyOf, leftOf, linesOver};
+ghost use Rattle.positions.specs.Positions.{sheet, lent, over, first, readingEnd, runsPut, readingBy, baseOf, rubyOf, leftOf, baseOver, sideOver, linesOver};
 ghost use Rattle.positions.specs.Ready.{StringReady, LineReady, LinesReady};
 ghost use Rattle.positions.specs.Runs.{RunsReady};
 ghost use Rattle.positions.specs.Piece.{ReadingReady};
@@ -33,19 +33,11 @@ fn put_base(w: word::Word, at: u32, i: usize, c: usize, width: &[u32], base: &mu
 }
 
 // One side's runs of a J from i up to c, each solid over its own character of one em, the first of which starts at `at`.
-fn put_runs(
-    t: &[u32],
-    i: usize,
-    c: usize,
-    side: line::Side,
-    em: u32,
-    at: u32,
-    ws: &[u32],
-    out: &mut [u32],
-)
-    requires { ⌜ RunsReady side em (now t) i c at (now ws) (now out) ⌝ }
-    ensures { λ _. let u = was t in ⌜ now (out .exit) ≡ sets (was out) (first side u i) (runsPut side em u (was ws) (c - i) i at) ⌝ }
+fn put_runs(t: &[u32], i: usize, c: usize, side: line::Side, at: u32, ws: &[u32], out: &mut [u32])
+    requires { ⌜ RunsReady side (now t) i c at (now ws) (now out) ⌝ }
+    ensures { λ _. let u = was t in ⌜ now (out .exit) ≡ sets (was out) (first side u i) (runsPut side u (was ws) (c - i) i at) ⌝ }
 {
+    let em = cells::em_at(t);
     let mut x = at;
     let mut k = i;
     while k < c {
@@ -78,18 +70,17 @@ fn put_reading(
     i: usize,
     c: usize,
     side: line::Side,
-    em: u32,
     v: word::Reading,
     at: u32,
     ws: &[u32],
     out: &mut [u32],
 )
-    requires { ⌜ ReadingReady side em (now t) i c v at (now ws) (now out) ⌝ }
-    ensures { λ _. let u = was t in ⌜ now (out .exit) ≡ sets (was out) (first side u i) (readingBy side em u (was ws) v i c at) ⌝ }
+    requires { ⌜ ReadingReady side (now t) i c v at (now ws) (now out) ⌝ }
+    ensures { λ _. let u = was t in ⌜ now (out .exit) ≡ sets (was out) (first side u i) (readingBy side u (was ws) v i c at) ⌝ }
 {
     if v.there {
         if v.runs {
-            put_runs(t, i, c, side, em, at, ws, out);
+            put_runs(t, i, c, side, at, ws, out);
             return;
         }
         let s = cells::share_at(t, i, side);
@@ -105,12 +96,16 @@ fn fewer(a: usize, b: usize) -> usize
     if a <= b { a } else { b }
 }
 
-// The line from s up to e. A piece without ruby is a P, one character at its origin.
+// The base characters of a line: from the first up to where the next line begins.
+struct Span {
+    first: usize,
+    upto: usize,
+}
+
+// A line. A piece without ruby is a P, one character at its origin.
 fn put_line(
     t: &[u32],
-    s: usize,
-    e: usize,
-    em: u32,
+    l: Span,
     width: &[u32],
     rwidth: &[u32],
     lwidth: &[u32],
@@ -118,23 +113,24 @@ fn put_line(
     ruby: &mut [u32],
     left: &mut [u32],
 )
-    requires { ⌜ LineReady (sheet em (now t) (now width) (now rwidth) (now lwidth)) s e (now base) (now ruby) (now left) ⌝ }
-    ensures { λ _. let u = was t in let g = sheet em u (was width) (was rwidth) (was lwidth) in ⌜ (now (base .exit) ≡ sets (was base) s (baseOf g s e)) × (now (ruby .exit) ≡ sets (was ruby) (first Right u s) (rubyOf g s e)) × (now (left .exit) ≡ sets (was left) (first Left u s) (leftOf g s e)) ⌝ }
+    requires { ⌜ LineReady (sheet (now t) (now width) (now rwidth) (now lwidth)) (l .first) (l .upto) (now base) (now ruby) (now left) ⌝ }
+    ensures { λ _. let g = sheet (was t) (was width) (was rwidth) (was lwidth) in let s = l .first in let e = l .upto in ⌜ (now (base .exit) ≡ baseOver g s e (was base)) × (now (ruby .exit) ≡ sideOver Right g s e (was ruby)) × (now (left .exit) ≡ sideOver Left g s e (was left)) ⌝ }
 {
-    let mut i = s;
+    let e = l.upto;
+    let mut i = l.first;
     let mut st = line::START;
     while i < e {
         let a = cells::cell_at(t, i);
         let end = i + a.bases as usize;
         let c = fewer(e, end);
-        let step = cells::advance(t, i, c, em, st);
+        let step = cells::advance(t, i, c, st);
         let w = step.word;
         let over = w.right;
         if over.there {
             put_base(w, step.at, i, c, width, base);
             let under = w.left;
-            put_reading(t, i, c, line::Side::Right, em, over, step.at, rwidth, ruby);
-            put_reading(t, i, c, line::Side::Left, em, under, step.at, lwidth, left);
+            put_reading(t, i, c, line::Side::Right, over, step.at, rwidth, ruby);
+            put_reading(t, i, c, line::Side::Left, under, step.at, lwidth, left);
         } else {
             base[i] = step.at;
         }
@@ -143,12 +139,10 @@ fn put_line(
     }
 }
 
-// The positions of all characters, in n lines that end where the front of `ends` says.
+// The positions of all characters, in lines that end where `ends` says.
 pub fn put_lines(
     t: &[u32],
-    n: usize,
     ends: &[u32],
-    em: u32,
     width: &[u32],
     rwidth: &[u32],
     lwidth: &[u32],
@@ -156,14 +150,15 @@ pub fn put_lines(
     ruby: &mut [u32],
     left: &mut [u32],
 )
-    requires { ⌜ LinesReady (sheet em (now t) (now width) (now rwidth) (now lwidth)) n (now ends) (now base) (now ruby) (now left) ⌝ }
-    ensures { λ _. let g = sheet em (was t) (was width) (was rwidth) (was lwidth) in let es = take n (was ends) in ⌜ (now (base .exit) ≡ linesOver (baseOf g) es (was base)) × (now (ruby .exit) ≡ linesOver (rubyOf g) es (was ruby)) × (now (left .exit) ≡ linesOver (leftOf g) es (was left)) ⌝ }
+    requires { ⌜ LinesReady (sheet (now t) (now width) (now rwidth) (now lwidth)) (length (now ends)) (now ends) (now base) (now ruby) (now left) ⌝ }
+    ensures { λ _. let g = sheet (was t) (was width) (was rwidth) (was lwidth) in let es = was ends in ⌜ (now (base .exit) ≡ linesOver (baseOf g) es (was base)) × (now (ruby .exit) ≡ linesOver (rubyOf g) es (was ruby)) × (now (left .exit) ≡ linesOver (leftOf g) es (was left)) ⌝ }
 {
     let mut s: usize = 0;
     let mut l: usize = 0;
-    while l < n {
+    while l < ends.len() {
         let e = ends[l] as usize;
-        put_line(t, s, e, em, width, rwidth, lwidth, base, ruby, left);
+        let line = Span { first: s, upto: e };
+        put_line(t, line, width, rwidth, lwidth, base, ruby, left);
         s = e;
         l += 1;
     }

@@ -21,6 +21,7 @@ use Rattle.join.specs.Rows.{Holds}
 use Rattle.join.specs.Join as join
 use Rattle.positions.specs.Positions.{over, first, baseOf, sideOf, byLine}
 use Rattle.positions.specs.Ready.{Chained, LinesReady}
+use Rattle.positions.specs.Lines.{lines-front}
 use Rattle.posjoin.specs.Piece.{sheetOf}
 use Rattle.posjoin.specs.Ready.{first-row, writable}
 use Rattle.posjoin.specs.Join.{bases-join, readings-join}
@@ -70,13 +71,21 @@ module _ (job : Job) (passed : Passed job) (t : List ℕ) (table : Holds job t) 
         start = first-reading job passed t table;
       }
 
+  -- by the ends alone
+  pub front-ready : (base ruby left : List ℕ) → baseCount job ≤ length base → rubyCount job ≤ length ruby → leftCount job ≤ length left →
+      LinesReady (sheetOf job t) (length (take k found)) (take k found) base ruby left
+  front-ready base ruby left bases rubies lefts =
+      lines-front (lines-ready base ruby left bases rubies lefts)
+
   -- and what is written is what the job's meaning has
   pub base-written : (base : List ℕ) {base2 : List ℕ} → base2 ≡ over (byLine (baseOf (sheetOf job t)) 0 (take k found)) base → base2 ≡ outcome.over (line.byLine (baseIn job) 0 (ends job)) base
-  base-written base w = w ∙ ap (λ l. over l base) (ap (byLine (baseOf (sheetOf job t)) 0) is ∙ bases-join job passed t table (ends job) (baseCount job) all)
+  base-written base w =
+      w ∙ ap (λ l. over l base) (ap (byLine (baseOf (sheetOf job t)) 0) is ∙ bases-join job passed t table (ends job) (baseCount job) all)
 
   pub reading-written : (side : Side) (out : List ℕ) {out2 : List ℕ} → out2 ≡ over (byLine (sideOf side (sheetOf job t)) 0 (take k found)) out →
       out2 ≡ outcome.over (line.byLine (readingIn side job) 0 (ends job)) out
-  reading-written side out w = w ∙ ap (λ l. over l out) (ap (byLine (sideOf side (sheetOf job t)) 0) is ∙ readings-join job passed t table side (ends job) (baseCount job) all)
+  reading-written side out w =
+      w ∙ ap (λ l. over l out) (ap (byLine (sideOf side (sheetOf job t)) 0) is ∙ readings-join job passed t table side (ends job) (baseCount job) all)
 
   pub ends-written : (lines : List ℕ) {lines2 : List ℕ} → lines2 ≡ over (take k found) lines → lines2 ≡ outcome.over (ends job) lines
   ends-written lines w = w ∙ ap (λ l. over l lines) is

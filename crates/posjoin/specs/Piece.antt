@@ -49,7 +49,7 @@ use Rattle.posjoin.specs.Runs.{Shared, right-shared, left-shared, readin
 
 -- a table and the lists of a job
 abbrev pub sheetOf : Job → List ℕ → Sheet
-sheetOf job t = sheet (job .em) t (job .width) (job .rubyWidth) (job .leftWidth)
+sheetOf job t = sheet t (job .width) (job .rubyWidth) (job .leftWidth)
 
 -- a word's reading on one side, and the runs that it is given
 abbrev pub on : Side → Word → Reading
@@ -62,9 +62,9 @@ runsIn Left job p = glossOf job p .run
 
 -- The runs of a piece by rows are those that level one is given.
 pub record ByRuns (side : Side) (job : Job) (t : List ℕ) (i c : ℕ) (p : Piece) : Type 0 where
-  pub fit : Runs side (job .em) t (widthsOf side job) (countOf side job) i c
+  pub fit : Runs side t (widthsOf side job) (countOf side job) i c
   pub last : readingEnd side t i c ≡ runEnd side t (c - 1)
-  pub put : (x : ℕ) → runsPut side (job .em) t (widthsOf side job) (c - i) i x ≡ word.runStarts (job .em) x (strings.split (runsIn side job p) (widthsIn side job p))
+  pub put : (x : ℕ) → runsPut side t (widthsOf side job) (c - i) i x ≡ word.runStarts (job .em) x (strings.split (runsIn side job p) (widthsIn side job p))
 
 -- A piece of the job by the numbers of its rows.
 pub record Same (job : Job) (t : List ℕ) (i c : ℕ) (p : Piece) : Type 0 where
@@ -72,7 +72,7 @@ pub record Same (job : Job) (t : List ℕ) (i c : ℕ) (p : Piece) : Type 0 wher
   pub bases : p .bases ≡ c - i
   pub first : (side : Side) → firstOf side p ≡ first side t i
   pub end : (side : Side) → firstOf side p + manyOf side p ≡ readingEnd side t i c
-  pub word : wordAt (job .em) t i c ≡ wordOf job p
+  pub word : wordAt t i c ≡ wordOf job p
   pub good : GoodPiece job p
   pub single : hasRuby (p .form) ≡ false → p .bases ≡ 1
   pub runs : (side : Side) → on side (wordOf job p) .there ≡ true → on side (wordOf job p) .runs ≡ true → ByRuns side job t i c p
@@ -118,15 +118,15 @@ module _ (job : Job) (passed : Passed job) (t : List ℕ) (table : Holds job t) 
         ∙ ap (runEnd side t) (at-end (x .base) from) ∙ sym (is-last side)
 
     part-runs : (side : Side) → Shared job passed t table x at j side → strings.anyLonger (job .em) (runsFrom side job x (i - x .base) (c - i)) ≡ false →
-        Runs side (job .em) t (widthsOf side job) (countOf side job) i c
+        Runs side t (widthsOf side job) (countOf side job) i c
     part-runs side s none =
-        subst (λ (z : ℕ). Runs side (job .em) t (widthsOf side job) (countOf side job) z c) (low (x .base) from)
-        (subst (λ (z : ℕ). Runs side (job .em) t (widthsOf side job) (countOf side job) (x .base + (i - x .base)) z) (high (x .base) from)
+        subst (λ (z : ℕ). Runs side t (widthsOf side job) (countOf side job) z c) (low (x .base) from)
+        (subst (λ (z : ℕ). Runs side t (widthsOf side job) (countOf side job) (x .base + (i - x .base)) z) (high (x .base) from)
         (runs-fit job passed t table x at j side s (i - x .base) (c - i) (omega arith) (omega arith) none))
 
-    part-put : (side : Side) → Shared job passed t table x at j side → (y : ℕ) → runsPut side (job .em) t (widthsOf side job) (c - i) i y ≡ word.runStarts (job .em) y (runsFrom side job x (i - x .base) (c - i))
+    part-put : (side : Side) → Shared job passed t table x at j side → (y : ℕ) → runsPut side t (widthsOf side job) (c - i) i y ≡ word.runStarts (job .em) y (runsFrom side job x (i - x .base) (c - i))
     part-put side s y =
-        ap (λ (z : ℕ). runsPut side (job .em) t (widthsOf side job) (c - i) z y) (sym (low (x .base) from)) ∙ runs-put job passed t table x at j side s (c - i) (i - x .base) y (omega arith)
+        ap (λ (z : ℕ). runsPut side t (widthsOf side job) (c - i) z y) (sym (low (x .base) from)) ∙ runs-put job passed t table x at j side s (c - i) (i - x .base) y (omega arith)
 
     good-part : GoodPiece job (part job x (i - x .base) (c - i))
     good-part = cut-piece job passed x (record { good = at .good; whole = at .whole }) j (i - x .base) (c - i) (omega arith) (omega arith)
@@ -257,12 +257,12 @@ module _ (job : Job) (passed : Passed job) (t : List ℕ) (table : Holds job t) 
     whole-runs-of side j s m split none =
         record {
           fit =
-              subst (λ (z : ℕ). Runs side (job .em) t (widthsOf side job) (countOf side job) z c) (low (x .base) f)
-              (subst (λ (z : ℕ). Runs side (job .em) t (widthsOf side job) (countOf side job) (x .base + 0) z) (high (x .base) l)
+              subst (λ (z : ℕ). Runs side t (widthsOf side job) (countOf side job) z c) (low (x .base) f)
+              (subst (λ (z : ℕ). Runs side t (widthsOf side job) (countOf side job) (x .base + 0) z) (high (x .base) l)
               (runs-fit job passed t table x at j side s 0 (x .bases) (at .good .counts .some) (omega arith) (ap (strings.anyLonger (job .em)) split ∙ none)));
           last = is-own side ∙ ap (runEnd side t) (omega (arith, lone j));
           put =
-              λ y. ap₂ (λ (m z : ℕ). runsPut side (job .em) t (widthsOf side job) m z y) (long (x .base) (x .bases) f l) (sym (low (x .base) f))
+              λ y. ap₂ (λ (m z : ℕ). runsPut side t (widthsOf side job) m z y) (long (x .base) (x .bases) f l) (sym (low (x .base) f))
               ∙ runs-put job passed t table x at j side s (x .bases) 0 y (omega arith)
               ∙ ap (word.runStarts (job .em) y) split;
         }
@@ -364,7 +364,7 @@ module _ {job : Job} {t : List ℕ} {i c : ℕ} {p : Piece} (q : Same job t i c 
   none-on Left h = stands job p (q .good) .noLeft h
 
   by-way : (side : Side) (o : ℕ) → on side w .there ≡ true → (b : Bool) → on side w .runs ≡ b →
-      cond b (runsPut side (job .em) t (widthsOf side job) (c - i) i o) (starts (on side w .within) (o + on side w .from) (readingLent side t (widthsOf side job) i c))
+      cond b (runsPut side t (widthsOf side job) (c - i) i o) (starts (on side w .within) (o + on side w .from) (readingLent side t (widthsOf side job) i c))
       ≡ readingStarts (on side w) (job .em) o (runsIn side job p) (widthsIn side job p)
   unfolding readingStarts
   by-way side o h true e = rw e (q .runs side h e .put o)
@@ -372,13 +372,13 @@ module _ {job : Job} {t : List ℕ} {i c : ℕ} {p : Piece} (q : Same job t i c 
 
   pub side-put : (side : Side) (o : ℕ) → sidePut side (sheetOf job t) i c o ≡ readingAt side job p o
   unfolding sidePut readingBy readingAt
-  side-put Right o = ap (λ v. readingBy Right (job .em) t (job .rubyWidth) (v .right) i c o) (q .word) ∙ go (w .right .there) refl
+  side-put Right o = ap (λ v. readingBy Right t (job .rubyWidth) (v .right) i c o) (q .word) ∙ go (w .right .there) refl
     where
-      go : (b : Bool) → w .right .there ≡ b → readingBy Right (job .em) t (job .rubyWidth) (w .right) i c o ≡ map (λ y. o + y) (alone job p .right)
+      go : (b : Bool) → w .right .there ≡ b → readingBy Right t (job .rubyWidth) (w .right) i c o ≡ map (λ y. o + y) (alone job p .right)
       go true h = rw h (by-way Right o h (w .right .runs) refl ∙ moved Right o)
       go false h = rw h (sym (ap (map (λ y. o + y)) (none-on Right (sym (there-is Right) ∙ h))))
-  side-put Left o = ap (λ v. readingBy Left (job .em) t (job .leftWidth) (v .left) i c o) (q .word) ∙ go (w .left .there) refl
+  side-put Left o = ap (λ v. readingBy Left t (job .leftWidth) (v .left) i c o) (q .word) ∙ go (w .left .there) refl
     where
-      go : (b : Bool) → w .left .there ≡ b → readingBy Left (job .em) t (job .leftWidth) (w .left) i c o ≡ map (λ y. o + y) (alone job p .left)
+      go : (b : Bool) → w .left .there ≡ b → readingBy Left t (job .leftWidth) (w .left) i c o ≡ map (λ y. o + y) (alone job p .left)
       go true h = rw h (by-way Left o h (w .left .runs) refl ∙ moved Left o)
       go false h = rw h (sym (ap (map (λ y. o + y)) (none-on Left (sym (there-is Left) ∙ h))))

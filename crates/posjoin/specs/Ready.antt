@@ -52,7 +52,7 @@ fits {job} {t} {i} {c} {p} q l =
     k : Kept (p .form) (given job p) (glossOf job p) (wordOf job p)
     k = promise job p (q .good)
 
-    no-ruby : wordAt (job .em) t i c .right .there ≡ false → hasRuby (p .form) ≡ false
+    no-ruby : wordAt t i c .right .there ≡ false → hasRuby (p .form) ≡ false
     no-ruby e = sym (k .right .is) ∙ rw (q .word) at e
 
 -- and its reading on one side, but for where the next one's begins
@@ -82,7 +82,7 @@ module _ {job : Job} {t : List ℕ} {i c : ℕ} {p : Piece} (q : Same job t i c 
   widths-are Right = reading-lent q Right
   widths-are Left = reading-lent q Left
 
-  runs-of : (side : Side) → ByRuns side job t i c p → Runs side (job .em) t (positions.widthsOf side (sheetOf job t)) (countOf side job) i c
+  runs-of : (side : Side) → ByRuns side job t i c p → Runs side t (positions.widthsOf side (sheetOf job t)) (countOf side job) i c
   runs-of Right r = r .fit
   runs-of Left r = r .fit
 

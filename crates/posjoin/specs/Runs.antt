@@ -27,7 +27,7 @@ use Rattle.door.specs.Passed.{Passed}
 use Rattle.job.specs.Line.{cuts, countOf, widthsOf}
 use Rattle.job.specs.Pieces.{IsWord, cut-is}
 use Rattle.job.specs.Words.{runs-of-j, ruby-fits, left-fits}
-use Rattle.join.specs.Rows.{runsOf, runOf, firstAt, runAt, runWidth, Holds}
+use Rattle.join.specs.Rows.{runsOf, runOf, firstAt, runAt, runWidth, Holds, ems}
 use Rattle.join.specs.Runs.{first-next}
 use Rattle.join.specs.Part.{entries-take, entries-drop, runsFrom, lengths}
 use Rattle.join.specs.Join as join
@@ -98,7 +98,7 @@ module _ (job : Job) (passed : Passed job) (t : List ℕ) (table : Holds job t) 
         ∙ part-of (widthsOf side job) (firstAt side job x k) (runAt side job x k) (omega (arith, s .inside k l .1, reading-within side job))
 
     -- row by row, and as level one shares the characters out
-    pub runs-put : (n k y : ℕ) → k + n ≤ x .bases → runsPut side (job .em) t (widthsOf side job) n (x .base + k) y ≡ word.runStarts (job .em) y (runsFrom side job x k n)
+    pub runs-put : (n k y : ℕ) → k + n ≤ x .bases → runsPut side t (widthsOf side job) n (x .base + k) y ≡ word.runStarts (job .em) y (runsFrom side job x k n)
     unfolding runsPut word.runStarts
     runs-put zero k y h = refl
     runs-put (suc n) k y h =
@@ -106,19 +106,20 @@ module _ (job : Job) (passed : Passed job) (t : List ℕ) (table : Holds job t) 
         let m = sum (entries (runsOf side job) (suc (runOf side x + k)) n) in
         let l : k < x .bases = omega arith in
         rw (entries-take (widthsOf side job) (firstAt side job x k) c m, entries-drop (widthsOf side job) (firstAt side job x k) c m, first-next side job x k, ← add-suc (runOf side x) k)
-        (ap₂ (λ a b. starts 0 (y + (job .em - a)) b ++ runsPut side (job .em) t (widthsOf side job) n (x .base + k + 1) (y + 2 * job .em)) (s .own k l) (run-lent k l)
+        (ap (λ m. starts 0 (y + (m - own side t (x .base + k))) (runLent side t (widthsOf side job) (x .base + k)) ++ runsPut side t (widthsOf side job) n (x .base + k + 1) (y + 2 * m)) (ems table)
+        ∙ ap₂ (λ a b. starts 0 (y + (job .em - a)) b ++ runsPut side t (widthsOf side job) n (x .base + k + 1) (y + 2 * job .em)) (s .own k l) (run-lent k l)
         ∙ ap (λ z. starts 0 (y + (job .em - runWidth side job x k)) (entries (widthsOf side job) (firstAt side job x k) (runAt side job x k)) ++ z)
-        (ap (λ (z : ℕ). runsPut side (job .em) t (widthsOf side job) n z (y + 2 * job .em)) (one (x .base) k) ∙ runs-put n (suc k) (y + 2 * job .em) (omega arith)))
+        (ap (λ (z : ℕ). runsPut side t (widthsOf side job) n z (y + 2 * job .em)) (one (x .base) k) ∙ runs-put n (suc k) (y + 2 * job .em) (omega arith)))
       where
         one : (b k : ℕ) → b + k + 1 ≡ b + suc k
         one b k = omega arith
 
     -- and they can be written
     pub runs-fit : (k n : ℕ) → 0 < n → k + n ≤ x .bases → alone.anyLonger (job .em) (runsFrom side job x k n) ≡ false →
-        Runs side (job .em) t (widthsOf side job) (countOf side job) (x .base + k) (x .base + k + n)
+        Runs side t (widthsOf side job) (countOf side job) (x .base + k) (x .base + k + n)
     runs-fit k n some h none =
         record {
-          each = λ j l u. subst (Run side (job .em) t (widthsOf side job) (countOf side job)) (there j l) (each (j - x .base) (omega arith) (omega arith));
+          each = λ j l u. subst (Run side t (widthsOf side job) (countOf side job)) (there j l) (each (j - x .base) (omega arith) (omega arith));
           follows = λ j l u. subst (λ (z : ℕ). first side t (z + 1) ≡ runEnd side t z) (there j l) (follows (j - x .base) (omega arith));
         }
       where
@@ -128,14 +129,14 @@ module _ (job : Job) (passed : Passed job) (t : List ℕ) (table : Holds job t) 
         short : (j : ℕ) → k ≤ j → j < k + n → runWidth side job x j ≤ job .em
         short = none-larger (runWidth side job x) (job .em) k n (ap (any (ltb (job .em))) (sym (lengths side job x n k)) ∙ none)
 
-        each : (j : ℕ) → k ≤ j → j < k + n → Run side (job .em) t (widthsOf side job) (countOf side job) (x .base + j)
+        each : (j : ℕ) → k ≤ j → j < k + n → Run side t (widthsOf side job) (countOf side job) (x .base + j)
         each j l u =
             let v : j < x .bases = omega arith in
             record {
               few = omega (arith, s .many j v, s .inside j v .0);
               within = omega (arith, s .first j v, s .many j v, s .inside j v .1);
               long = ap sum (run-lent j v) ∙ sym (s .own j v);
-              short = omega (arith, s .own j v, short j l u);
+              short = omega (arith, s .own j v, short j l u, ems table);
             }
 
         follows : (j : ℕ) → j + 1 < x .bases → first side t (x .base + j + 1) ≡ runEnd side t (x .base + j)

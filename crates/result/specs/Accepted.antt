@@ -29,23 +29,23 @@ use Rattle.result.specs.Shown.{line-shown}
 use Rattle.result.specs.Short.{longest, result-short}
 
 module _ (job : Job) (passed : Passed job) (t : List ℕ) (table : Holds job t) (base ruby left : List ℕ) where
-  line-text : (s e : ℕ) → Begins job s → s < e → e ≤ baseCount job → permitted job e ≡ true → lineText t base ruby left (furthest (stateAt (job .em) t s e)) s e ≡ ofLine job base ruby left s e
+  line-text : (s e : ℕ) → Begins job s → s < e → e ≤ baseCount job → permitted job e ≡ true → lineText t base ruby left (furthest (stateAt t s e)) s e ≡ ofLine job base ruby left s e
   unfolding lineText ofLine
   line-text s e b l u p =
       ap₂ (λ x ps. lineOne (bytes "line") x ++ ps) (ap furthest (state-join job passed t table s e l u) ∙ sym (extent-of job s e)) (line-shown job passed t table s e b u p base ruby left l)
 
-  lines-join : (s : ℕ) (es : List ℕ) (d : ℕ) → Begins job s → Chain job s es d → linesText t base ruby left s es (extentsOf (job .em) t s es) ≡ byLine (ofLine job base ruby left) s es
+  lines-join : (s : ℕ) (es : List ℕ) (d : ℕ) → Begins job s → Chain job s es d → linesText t base ruby left s es (extentsOf t s es) ≡ byLine (ofLine job base ruby left) s es
   lines-join s [] d b c = refl
   lines-join s (e ∷ es) d b c =
       let a = c .0 .at in
       ap₂ (λ x y. x ++ y) (line-text s e b (a .ahead) (a .within) (a .permits)) (lines-join e es d (inr (a .permits)) (c .1))
 
   module _ (n : ℕ) (found far wasFar : List ℕ) (is : take n found ≡ ends job) (many : n ≡ length (ends job)) (none : linesFaults job ≡ [])
-      (told : far ≡ over (extentsOf (job .em) t 0 (ends job)) wasFar) where
-    extents-are : take n far ≡ extentsOf (job .em) t 0 (ends job)
+      (told : far ≡ over (extentsOf t 0 (ends job)) wasFar) where
+    extents-are : take n far ≡ extentsOf t 0 (ends job)
     extents-are =
-        let xs = extentsOf (job .em) t 0 (ends job) in
-        ap₂ take (many ∙ sym (length-extents (job .em) t 0 (ends job))) told ∙ take-append-seam xs (drop (length xs) wasFar)
+        let xs = extentsOf t 0 (ends job) in
+        ap₂ take (many ∙ sym (length-extents t 0 (ends job))) told ∙ take-append-seam xs (drop (length xs) wasFar)
 
     -- what is printed is the job's text
     pub rows-text : rowsText t n found far base ruby left ≡ resultText job base ruby left
@@ -59,7 +59,6 @@ module _ (job : Job) (passed : Passed job) (t : List ℕ) (table : Holds job t) 
         TextReady t n found far base ruby left out
     text-ready out f b r l h =
         record {
-          em = job .em;
           width = job .width;
           rubyWidth = job .rubyWidth;
           leftWidth = job .leftWidth;

@@ -23,9 +23,8 @@ use Rattle.result.specs.ByRows.{behind, lastFrom, lastPiece, sideRows}
 
 -- a sound table, in which a line ends at e
 pub record Table (t : List ℕ) (e : ℕ) : Type 0 where
-  pub em : ℕ
   pub n : ℕ
-  pub sound : Sound em t n
+  pub sound : Sound t n
   pub within : e ≤ n
 
 -- what the printing of one side asks for
@@ -102,7 +101,7 @@ module _ {g : Sheet} {n m l : ℕ} (table : Writable g n m l) {e : ℕ} (within 
   t = g .t
 
   pub tableOf : Table t e
-  tableOf = record { em = g .em; n = n; sound = table .sound; within = within }
+  tableOf = record { n = n; sound = table .sound; within = within }
 
   -- the piece at z is one of those of the element at i in this line
   pub record Reaches (i z : ℕ) : Type 0 where

@@ -25,11 +25,10 @@ use Rattle.result.specs.Element.{Table, SideReady, tableOf, Reaches, rea
 
 -- Its pieces are those that a line may have, and there is room for their text.
 pub record LineReady (t : List ℕ) (s e : ℕ) (base ruby left out : List ℕ) (from : ℕ) : Type 0 where
-  pub em : ℕ
   pub width : List ℕ
   pub rubyWidth : List ℕ
   pub leftWidth : List ℕ
-  pub line : positions.LineReady (sheet em t width rubyWidth leftWidth) s e base ruby left
+  pub line : positions.LineReady (sheet t width rubyWidth leftWidth) s e base ruby left
   pub room : from + length (elementsText t base ruby left (e - s) s e) ≤ length out
 
 -- Before the element of row i.
@@ -45,9 +44,9 @@ printing-first ready = record { ready = ready; low = omega arith; begins = λ _.
 -- An element of the line, from i up to c; its last piece begins at z.
 module _ {t : List ℕ} {s e : ℕ} {base ruby left was : List ℕ} {from : ℕ} (ready : LineReady t s e base ruby left was from) where
   abbrev g : Sheet
-  g = sheet (ready .em) t (ready .width) (ready .rubyWidth) (ready .leftWidth)
+  g = sheet t (ready .width) (ready .rubyWidth) (ready .leftWidth)
 
-  abbrev ln : positions.LineReady (sheet (ready .em) t (ready .width) (ready .rubyWidth) (ready .leftWidth)) s e base ruby left
+  abbrev ln : positions.LineReady (sheet t (ready .width) (ready .rubyWidth) (ready .leftWidth)) s e base ruby left
   ln = ready .line
 
   pub line-table : Table t e

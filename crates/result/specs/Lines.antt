@@ -19,11 +19,10 @@ use Rattle.result.specs.Line.{LineReady}
 
 -- `ends` and `extents` have at their front the ends and extents of n lines of a table that can be written, and there is room for the text.
 pub record TextReady (t : List ℕ) (n : ℕ) (ends extents base ruby left out : List ℕ) : Type 0 where
-  pub em : ℕ
   pub width : List ℕ
   pub rubyWidth : List ℕ
   pub leftWidth : List ℕ
-  pub lines : LinesReady (sheet em t width rubyWidth leftWidth) n ends base ruby left
+  pub lines : LinesReady (sheet t width rubyWidth leftWidth) n ends base ruby left
   pub far : n ≤ length extents
   pub room : length (rowsText t n ends extents base ruby left) ≤ length out
 
@@ -50,11 +49,10 @@ take-more n l xs h k = drop-more l (take n xs) (omega (arith, length-take-le n x
 
 -- Before line l, which begins at base character s; the lines' text begins at `start`.
 pub record Going (t : List ℕ) (n : ℕ) (ends extents base ruby left was : List ℕ) (start s l r : ℕ) (out : List ℕ) : Type 0 where
-  pub em : ℕ
   pub width : List ℕ
   pub rubyWidth : List ℕ
   pub leftWidth : List ℕ
-  pub lines : LinesReady (sheet em t width rubyWidth leftWidth) n ends base ruby left
+  pub lines : LinesReady (sheet t width rubyWidth leftWidth) n ends base ruby left
   pub begins : s < lines .n → Begins t s
   pub far : n ≤ length extents
   pub chained : Chained t (lines .n) s (drop l (take n ends))
@@ -86,7 +84,6 @@ module _ {t : List ℕ} {n : ℕ} {ends extents base ruby left was : List ℕ} (
         let l = left-next head body whole first in
         record {
           begins = λ _. inr (inl refl);
-          em = ready .em;
           width = ready .width;
           rubyWidth = ready .rubyWidth;
           leftWidth = ready .leftWidth;
@@ -144,7 +141,6 @@ module _ {t : List ℕ} {n : ℕ} {ends extents base ruby left was : List ℕ} {
     pub line-ready : LineReady t s e base ruby left now p
     line-ready =
         record {
-          em = q .em;
           width = q .width;
           rubyWidth = q .rubyWidth;
           leftWidth = q .leftWidth;
@@ -169,7 +165,6 @@ module _ {t : List ℕ} {n : ℕ} {ends extents base ruby left was : List ℕ} {
     going-next {p2} {now2} v =
         record {
           begins = λ g. begins-behind (q .lines .table) e (omega (arith, chain .0)) g (chain .2);
-          em = q .em;
           width = q .width;
           rubyWidth = q .rubyWidth;
           leftWidth = q .leftWidth;

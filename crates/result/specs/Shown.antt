@@ -51,7 +51,7 @@ element-text e {t} {i} {c} {p} k q base ruby left =
 
 module _ (job : Job) (passed : Passed job) (t : List ℕ) (table : Holds job t) (s e : ℕ) (begins : Begins job s) (within : e ≤ baseCount job) (permits : permitted job e ≡ true) where
   whole-table : Table t e
-  whole-table = record { em = job .em; n = baseCount job; sound = join.sound job passed t table; within = within }
+  whole-table = record { n = baseCount job; sound = join.sound job passed t table; within = within }
 
   module _ (x : Piece) (at : IsElement job x) (i : ℕ) (from : max s (x .base) ≡ i) (before : i < x .base + x .bases) (ahead : i < e) where
     abbrev d : ℕ

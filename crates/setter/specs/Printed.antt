@@ -13,7 +13,7 @@ use Rattle.job.specs.Line.{ends}
 use Rattle.job.specs.Outcome.{Outcome, outcome}
 use Rattle.job.specs.Demands.{lengths-kept}
 use Rattle.filling.specs.Lines.{extentsOf, length-extents}
-use Rattle.positions.specs.Positions.{over, linesOver, baseOf, rubyOf, leftOf}
+use Rattle.positions.specs.Positions.{lent, over}
 use Rattle.positions.specs.Ready.{LinesReady}
 use Rattle.posjoin.specs.Piece.{sheetOf}
 use Rattle.engine.specs.Fault.{long}
@@ -40,7 +40,7 @@ module _ {job : Job} {base ruby left lines was wasFar t found far : List ℕ} (m
     full = rw (most .bases, most .rubies, most .lefts, most .ends) filled
 
     -- there is room for the positions, and for the ends of the lines
-    pub lines-ready : LinesReady (sheetOf job t) n found base ruby left
+    pub lines-ready : let es = lent found 0 n in LinesReady (sheetOf job t) (length es) es base ruby left
     lines-ready = whole.ready job base ruby left lines was wasFar t found far n full
 
     pub ends-room : (n ≤ 1024) × (n ≤ length found) × (n ≤ length lines)
@@ -48,7 +48,7 @@ module _ {job : Job} {base ruby left lines was wasFar t found far : List ℕ} (m
 
     -- once they are put, the lists are the outcome's
     module _ {b r g l : List ℕ}
-        (put : (b ≡ linesOver (baseOf (sheetOf job t)) (take n found) base) × (r ≡ linesOver (rubyOf (sheetOf job t)) (take n found) ruby) × (g ≡ linesOver (leftOf (sheetOf job t)) (take n found) left))
+        (put : whole.Put job t (lent found 0 n) base ruby left b r g)
         (ended : l ≡ over (take n found) lines) where
       abbrev o : Outcome
       o = record { answer = Set n; base = b; ruby = r; left = g; lines = l }
@@ -58,8 +58,8 @@ module _ {job : Job} {base ruby left lines was wasFar t found far : List ℕ} (m
 
       far-long : n ≤ length far
       far-long =
-          let xs = extentsOf (job .em) t 0 (ends job) in
-          omega (arith, full .many, ap length (full .told), length-append xs (drop (length xs) wasFar), length-extents (job .em) t 0 (ends job))
+          let xs = extentsOf t 0 (ends job) in
+          omega (arith, full .many, ap length (full .told), length-append xs (drop (length xs) wasFar), length-extents t 0 (ends job))
 
       room : (baseCount job ≤ length b) × (rubyCount job ≤ length r) × (leftCount job ≤ length g)
       room =

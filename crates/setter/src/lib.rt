@@ -58,9 +58,7 @@ pub fn set_sheet(
                     let l = limits::LEFT_WIDTH + n.lefts;
                     positions::put_lines(
                         &t,
-                        k,
-                        &ends,
-                        set[0],
+                        &ends[0..k],
                         &base[limits::BASE_WIDTH..b],
                         &ruby[limits::RUBY_WIDTH..r],
                         &left[limits::LEFT_WIDTH..l],

@@ -6,5 +6,5 @@ use Rattle.basics.specs.Laws.{determined}
 use Rattle.shortest.specs.Shortest.{neededOf}
 
 -- `needed_extent`
-pub needed-unique : (em : ℕ) (t : List ℕ) (n s p q : ℕ) → p ≡ neededOf em t n s → q ≡ neededOf em t n s → p ≡ q
-needed-unique em t n s = determined (neededOf em t n s)
+pub needed-unique : (t : List ℕ) (n s p q : ℕ) → p ≡ neededOf t n s → q ≡ neededOf t n s → p ≡ q
+needed-unique t n s = determined (neededOf t n s)

@@ -49,21 +49,21 @@ module _ (p : ℕ → Bool) (f : ℕ → ℕ) (d s : ℕ) where
       go false c es = ap (λ (es : List ℕ). least d (map f es)) (append-nil es)
 
 module _ (job : Job) (passed : Passed job) (t : List ℕ) (table : Holds job t) (s : ℕ) (h : s < baseCount job) where
-  extent-join : (c : ℕ) → s < c → c ≤ baseCount job → extentAt (job .em) t s c ≡ extentOf job s c
+  extent-join : (c : ℕ) → s < c → c ≤ baseCount job → extentAt t s c ≡ extentOf job s c
   extent-join c l u = ap furthest (state-join job passed t table s c l u) ∙ sym (extent-of job s c)
 
   -- THE JOIN
-  pub needed-join : neededOf (job .em) t (baseCount job) s ≡ needed job s
+  pub needed-join : neededOf t (baseCount job) s ≡ needed job s
   unfolding neededOf needed tries
   needed-join =
-      least-same (mayEnd t (baseCount job)) (extentAt (job .em) t s) (extentAt (job .em) t s (baseCount job)) s (permitted job) (extentOf job s) (baseCount job - s)
+      least-same (mayEnd t (baseCount job)) (extentAt t s) (extentAt t s (baseCount job)) s (permitted job) (extentOf job s) (baseCount job - s)
       (λ c l u. let v : c ≤ baseCount job = omega arith in (may-join job passed t table c (omega arith) v, extent-join c l v))
       ∙ ap (λ d. leastOf (permitted job) (extentOf job s) d s (baseCount job - s)) (extent-join (baseCount job) h (omega arith))
       ∙ least-listed (permitted job) (extentOf job s) (extentOf job s (baseCount job)) s (baseCount job - s)
 
 -- Of a job that is refused with number 11 at s and a table that holds it, `needed_extent` tells what is needed there: all that it asks holds.
 module _ (job : Job) (base ruby left line : List ℕ) (s : ℕ) (refused : outcome job base ruby left line .answer ≡ Refused (NoBreak s)) (t : List ℕ) (table : Holds job t) where
-  pub refused-ready : (Sound (job .em) t (baseCount job)) × (s < baseCount job) × (neededOf (job .em) t (baseCount job) s ≡ needed job s)
+  pub refused-ready : (Sound t (baseCount job)) × (s < baseCount job) × (neededOf t (baseCount job) s ≡ needed job s)
   refused-ready =
       let good = entered job base ruby left line s refused in
       let h = refused-ahead job base ruby left line s refused in

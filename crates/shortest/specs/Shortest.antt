@@ -14,14 +14,14 @@ leastOf p f d s zero = d
 leastOf p f d s (suc k) = let c = s + suc k in cond (p c) (min (f c) (leastOf p f d s k)) (leastOf p f d s k)
 
 -- the extent of the line from s up to c
-abbrev pub extentAt : ℕ → List ℕ → ℕ → ℕ → ℕ
-extentAt em t s c = furthest (stateAt em t s c)
+abbrev pub extentAt : List ℕ → ℕ → ℕ → ℕ
+extentAt t s c = furthest (stateAt t s c)
 
 -- "Every permitted break ahead is a try": the least extent that the line from s has at any of them, of n base characters. The job's end is always one, so its
 -- extent is what the others are held against.
-unfoldable pub neededOf : ℕ → List ℕ → ℕ → ℕ → ℕ
+unfoldable pub neededOf : List ℕ → ℕ → ℕ → ℕ
 unfolding leastOf walk
-neededOf em t n s = leastOf (mayEnd t n) (extentAt em t s) (extentAt em t s n) s (n - s)
+neededOf t n s = leastOf (mayEnd t n) (extentAt t s) (extentAt t s n) s (n - s)
 
 -- Laws of the least.
 

@@ -24,14 +24,14 @@ fn lesser(st: line::State, least: u32) -> u32
 }
 
 // The least extent once each inner break of the J from i on is tried, after a line of the state st: a line may end "between any two base characters of a J".
-fn within(t: &[u32], n: usize, i: usize, bases: usize, st: line::State, least: u32, em: u32) -> u32
-    requires { ⌜ (Stands em (now t) n i st) × (bases ≡ cellAt (now t) i .bases) × (cellAt (now t) i .cut ≡ true) ⌝ }
-    ensures { λ r. ⌜ r ≡ innerLeast em (was t) st i least (bases - 1) ⌝ }
+fn within(t: &[u32], n: usize, i: usize, bases: usize, st: line::State, least: u32) -> u32
+    requires { ⌜ (Stands (now t) n i st) × (bases ≡ cellAt (now t) i .bases) × (cellAt (now t) i .cut ≡ true) ⌝ }
+    ensures { λ r. ⌜ r ≡ innerLeast (was t) st i least (bases - 1) ⌝ }
 {
     let mut k: usize = 1;
     let mut found = least;
     while k < bases {
-        let step = cells::advance_cut(t, i, i + k, em, st);
+        let step = cells::advance_cut(t, i, i + k, st);
         found = lesser(step.st, found);
         k += 1;
     }
@@ -47,16 +47,15 @@ fn least_behind(
     st: line::State,
     next: line::State,
     least: u32,
-    em: u32,
 ) -> u32
-    requires { ⌜ Stands em (now t) n i st ⌝ }
-    ensures { λ r. ⌜ r ≡ behind em (was t) n i st next least ⌝ }
+    requires { ⌜ Stands (now t) n i st ⌝ }
+    ensures { λ r. ⌜ r ≡ behind (was t) n i st next least ⌝ }
 {
     let a = cells::cell_at(t, i);
     let bases = a.bases as usize;
     let mut found = least;
     if a.cut {
-        found = within(t, n, i, bases, st, least, em);
+        found = within(t, n, i, bases, st, least);
     }
     if i + bases == n {
         return lesser(next, found);
@@ -68,9 +67,9 @@ fn least_behind(
 }
 
 // The extent that the shortest permitted line from base character s has, of a table of n rows.
-pub fn needed_extent(t: &[u32], n: usize, s: usize, em: u32) -> u32
-    requires { ⌜ (Sound em (now t) n) × (s < n) ⌝ }
-    ensures { λ r. ⌜ r ≡ neededOf em (was t) n s ⌝ }
+pub fn needed_extent(t: &[u32], n: usize, s: usize) -> u32
+    requires { ⌜ (Sound (now t) n) × (s < n) ⌝ }
+    ensures { λ r. ⌜ r ≡ neededOf (was t) n s ⌝ }
 {
     let mut st = line::START;
     let mut i = s;
@@ -78,8 +77,8 @@ pub fn needed_extent(t: &[u32], n: usize, s: usize, em: u32) -> u32
     while i < n {
         let a = cells::cell_at(t, i);
         let c = i + a.bases as usize;
-        let step = cells::advance(t, i, c, em, st);
-        least = least_behind(t, n, i, st, step.st, least, em);
+        let step = cells::advance(t, i, c, st);
+        least = least_behind(t, n, i, st, step.st, least);
         st = step.st;
         i = c;
     }

@@ -11,7 +11,7 @@ use lib.Dec.{eqb}
 use lib.ListN.{length}
 use Rattle.cells.specs.declared.Cell.{Cell}
 use Rattle.cells.specs.declared.LeftRow.{LeftRow}
-use Rattle.cells.specs.Cells.{size, leftSize, ratiosAt, leftsAt, leftAt, beside, cellAt}
+use Rattle.cells.specs.Cells.{size, leftSize, headAt, leftsAt, leftAt, beside, cellAt}
 use Rattle.cells.specs.Put.{Behind, Puts, PutsLeft, both-put, no-left}
 use Rattle.word_rows.specs.Table.{Clear, Filled}
 
@@ -40,7 +40,7 @@ room-stays n was t l e r = record { behind = omega (arith, r .behind, e); room =
 -- Left rows from a up to e are those of g, and the rows in front of the left ones are as they were.
 pub record LeftFilled (g : ℕ → LeftRow) (a e : ℕ) (was t : List ℕ) : Type 0 where
   pub long : length t ≡ length was
-  pub head : ratiosAt t ≡ ratiosAt was
+  pub head : headAt t ≡ headAt was
   pub lefts : leftsAt t ≡ leftsAt was
   pub here : (i : ℕ) → a ≤ i → i < e → leftAt t i ≡ g i
   pub other : (i : ℕ) → (i < a) ⊎ (e ≤ i) → leftAt t i ≡ leftAt was i
@@ -74,7 +74,7 @@ left-end g {a} {i} {e} {was} {t} h q = subst (λ (z : ℕ). LeftFilled g a z was
 -- Rows from a up to e are those of f, with their left readings; of the others those in front of left rows are as they were.
 pub record Written (f : ℕ → Cell) (a e : ℕ) (was t : List ℕ) : Type 0 where
   pub long : length t ≡ length was
-  pub head : ratiosAt t ≡ ratiosAt was
+  pub head : headAt t ≡ headAt was
   pub lefts : leftsAt t ≡ leftsAt was
   pub here : (i : ℕ) → a ≤ i → i < e → cellAt t i ≡ f i
   pub other : (i : ℕ) → (i < a) ⊎ (e ≤ i) → Clear was (i + 1) → cellAt t i ≡ cellAt was i
@@ -144,7 +144,7 @@ pub record BareReady (l a e m : ℕ) (t : List ℕ) : Type 0 where
 
 pub record Bared (l a e : ℕ) (was t : List ℕ) : Type 0 where
   pub long : length t ≡ length was
-  pub head : ratiosAt t ≡ ratiosAt was
+  pub head : headAt t ≡ headAt was
   pub lefts : leftsAt t ≡ leftsAt was
   pub here : (i : ℕ) → a ≤ i → i < e → leftAt t i ≡ bareRow l
   pub other : (i : ℕ) → (i < a) ⊎ (e ≤ i) → Clear was (i + 1) → cellAt t i ≡ cellAt was i

@@ -7,7 +7,7 @@ use native.Mathlib.Omega.{arith}
 use native.Mathlib.Decide.{decLt}
 use lib.ListN.{length}
 use Rattle.cells.specs.declared.Cell.{Cell}
-use Rattle.cells.specs.Cells.{size, ratiosAt, leftsAt, leftAt, beside, cellAt}
+use Rattle.cells.specs.Cells.{size, headAt, leftsAt, leftAt, beside, cellAt}
 use Rattle.cells.specs.Put.{Behind, Puts}
 
 -- left rows, where there are any, begin behind the rows of the first n base characters
@@ -20,7 +20,7 @@ behind was t i n e h c s = omega (arith, e, c (omega (arith, e)))
 -- Rows from a up to e are those of f, beside the left readings that stand there.
 pub record Filled (f : ℕ → Cell) (a e : ℕ) (was t : List ℕ) : Type 0 where
   pub long : length t ≡ length was
-  pub head : ratiosAt t ≡ ratiosAt was
+  pub head : headAt t ≡ headAt was
   pub lefts : leftsAt t ≡ leftsAt was
   pub left : Clear was e → (i : ℕ) → leftAt t i ≡ leftAt was i
   pub here : Clear was e → (i : ℕ) → a ≤ i → i < e → cellAt t i ≡ beside (f i) (leftAt was i)

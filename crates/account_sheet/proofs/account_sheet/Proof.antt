@@ -84,7 +84,7 @@ filled w = w .before .before
 
 -- where the lists are made
 abbrev matched : tie.After-put-lists → tie.After-k
-matched p = p .before .before .before .before .before .before .before .before .before
+matched p = p .before .before .before .before .before .before .before .before
 
 read-sheet-requires : tie.Need-read-sheet-requires
 read-sheet-requires c κs = search needs
@@ -107,23 +107,17 @@ enum-known-why-2 c = search needs
 element-copy-out-write-declined : tie.Need-element-copy-out-write-declined
 element-copy-out-write-declined c = search needs
 
-element-copy-out-write-declined-2 : tie.Need-element-copy-out-write-declined-2
-element-copy-out-write-declined-2 c = search needs
-
 write-declined-requires : tie.Need-write-declined-requires
 write-declined-requires c κs =
-    let w = c .before .before .before .before .before in
-    asked.ready (found (refused w) (w .why2 .given .1)) (tell.many-bases (within (refused w .before))) (omega (arith, c .write-declined-arg3 .given .0 .1))
+    let w = c .before .before .before .before in
+    asked.ready (found (refused w) (w .why2 .given .1)) (tell.many-bases (within (refused w .before))) (omega (arith, c .write-declined-arg2 .given .0 .1))
 
 enum-known-k : tie.Need-enum-known-k
 enum-known-k c = search needs
 
-element-copy-out-put-lists : tie.Need-element-copy-out-put-lists
-element-copy-out-put-lists c = search needs
-
 put-lists-requires : tie.Need-put-lists-requires
 put-lists-requires c κs =
-    let w = c .before .before .before .before .before .before .before .before in
+    let w = c .before .before .before .before .before .before .before in
     let f = filled w in
     let u = sliced (f .before) in
     let x = start u .args in
@@ -157,7 +151,7 @@ returns c =
 
 returns-2 : tie.Need-returns-2
 returns-2 c =
-    let w = c .before .before .before .before .before .before in
+    let w = c .before .before .before .before .before in
     let f = refused w in
     let d = f .before in
     let u = sliced d in
@@ -166,7 +160,7 @@ returns-2 c =
     let wrote = rw (asked.same-text q (tell.many-bases (within d))) at (c .write-declined .ensures) in
     let t = tell.told-refused (job f) (x .rows .now) (x .told .now) (x .extents .now) (full u) q wrote in
     let a = answered-sound (read u .read-sheet .ensures) (sound u .n .given .1) (lent d) (full u) t in
-    (a, fits a (c .before .write-declined-arg3 .given .0 .1))
+    (a, fits a (c .before .write-declined-arg2 .given .0 .1))
 
 returns-3 : tie.Need-returns-3
 returns-3 c =
@@ -193,10 +187,8 @@ account-sheet-spec =
     fill-tables-requires
     enum-known-why-2
     element-copy-out-write-declined
-    element-copy-out-write-declined-2
     write-declined-requires
     enum-known-k
-    element-copy-out-put-lists
     put-lists-requires
     write-clear-requires
     returns

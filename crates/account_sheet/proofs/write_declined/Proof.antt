@@ -23,7 +23,7 @@ eleven c = sym (c .before .number .ensures) ∙ c .if1 .left
 -- what the line needs
 told : (c : tie.After-needed-extent) →
     let a = start (written (c .before .before .before .before)) .args in
-    c .needed-extent .result ≡ neededOf (a .em) (a .t .now) (a .n) (placeOf (a .why))
+    c .needed-extent .result ≡ neededOf (a .t .now) (a .n) (placeOf (a .why))
 told c = rw (c .before .place .ensures) at (c .needed-extent .ensures)
 
 write-refusal-requires : tie.Need-write-refusal-requires

@@ -29,14 +29,14 @@ right-at-requires c κs =
     let h = c .before .before in
     let a = h .before .before .before in
     let x = a .args in
-    (a .pre .held, row c .1, row-fits (x .em) (x .t .now) (x .st) (x .i) (x .c) (a .pre) (ruby h) (row c .0))
+    (a .pre .held, row c .1, row-fits (x .t .now) (x .st) (x .i) (x .c) (a .pre) (ruby h) (row c .0))
 
 returns : tie.Need-returns
 returns c =
     let h = c .before .before .before in
     let a = h .before .before .before in
     let x = a .args in
-    c .right-at .ensures ∙ row-step (x .em) (x .t .now) (x .st) (x .i) (x .c) (a .pre) (ruby h) (row (c .before) .0)
+    c .right-at .ensures ∙ row-step (x .t .now) (x .st) (x .i) (x .c) (a .pre) (ruby h) (row (c .before) .0)
 
 found-at-requires : tie.Need-found-at-requires
 found-at-requires c κs = let h = c .before .before in (ruby h, h .before .before .before .pre)
@@ -48,7 +48,7 @@ plain-at-requires : tie.Need-plain-at-requires
 plain-at-requires c κs =
     let a = c .before .before .before in
     let x = a .args in
-    (a .pre .held, a .pre .plain (none c), plain-fits (x .em) (x .t .now) (x .st) (x .i) (x .c) (a .pre) (none c))
+    (a .pre .held, a .pre .plain (none c), plain-fits (x .t .now) (x .st) (x .i) (x .c) (a .pre) (none c))
 
 returns-3 : tie.Need-returns-3
 returns-3 c =
@@ -56,7 +56,7 @@ returns-3 c =
     let a = e .before .before .before in
     let x = a .args in
     let r = cellAt (x .t .now) (x .i) in
-    c .plain-at .ensures ∙ ap (λ (w : Word). stepOf w (r .before) (r .after) (x .st)) (plain-word (x .em) (x .t .now) (x .st) (x .i) (x .c) (a .pre) (none e))
+    c .plain-at .ensures ∙ ap (λ (w : Word). stepOf w (r .before) (r .after) (x .st)) (plain-word (x .t .now) (x .st) (x .i) (x .c) (a .pre) (none e))
 
 pub advance-spec : {M : Type 1} → statement M
 advance-spec =

@@ -4,19 +4,23 @@ use Prim.Native.Nat.{_+_, _-_, _*_, _≤_}
 use native.Mathlib.Nat.{mul-le-mul}
 use native.Mathlib.Omega.{arith}
 use borrow.Author.Needs.{needs}
+use Rattle.cells.specs.Cells.{emAt}
 use Rattle.cells.specs.Sound.{lone, both-one, both-more}
 use Rattle.cells.proofs.both_upto.Statement.{statement}
 use Rattle.cells.proofs.both_upto.Tie as tie
 
 abbrev entry : tie.After-cell-at2 → tie.Start
-entry c = c .before .before .before
+entry c = c .before .before .before .before
 
-block : (a : tie.Start) → a .args .em * (a .args .c - a .args .i) ≤ 131072
+block : (a : tie.Start) → emAt (a .args .t .now) * (a .args .c - a .args .i) ≤ 131072
 block a = mul-le-mul {n₂ = 4096} {m₂ = 32} (a .pre .1 .small) (omega (arith, a .pre .1 .few))
 
 -- a part of one character
-single : (c : tie.After-ratios-at) → let x = c .before .before .before .before .before .args in x .c - x .i ≡ 1
-single c = omega (arith, c .before .if1 .taken, c .before .before .before .before .before .pre .1 .ahead)
+single : (c : tie.After-ratios-at) → let x = entry (c .before .before) .args in x .c - x .i ≡ 1
+single c = omega (arith, c .before .if1 .taken, entry (c .before .before) .pre .1 .ahead)
+
+shared-slice-read-em : tie.Need-shared-slice-read-em
+shared-slice-read-em c = search needs
 
 cell-at-requires : tie.Need-cell-at-requires
 cell-at-requires c κs = search needs
@@ -44,7 +48,7 @@ monos-of-requires c κs =
     let d = c .before .before in
     let a = entry d in
     let x = a .args in
-    let one = lone (x .em) (x .t .now) (x .i) (x .c) (a .pre .1) (single c) in
+    let one = lone (x .t .now) (x .i) (x .c) (a .pre .1) (single c) in
     rw (d .before .cell-at .ensures) (
       record {
         base = record { some = omega (arith, single c); few = omega (arith, single c) };
@@ -61,8 +65,8 @@ returns : tie.Need-returns
 returns c =
     let t = c .before .before in
     let d = t .before in
-    let x = d .before .before .before .args in
-    c .monos-of .ensures ∙ rw (c .before .ratios-at .ensures, d .before .cell-at .ensures) (sym (both-one (x .em) (x .t .now) (x .i) (x .c) (single (c .before))))
+    let x = entry d .args in
+    c .monos-of .ensures ∙ rw (c .before .ratios-at .ensures, d .before .cell-at .ensures) (sym (both-one (x .t .now) (x .i) (x .c) (single (c .before))))
 
 runs-over-requires : tie.Need-runs-over-requires
 runs-over-requires c κs = block (entry (c .before))
@@ -78,15 +82,16 @@ returns-2 c =
     let r = c .before in
     let e = r .before .before in
     let d = e .before in
-    let x = d .before .before .before .args in
+    let x = entry d .args in
     c .each-over .ensures
     ∙ rw (r .runs-over2 .ensures, r .before .runs-over .ensures, d .cell-at2 .ensures, d .before .cell-at .ensures)
-    (sym (both-more (x .em) (x .t .now) (x .i) (x .c) (λ q. omega (arith, e .if1 .left))))
+    (sym (both-more (x .t .now) (x .i) (x .c) (λ q. omega (arith, e .if1 .left))))
 
 pub both-upto-spec : {M : Type 1} → statement M
 both-upto-spec =
     tie.close
     (tie.spec
+    shared-slice-read-em
     cell-at-requires
     sub-cell-at
     cell-at-requires-2

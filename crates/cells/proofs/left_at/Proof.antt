@@ -11,7 +11,7 @@ shared-slice-read-from : tie.Need-shared-slice-read-from
 shared-slice-read-from c = search needs
 
 cast-from : tie.Need-cast-from
-cast-from c = omega (arith, c .shared-slice-known2 .given 6)
+cast-from c = omega (arith, c .shared-slice-known2 .given 7)
 
 returns : tie.Need-returns
 unfolding leftAt
@@ -21,10 +21,10 @@ mul-at : tie.Need-mul-at
 mul-at c = search needs
 
 add-at : tie.Need-add-at
-add-at c = omega (arith, c .before .shared-slice-known2 .given 6)
+add-at c = omega (arith, c .before .shared-slice-known2 .given 7)
 
 add-if2 : tie.Need-add-if2
-add-if2 c = omega (arith, c .before .shared-slice-known2 .given 6)
+add-if2 c = omega (arith, c .before .shared-slice-known2 .given 7)
 
 returns-2 : tie.Need-returns-2
 unfolding leftAt

@@ -1,4 +1,4 @@
--- Seven numbers, each in its own place; the table stays as long as it was.
+-- Eight numbers, each in its own place; the table stays as long as it was.
 use lib.ListN.{length-set}
 use native.Mathlib.Omega.{arith}
 use borrow.Author.Needs.{needs}
@@ -62,6 +62,9 @@ slice-write-t-6 c = simp length-set (omega arith)
 slice-write-t-7 : tie.Need-slice-write-t-7
 slice-write-t-7 c = simp length-set (omega arith)
 
+slice-write-t-8 : tie.Need-slice-write-t-8
+slice-write-t-8 c = simp length-set (omega arith)
+
 same-length : tie.Need-same-length
 same-length c = simp length-set
 
@@ -91,5 +94,6 @@ put-head-spec =
     index-2-t-6
     slice-write-t-6
     slice-write-t-7
+    slice-write-t-8
     same-length
     returns)

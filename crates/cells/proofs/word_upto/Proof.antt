@@ -17,7 +17,7 @@ returns c =
     let t = c .before in
     let b = t .before in
     let x = b .before .before .args in
-    c .part-upto .ensures ∙ sym (cut-word (x .em) (x .t .now) (x .i) (x .c) (sym (b .cut-at .ensures) ∙ t .if1 .taken))
+    c .part-upto .ensures ∙ sym (cut-word (x .t .now) (x .i) (x .c) (sym (b .cut-at .ensures) ∙ t .if1 .taken))
 
 cell-at-requires : tie.Need-cell-at-requires
 cell-at-requires c κs = search needs
@@ -28,7 +28,7 @@ returns-2 c =
     let e = d .before in
     let b = e .before in
     let x = b .before .before .args in
-    ap (λ (r : Cell). r .word) (d .cell-at .ensures) ∙ sym (whole-word (x .em) (x .t .now) (x .i) (x .c) (sym (b .cut-at .ensures) ∙ e .if1 .left))
+    ap (λ (r : Cell). r .word) (d .cell-at .ensures) ∙ sym (whole-word (x .t .now) (x .i) (x .c) (sym (b .cut-at .ensures) ∙ e .if1 .left))
 
 pub word-upto-spec : {M : Type 1} → statement M
 word-upto-spec =

@@ -1,6 +1,6 @@
 -- The steps are those of `fill_job`, and the same laws lead from them to what was found. A refusal leaves the result lists as they were; lines that fill the job are written.
 use mathlib.Core.Path.{_≡_}
-use Prim.Native.Nat.{ℕ}
+use Prim.Native.Nat.{ℕ, _≤_}
 use lib.ListN.{length}
 use borrow.Author.Needs.{needs}
 use native.Mathlib.Omega.{arith}
@@ -8,7 +8,7 @@ use Rattle.door.specs.declared.Sizes.{Sizes}
 use Rattle.door.specs.Job.{Job, jobOf, baseCount, rubyCount, leftCount, elementCount}
 use Rattle.door.specs.Whole.{sizesOf}
 use Rattle.filling.specs.declared.Lines.{Lines}
-use Rattle.engine.specs.Filled.{Settled, Judged, Laid, Fills}
+use Rattle.engine.specs.Filled.{Settled, Judged, Laid, Full, Fills}
 use Rattle.engine.specs.Filled as filled
 use Rattle.engine.specs.Whole as whole
 use Rattle.engine.proofs.set_table.Statement.{statement}
@@ -147,27 +147,37 @@ enum-known-why-4 c = search needs
 enum-known-n : tie.Need-enum-known-n
 enum-known-n c = search needs
 
+-- where the lines were found, and room for what is written of them
+abbrev found : tie.After-n → tie.After-fill-lines
+found n = n .before .before .before .before .before .before
+
+full : (n : tie.After-n) →
+    let f = found n in
+    let x = origin f .args in
+    Full (job (origin f)) (length (x .base .now)) (length (x .ruby .now)) (length (x .left .now)) (length (x .lines .now)) (x .ends .now) (x .extents .now)
+    (laying f .layout .last .0) (f .fill-lines .last .1 .1 .0) (f .fill-lines .last .1 .1 .1 .0) (n .n .given .0 .0)
+full n = told (found n) (n .n .given .1)
+
+room : (n : tie.After-n) → (n .n .given .0 .0 ≤ 1024) × (n .n .given .0 .0 ≤ length (found n .fill-lines .last .1 .1 .0)) × (n .n .given .0 .0 ≤ length (origin (found n) .args .lines .now))
+room n = let x = origin (found n) .args in whole.room (job (origin (found n))) (x .base .now) (x .ruby .now) (x .left .now) (x .lines .now) _ _ _ _ _ _ (full n)
+
+sub-put-lines : tie.Need-sub-put-lines
+sub-put-lines c = search needs
+
+part-put-lines-start : tie.Need-part-put-lines-start
+part-put-lines-start c = search needs
+
+part-put-lines-end : tie.Need-part-put-lines-end
+part-put-lines-end c = room (c .before .before .before) .1
+
 put-lines-requires : tie.Need-put-lines-requires
 put-lines-requires c κs =
-    let n = c .before .before .before .before .before .before in
-    let f = n .before .before .before .before .before .before in
-    let a = origin f in
-    let x = a .args in
-    whole.ready (job a) (x .base .now) (x .ruby .now) (x .left .now) (x .lines .now) (x .ends .now) (x .extents .now)
-    (laying f .layout .last .0) (f .fill-lines .last .1 .1 .0) (f .fill-lines .last .1 .1 .1 .0)
-    (n .n .given .0 .0)
-    (told f (n .n .given .1))
+    let n = c .before .before .before .before .before .before .before in
+    let x = origin (found n) .args in
+    whole.ready (job (origin (found n))) (x .base .now) (x .ruby .now) (x .left .now) (x .lines .now) _ _ _ _ _ _ (full n)
 
 put-ends-requires : tie.Need-put-ends-requires
-put-ends-requires c κs =
-    let n = c .before .before .before .before .before .before .before .before .before .before .before .before .before .before .before in
-    let f = n .before .before .before .before .before .before in
-    let a = origin f in
-    let x = a .args in
-    whole.room (job a) (x .base .now) (x .ruby .now) (x .left .now) (x .lines .now) (x .ends .now) (x .extents .now)
-    (laying f .layout .last .0) (f .fill-lines .last .1 .1 .0) (f .fill-lines .last .1 .1 .1 .0)
-    (n .n .given .0 .0)
-    (told f (n .n .given .1))
+put-ends-requires c κs = room (c .before .before .before .before .before .before .before .before .before .before .before .before .before .before .before .before)
 
 same-length-2 : tie.Need-same-length-2
 same-length-2 c = search needs
@@ -210,14 +220,9 @@ returns-5 : tie.Need-returns-5
 returns-5 c =
     let e = c .before .before in
     let p = e .before .before .before .before .before .before .before .before .before in
-    let n = p .before .before .before .before .before .before .before in
-    let f = n .before .before .before .before .before .before in
-    let a = origin f in
-    let x = a .args in
-    whole.sets (job a) (x .base .now) (x .ruby .now) (x .left .now) (x .lines .now) (x .ends .now) (x .extents .now)
-    (laying f .layout .last .0) (f .fill-lines .last .1 .1 .0) (f .fill-lines .last .1 .1 .1 .0)
-    (n .n .given .0 .0)
-    (told f (n .n .given .1)) _ _ _ _ (p .put-lines .ensures) (e .put-ends .ensures)
+    let n = p .before .before .before .before .before .before .before .before in
+    let x = origin (found n) .args in
+    whole.sets (job (origin (found n))) (x .base .now) (x .ruby .now) (x .left .now) (x .lines .now) _ _ _ _ _ _ (full n) _ _ _ _ (p .put-lines .ensures) (e .put-ends .ensures)
 
 pub set-table-spec : {M : Type 1} → statement M
 set-table-spec =
@@ -244,6 +249,9 @@ set-table-spec =
     fill-lines-requires
     enum-known-why-4
     enum-known-n
+    sub-put-lines
+    part-put-lines-start
+    part-put-lines-end
     put-lines-requires
     put-ends-requires
     same-length-2

@@ -25,16 +25,16 @@ not-there c =
     (c .if1 .came)
 
 cell-at-requires : tie.Need-cell-at-requires
-cell-at-requires c κs = let a = c .before in held (a .args .em) (a .args .t .now) (a .args .n) (a .args .i) (a .args .st) (a .pre)
+cell-at-requires c κs = let a = c .before in held (a .args .t .now) (a .args .n) (a .args .i) (a .args .st) (a .pre)
 
 cast-bases : tie.Need-cast-bases
 cast-bases c = search needs
 
-add-t13 : tie.Need-add-t13
-add-t13 c =
+add-t12 : tie.Need-add-t12
+add-t12 c =
     let x = c .before .before .before in
     let a = x .before .before in
-    let r = row (a .args .em) (a .args .t .now) (a .args .n) (a .args .i) (a .args .st) (a .pre) in
+    let r = row (a .args .t .now) (a .args .n) (a .args .i) (a .args .st) (a .pre) in
     omega (arith, ap (λ z. z .bases) (x .cell-at .ensures), r .inside, a .pre .sound .few)
 
 returns : tie.Need-returns
@@ -42,7 +42,7 @@ returns c =
     let x = c .before .before .before in
     let a = x .before .before .args in
     rw (x .cell-at .ensures)
-    (behind-ends (a .em) (a .limit) (a .t .now) (a .i) (a .st) (a .last) (a .extent) (le-leb (a .extent) (a .limit) (c .before .if1 .taken))
+    (behind-ends (a .limit) (a .t .now) (a .i) (a .st) (a .last) (a .extent) (le-leb (a .extent) (a .limit) (c .before .if1 .taken))
     (sym (ap (λ z. z .ends) (x .cell-at .ensures)) ∙ c .if2 .taken))
 
 within-requires : tie.Need-within-requires
@@ -55,15 +55,15 @@ returns-2 : tie.Need-returns-2
 returns-2 c =
     let x = c .before .before .before .before in
     let a = x .before .before .args in
-    c .within .ensures ∙ ap (λ z. innerBreak (a .em) (a .limit) (a .t .now) (a .st) (a .i) (a .last) (z .bases - 1)) (x .cell-at .ensures)
-    ∙ behind-cut (a .em) (a .limit) (a .t .now) (a .i) (a .st) (a .last) (a .extent) (not-there (c .before .before)) (sym (ap (λ z. z .cut) (x .cell-at .ensures)) ∙ c .before .if3 .taken)
+    c .within .ensures ∙ ap (λ z. innerBreak (a .limit) (a .t .now) (a .st) (a .i) (a .last) (z .bases - 1)) (x .cell-at .ensures)
+    ∙ behind-cut (a .limit) (a .t .now) (a .i) (a .st) (a .last) (a .extent) (not-there (c .before .before)) (sym (ap (λ z. z .cut) (x .cell-at .ensures)) ∙ c .before .if3 .taken)
 
 returns-3 : tie.Need-returns-3
 returns-3 c =
     let x = c .before .before .before in
     let a = x .before .before .args in
-    behind-last (a .em) (a .limit) (a .t .now) (a .i) (a .st) (a .last) (a .extent) (not-there (c .before)) (sym (ap (λ z. z .cut) (x .cell-at .ensures)) ∙ c .if3 .left)
+    behind-last (a .limit) (a .t .now) (a .i) (a .st) (a .last) (a .extent) (not-there (c .before)) (sym (ap (λ z. z .cut) (x .cell-at .ensures)) ∙ c .if3 .left)
 
 pub break-behind-spec : {M : Type 1} → statement M
 break-behind-spec =
-    tie.close (tie.spec cell-at-requires cast-bases add-t13 returns within-requires returns-2 returns-3)
+    tie.close (tie.spec cell-at-requires cast-bases add-t12 returns within-requires returns-2 returns-3)

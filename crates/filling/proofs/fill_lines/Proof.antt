@@ -13,37 +13,37 @@ use Rattle.filling.proofs.fill_lines.Statement.{statement}
 use Rattle.filling.proofs.fill_lines.Tie as tie
 
 abbrev Inv-loop : tie.InvT-loop
-Inv-loop t n ends₀ extents₀ em limit s₀ k₀ ends extents s k = lines.Sofar em limit t n ends₀ ends extents₀ extents s k
+Inv-loop t n ends₀ extents₀ limit s₀ k₀ ends extents s k = lines.Sofar limit t n ends₀ ends extents₀ extents s k
 
 abbrev μ-loop : tie.MeasureT-loop
-μ-loop t n ends₀ extents₀ em limit s₀ k₀ ends extents s k = n - s
+μ-loop t n ends₀ extents₀ limit s₀ k₀ ends extents s k = n - s
 
 -- the line's end, and its extent
-end-at : (em limit : ℕ) (t : List ℕ) (n s : ℕ) → endBreak em limit t n s .at ≡ endOf em limit t n s
+end-at : (limit : ℕ) (t : List ℕ) (n s : ℕ) → endBreak limit t n s .at ≡ endOf limit t n s
 unfolding endBreak
-end-at em limit t n s = refl
+end-at limit t n s = refl
 
-end-far : (em limit : ℕ) (t : List ℕ) (n s : ℕ) → endBreak em limit t n s .extent ≡ furthest (stateAt em t s (endBreak em limit t n s .at))
+end-far : (limit : ℕ) (t : List ℕ) (n s : ℕ) → endBreak limit t n s .extent ≡ furthest (stateAt t s (endBreak limit t n s .at))
 unfolding endBreak
-end-far em limit t n s = refl
+end-far limit t n s = refl
 
 found : (c : tie.After-line-end Inv-loop μ-loop) →
     let l = c .before .before in
     let a = l .before .before .before .before .args in
-    c .line-end .result .at ≡ endOf (a .em) (a .limit) (a .t .now) (a .n) (l .loop .s)
+    c .line-end .result .at ≡ endOf (a .limit) (a .t .now) (a .n) (l .loop .s)
 found c =
     let l = c .before .before in
     let a = l .before .before .before .before .args in
-    ap (λ z. z .at) (c .line-end .ensures) ∙ end-at (a .em) (a .limit) (a .t .now) (a .n) (l .loop .s)
+    ap (λ z. z .at) (c .line-end .ensures) ∙ end-at (a .limit) (a .t .now) (a .n) (l .loop .s)
 
 far : (c : tie.After-line-end Inv-loop μ-loop) →
     let l = c .before .before in
     let a = l .before .before .before .before .args in
-    c .line-end .result .extent ≡ furthest (stateAt (a .em) (a .t .now) (l .loop .s) (c .line-end .result .at))
+    c .line-end .result .extent ≡ furthest (stateAt (a .t .now) (l .loop .s) (c .line-end .result .at))
 far c =
     let l = c .before .before in
     let a = l .before .before .before .before .args in
-    rw (c .line-end .ensures) (end-far (a .em) (a .limit) (a .t .now) (a .n) (l .loop .s))
+    rw (c .line-end .ensures) (end-far (a .limit) (a .t .now) (a .n) (l .loop .s))
 
 more : (c : tie.Else1 Inv-loop μ-loop) →
     let l = c .before .before .before in
@@ -56,40 +56,40 @@ more c =
     let q = l .loop .inv in
     let h = c .before .before .loop-test .taken in
     let e = c .before .line-end .result .at in
-    let f = lines.further (a .em) (a .limit) (a .t .now) (a .n) (a .ends .now) (l .loop .ends) (a .extents .now) (l .loop .extents) (l .loop .s) (l .loop .k) q h e (found (c .before))
+    let f = lines.further (a .limit) (a .t .now) (a .n) (a .ends .now) (l .loop .ends) (a .extents .now) (l .loop .extents) (l .loop .s) (l .loop .k) q h e (found (c .before))
     (c .if1 .left) in
-    let long = lines.long (a .em) (a .limit) (a .t .now) (a .n) (a .ends .now) (l .loop .ends) (a .extents .now) (l .loop .extents) (l .loop .s) (l .loop .k) q in
-    let longFar = lines.long-far (a .em) (a .limit) (a .t .now) (a .n) (a .ends .now) (l .loop .ends) (a .extents .now) (l .loop .extents) (l .loop .s) (l .loop .k) q in
+    let long = lines.long (a .limit) (a .t .now) (a .n) (a .ends .now) (l .loop .ends) (a .extents .now) (l .loop .extents) (l .loop .s) (l .loop .k) q in
+    let longFar = lines.long-far (a .limit) (a .t .now) (a .n) (a .ends .now) (l .loop .ends) (a .extents .now) (l .loop .extents) (l .loop .s) (l .loop .k) q in
     (f .0, f .1, q .sound .few, omega (arith, long, q .room, q .few), omega (arith, longFar, q .roomFar, q .few), h, omega (arith, q .few, q .sound .few))
 
 loop-holds : tie.Need-loop-holds Inv-loop μ-loop
 loop-holds c =
     let a = c .before .before .before in
-    lines.sofar-first (a .args .em) (a .args .limit) (a .args .t .now) (a .args .n) (a .args .ends .now) (a .args .extents .now) (a .pre .0) (a .pre .1) (a .pre .2)
+    lines.sofar-first (a .args .limit) (a .args .t .now) (a .args .n) (a .args .ends .now) (a .args .extents .now) (a .pre .0) (a .pre .1) (a .pre .2)
 
 line-end-requires : tie.Need-line-end-requires Inv-loop μ-loop
 line-end-requires c κs = (c .before .loop .inv .sound, c .loop-test .taken)
 
-cast-t12 : tie.Need-cast-t12 Inv-loop μ-loop
-cast-t12 c = let q = c .before .before .before .loop .inv in omega (arith, q .upto, q .sound .few)
+cast-t11 : tie.Need-cast-t11 Inv-loop μ-loop
+cast-t11 c = let q = c .before .before .before .loop .inv in omega (arith, q .upto, q .sound .few)
 
 same-length : tie.Need-same-length Inv-loop μ-loop
 same-length c =
     let l = c .before .before .before in
     let a = l .before .before .before .before .args in
-    lines.long (a .em) (a .limit) (a .t .now) (a .n) (a .ends .now) (l .loop .ends) (a .extents .now) (l .loop .extents) (l .loop .s) (l .loop .k) (l .loop .inv)
+    lines.long (a .limit) (a .t .now) (a .n) (a .ends .now) (l .loop .ends) (a .extents .now) (l .loop .extents) (l .loop .s) (l .loop .k) (l .loop .inv)
 
 same-length-2 : tie.Need-same-length-2 Inv-loop μ-loop
 same-length-2 c =
     let l = c .before .before .before in
     let a = l .before .before .before .before .args in
-    lines.long-far (a .em) (a .limit) (a .t .now) (a .n) (a .ends .now) (l .loop .ends) (a .extents .now) (l .loop .extents) (l .loop .s) (l .loop .k) (l .loop .inv)
+    lines.long-far (a .limit) (a .t .now) (a .n) (a .ends .now) (l .loop .ends) (a .extents .now) (l .loop .extents) (l .loop .s) (l .loop .k) (l .loop .inv)
 
 returns : tie.Need-returns Inv-loop μ-loop
 returns c =
     let l = c .before .before .before in
     let a = l .before .before .before .before .args in
-    lines.stuck (a .em) (a .limit) (a .t .now) (a .n) (a .ends .now) (l .loop .ends) (a .extents .now) (l .loop .extents) (l .loop .s) (l .loop .k) (l .loop .inv) (c .before .before .loop-test .taken)
+    lines.stuck (a .limit) (a .t .now) (a .n) (a .ends .now) (l .loop .ends) (a .extents .now) (l .loop .extents) (l .loop .s) (l .loop .k) (l .loop .inv) (c .before .before .loop-test .taken)
     (sym (found (c .before)) ∙ c .if1 .taken)
 
 cast-ends : tie.Need-cast-ends Inv-loop μ-loop
@@ -119,28 +119,28 @@ loop-again c =
     let l = x .before .before in
     let a = l .before .before .before .before .args in
     let e = x .line-end .result .at in
-    subst (λ z. lines.Sofar (a .em) (a .limit) (a .t .now) (a .n) (a .ends .now) (set (l .loop .ends) (l .loop .k) e) (a .extents .now) (set (l .loop .extents) (l .loop .k) z) e
+    subst (λ z. lines.Sofar (a .limit) (a .t .now) (a .n) (a .ends .now) (set (l .loop .ends) (l .loop .k) e) (a .extents .now) (set (l .loop .extents) (l .loop .k) z) e
     (l .loop .k + 1)) (sym (far x))
-    (lines.sofar-next (a .em) (a .limit) (a .t .now) (a .n) (a .ends .now) (l .loop .ends) (a .extents .now) (l .loop .extents) (l .loop .s) (l .loop .k) (l .loop .inv)
+    (lines.sofar-next (a .limit) (a .t .now) (a .n) (a .ends .now) (l .loop .ends) (a .extents .now) (l .loop .extents) (l .loop .s) (l .loop .k) (l .loop .inv)
     (x .before .loop-test .taken) e (found x) (c .if1 .left))
 
 same-length-3 : tie.Need-same-length-3 Inv-loop μ-loop
 same-length-3 c =
     let l = c .before in
     let a = l .before .before .before .before .args in
-    lines.long (a .em) (a .limit) (a .t .now) (a .n) (a .ends .now) (l .loop .ends) (a .extents .now) (l .loop .extents) (l .loop .s) (l .loop .k) (l .loop .inv)
+    lines.long (a .limit) (a .t .now) (a .n) (a .ends .now) (l .loop .ends) (a .extents .now) (l .loop .extents) (l .loop .s) (l .loop .k) (l .loop .inv)
 
 same-length-4 : tie.Need-same-length-4 Inv-loop μ-loop
 same-length-4 c =
     let l = c .before in
     let a = l .before .before .before .before .args in
-    lines.long-far (a .em) (a .limit) (a .t .now) (a .n) (a .ends .now) (l .loop .ends) (a .extents .now) (l .loop .extents) (l .loop .s) (l .loop .k) (l .loop .inv)
+    lines.long-far (a .limit) (a .t .now) (a .n) (a .ends .now) (l .loop .ends) (a .extents .now) (l .loop .extents) (l .loop .s) (l .loop .k) (l .loop .inv)
 
 returns-2 : tie.Need-returns-2 Inv-loop μ-loop
 returns-2 c =
     let l = c .before in
     let a = l .before .before .before .before .args in
-    lines.full (a .em) (a .limit) (a .t .now) (a .n) (a .ends .now) (l .loop .ends) (a .extents .now) (l .loop .extents) (l .loop .s) (l .loop .k) (l .loop .inv) (c .loop-test .left)
+    lines.full (a .limit) (a .t .now) (a .n) (a .ends .now) (l .loop .ends) (a .extents .now) (l .loop .extents) (l .loop .s) (l .loop .k) (l .loop .inv) (c .loop-test .left)
 
 pub fill-lines-spec : {M : Type 1} → statement M
 fill-lines-spec =
@@ -150,7 +150,7 @@ fill-lines-spec =
     μ-loop
     loop-holds
     line-end-requires
-    cast-t12
+    cast-t11
     same-length
     same-length-2
     returns

@@ -15,10 +15,10 @@ use Rattle.job_account.proofs.tell_line.Statement.{statement}
 use Rattle.job_account.proofs.tell_line.Tie as tie
 
 abbrev Inv-loop : tie.InvT-loop
-Inv-loop t s e em from out₀ i₀ st₀ b₀ j₀ k₀ out i st b j k = Along em t s e from out₀ i st b j k out
+Inv-loop t s e from out₀ i₀ st₀ b₀ j₀ k₀ out i st b j k = Along t s e from out₀ i st b j k out
 
 abbrev μ-loop : tie.MeasureT-loop
-μ-loop t s e em from out₀ i₀ st₀ b₀ j₀ k₀ out i st b j k = e - i
+μ-loop t s e from out₀ i₀ st₀ b₀ j₀ k₀ out i st b j k = e - i
 
 abbrev entry : tie.At-loop Inv-loop μ-loop → tie.Start Inv-loop μ-loop
 entry c = c .before .before .before
@@ -31,7 +31,7 @@ end-is : (c : tie.After-fewer Inv-loop μ-loop) → let b = c .before .before .b
 end-is c = c .fewer .ensures ∙ rw (c .before .before .cell-at .ensures)
 
 told-is : (c : tie.After-tell-piece Inv-loop μ-loop) → let b = c .before .before .before .before .before in let a = entry b .args in
-    c .tell-piece .result ≡ toldAt (a .em) (a .t .now) (b .loop .i) (stop (a .t .now) (b .loop .i) (a .e)) (b .loop .st) (b .loop .j) (b .loop .b)
+    c .tell-piece .result ≡ toldAt (a .t .now) (b .loop .i) (stop (a .t .now) (b .loop .i) (a .e)) (b .loop .st) (b .loop .j) (b .loop .b)
 told-is c = c .tell-piece .ensures ∙ rw (end-is (c .before))
 
 -- the places behind the piece's row, behind the next index, and at the end of a turn
@@ -101,11 +101,11 @@ loop-again c =
     one.along-next (entry (b .before) .pre) (b .before .loop .inv) (b .loop-test .taken) (cell-is e) (told-is d)
     (n .next-index .ensures ∙ ap (λ (z : Cell). b .before .loop .k + cond (z .more) 0 (cond (leb (b .before .loop .i + z .bases) (a .e)) 1 0)) (e .cell-at .ensures)) (r .put-row .ensures)
 
-cast-t25 : tie.Need-cast-t25 Inv-loop μ-loop
-cast-t25 c = omega (arith, one.few-told (entry (c .before) .pre) (c .before .loop .inv) .0)
+cast-t24 : tie.Need-cast-t24 Inv-loop μ-loop
+cast-t24 c = omega (arith, one.few-told (entry (c .before) .pre) (c .before .loop .inv) .0)
 
-add-t26 : tie.Need-add-t26 Inv-loop μ-loop
-add-t26 c = let l = c .before in let f = one.few-told (entry (l .before) .pre) (l .before .loop .inv) in omega (arith, f .0, f .2)
+add-t25 : tie.Need-add-t25 Inv-loop μ-loop
+add-t25 c = let l = c .before in let f = one.few-told (entry (l .before) .pre) (l .before .loop .inv) in omega (arith, f .0, f .2)
 
 same-length : tie.Need-same-length Inv-loop μ-loop
 same-length c = c .before .before .loop .inv .long
@@ -134,7 +134,7 @@ tell-line-spec =
     add-j
     loop-less
     loop-again
-    cast-t25
-    add-t26
+    cast-t24
+    add-t25
     same-length
     returns)

@@ -7,10 +7,10 @@ use Rattle.job_account.proofs.tell_lines.Statement.{statement}
 use Rattle.job_account.proofs.tell_lines.Tie as tie
 
 abbrev Inv-loop : tie.InvT-loop
-Inv-loop t n ends em rows₀ told₀ at₀ s₀ l₀ rows told at s l = Going em t n ends rows₀ told₀ at s l rows told
+Inv-loop t n ends rows₀ told₀ at₀ s₀ l₀ rows told at s l = Going t n ends rows₀ told₀ at s l rows told
 
 abbrev μ-loop : tie.MeasureT-loop
-μ-loop t n ends em rows₀ told₀ at₀ s₀ l₀ rows told at s l = n - l
+μ-loop t n ends rows₀ told₀ at₀ s₀ l₀ rows told at s l = n - l
 
 abbrev inside : tie.After-struct-known Inv-loop μ-loop → tie.In-loop Inv-loop μ-loop
 inside c = c .before .before .before .before .before .before

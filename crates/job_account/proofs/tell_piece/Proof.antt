@@ -30,7 +30,7 @@ returns c =
     let n = c .before .before .before in
     let d = n .before .before .before in
     let a = d .before .before .before .args in
-    let is : n .before .element-of .result ≡ piece (a .em) (a .t .now) (a .i) (a .c) = n .before .element-of .ensures ∙ rw (d .advance .ensures, d .before .cell-at .ensures) in
+    let is : n .before .element-of .result ≡ piece (a .t .now) (a .i) (a .c) = n .before .element-of .ensures ∙ rw (d .advance .ensures, d .before .cell-at .ensures) in
     same (c .before .before .account-of .ensures ∙ rw (is, d .advance .ensures))
     (c .before .block-start .ensures .0 ∙ rw (is, d .advance .ensures))
     (ap (λ (z : Step). z .st) (d .advance .ensures))

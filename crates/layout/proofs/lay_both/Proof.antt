@@ -167,7 +167,7 @@ ratios-at-requires c κs = omega (arith, ready (c .before .before .before .befor
 house : (c : tie.After-ratios-at) →
     let a = entry (known (c .before .before .before .before .before .before)) in
     ratiosOf (c .ratios-at .result) ≡ job a .ratios
-house c = c .ratios-at .ensures ∙ standing (entry (known (c .before .before .before .before .before .before))) .head
+house c = c .ratios-at .ensures ∙ ap (λ h. h .ratios) (standing (entry (known (c .before .before .before .before .before .before))) .head)
 
 both-answer-requires : tie.Need-both-answer-requires
 both-answer-requires c κs =

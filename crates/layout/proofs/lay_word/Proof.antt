@@ -16,7 +16,7 @@ use Rattle.door.specs.Job.{Job, jobOf, given}
 use Rattle.door.specs.Elements.{rightBy, right-only, mono-only}
 use Rattle.door.specs.Refusals.{runOut}
 use Rattle.door.specs.Walk as walk
-use Rattle.one_reading.specs.Lay.{basedRow, FilledBy}
+use Rattle.one_reading.specs.Lay.{basedRow, FilledBy, based-told}
 use Rattle.two_readings.specs.Written.{BareReady}
 use Rattle.layout.specs.Step.{Standing, few, there, few-runs, out-is}
 use Rattle.layout.specs.Element as one
@@ -273,7 +273,7 @@ lay-based-requires c κs =
 same-length-2 : tie.Need-same-length-2
 same-length-2 c =
     let m = c .before .before in
-    m .lay-based .ensures .0 ∙ m .before .before .before .before .before .before .put-bare2 .ensures .long
+    m .lay-based .ensures .long ∙ m .before .before .before .before .before .before .put-bare2 .ensures .long
 
 returns-6 : tie.Need-returns-6
 returns-6 c =
@@ -286,11 +286,16 @@ returns-6 c =
     let a = entry2 k in
     let p = piece2 k in
     let u = takes-it a (is2 k) in
-    one.alone-judged (standing a) (is2 k) u (supplied2 e) (none a (is2 k)) (b .put-bare2 .ensures)
-    (subst (λ z. FilledBy (answer (p .form) (a .args .k) (given (job a) p)) (λ w. basedRow (job a) p w z) p (b .put-bare2 .last .0) (m .lay-based .last .0) (m .lay-based .result))
+    let mid = b .put-bare2 .last .0 in
+    let bared = b .put-bare2 .ensures in
+    let six = supplied2 e in
+    let bare = none a (is2 k) in
+    let runs = one.based-ready (standing a) (is2 k) u six bare mid bared (base .base-at .ensures) .1 in
+    one.alone-judged (standing a) (is2 k) u six bare bared
+    (subst (λ z. FilledBy (answer (p .form) (a .args .k) (given (job a) p)) (λ w. basedRow (job a) p w z) p mid (m .lay-based .last .0) (m .lay-based .result))
     (ends .ends-behind .ensures)
-    (m .lay-based .ensures .1 (given (job a) p)
-    (one.gives (standing a) (is2 k) u (supplied2 e) (none a (is2 k)) (b .put-bare2 .last .0) (b .put-bare2 .ensures) (base .base-at .ensures))))
+    (based-told (a .args .k) (job a) p (ends .ends-behind .result) (one.based (standing a) (is2 k) u six bare (other (k .before .before .before) .if1 .left)) runs
+    (one.gives (standing a) (is2 k) u six bare mid bared (base .base-at .ensures)) (m .lay-based .ensures)))
 
 pub lay-word-spec : {M : Type 1} → statement M
 lay-word-spec =

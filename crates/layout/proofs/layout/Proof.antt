@@ -25,6 +25,7 @@ use Rattle.door.specs.Walk.{Stands, elementStep}
 use Rattle.door.specs.Loop as loop
 use Rattle.door.specs.Loop.{partFaults, Along}
 use Rattle.cells.specs.Put.{headed, length-headed}
+use Rattle.join.specs.Rows.{headOf}
 use Rattle.two_readings.specs.Written.{leftFrom, BareReady}
 use Rattle.layout.specs.declared.Counts.{Counts}
 use Rattle.layout.specs.Step.{countsOf, Standing, Stepped}
@@ -88,11 +89,11 @@ counted h = h .before .before .before
 
 head-is : (h : tie.After-put-head Inv-loop2 μ-loop2 Inv-loop μ-loop) →
     let a = origin (counted h) in
-    h .put-head .last .0 ≡ headed (a .args .t .now) (job a .ratios) (leftFrom (baseCount (job a)) (leftCount (job a)))
+    h .put-head .last .0 ≡ headed (a .args .t .now) (headOf (job a)) (leftFrom (baseCount (job a)) (leftCount (job a)))
 head-is h =
     let n = counted h in
     let a = origin n in
-    h .put-head .ensures ∙ ap (headed (a .args .t .now) (job a .ratios)) (h .before .left-begins .ensures ∙ ap₂ leftFrom (bases-are n) (lefts-are n))
+    h .put-head .ensures ∙ ap (headed (a .args .t .now) (headOf (job a))) (h .before .left-begins .ensures ∙ ap₂ leftFrom (bases-are n) (lefts-are n))
 
 abbrev begun : tie.At-loop Inv-loop2 μ-loop2 Inv-loop μ-loop → tie.After-put-head Inv-loop2 μ-loop2 Inv-loop μ-loop
 begun l = l .before .before .before
@@ -107,7 +108,7 @@ abbrev table : tie.At-loop Inv-loop2 μ-loop2 Inv-loop μ-loop → List ℕ
 table l = begun l .put-head .last .0
 
 long : (l : tie.At-loop Inv-loop2 μ-loop2 Inv-loop μ-loop) → length (table l) ≡ length (start l .args .t .now)
-long l = ap length (head-is (begun l)) ∙ length-headed (start l .args .t .now) (job (start l) .ratios) (leftFrom (baseCount (job (start l))) (leftCount (job (start l))))
+long l = ap length (head-is (begun l)) ∙ length-headed (start l .args .t .now) (headOf (job (start l))) (leftFrom (baseCount (job (start l))) (leftCount (job (start l))))
 
 before-end : (c : tie.In-loop Inv-loop2 μ-loop2 Inv-loop μ-loop) → c .before .loop .k < elementCount (job (start (c .before)))
 before-end c = omega (arith, c .loop-test .taken, elements-are (counts (c .before)))

@@ -1,12 +1,10 @@
--- Level one is asked by what it wants to know of the strings, and its answer is that to any element that has them. It is taken apart: the rows are written, or the refusal is handed up.
-use mathlib.Core.Path.{_≡_, refl, sym, ap, _∙_, subst}
+-- Level one is asked by what it wants to know of the strings. Its answer is taken apart: the rows are written, or the refusal is handed up.
+use mathlib.Core.Path.{_≡_, sym, ap, ap₂, _∙_, subst}
 use Rattle.spread.specs.Ratio.{Housed}
-use Rattle.word.specs.Given.{Given}
-use Rattle.word.specs.Answer.{answer}
-use Rattle.word.specs.declared.Form.the-variants.{G}
+use Rattle.word.specs.Summed.{groupBy}
+use Rattle.cells.specs.Cells.{ratiosAt}
 use Rattle.word_rows.specs.Word.{judged-stops, judged-goes, stopBy}
-use Rattle.one_reading.specs.Lay.{measured, Gives, group-told}
-use mathlib.Core.List.{[]}
+use Rattle.one_reading.specs.Lay.{measured, rubyOf}
 use borrow.Author.Needs.{needs}
 use Rattle.one_reading.proofs.lay_group.Statement.{statement}
 use Rattle.one_reading.proofs.lay_group.Tie as tie
@@ -15,10 +13,12 @@ use Rattle.one_reading.proofs.lay_group.Tie as tie
 abbrev entry : tie.After-group-answer → tie.Start
 entry m = m .before .before .before .before .before .before .before
 
-told : (m : tie.After-group-answer) (g : Given) →
+told : (m : tie.After-group-answer) →
     let x = entry m .args in
-    Gives G (x .em) (x .base) (x .p) (x .rclass .now) (x .rwidth .now) [] (x .t .now) g → m .group-answer .result ≡ answer G (x .place) g
-told m g v = m .group-answer .ensures ∙ group-told (entry m .args .place) (m .before .ratios-at .ensures) (m .before .before .before .ruby-at .ensures) v
+    groupBy (x .place) (ratiosAt (x .t .now)) (x .em) (x .base) (rubyOf (x .p) (x .rclass .now) (x .rwidth .now)) ≡ m .group-answer .result
+told m =
+    let x = entry m .args in
+    sym (m .group-answer .ensures ∙ ap₂ (λ h r. groupBy (x .place) h (x .em) (x .base) r) (m .before .ratios-at .ensures) (m .before .before .before .ruby-at .ensures))
 
 ruby-at-requires : tie.Need-ruby-at-requires
 ruby-at-requires c κs = search needs
@@ -46,7 +46,7 @@ same-length c = search needs
 returns : tie.Need-returns
 returns c =
     let e = c .before .enum-told .given .1 in
-    (refl, λ g v. judged-stops (sym (told (c .before .before .before) g v) ∙ e) (c .refused .ensures ∙ ap (stopBy _) e))
+    judged-stops (told (c .before .before .before) ∙ e) (c .refused .ensures ∙ ap (stopBy _) e)
 
 put-word-requires : tie.Need-put-word-requires
 put-word-requires c κs = search needs
@@ -59,7 +59,7 @@ returns-2 c =
     let put = c .before .before in
     let w = put .before .before .before in
     let f = put .put-word .ensures in
-    (f .long, λ g v. judged-goes (sym (told (w .before .before) g v) ∙ w .answer .given .1) (f .long) f)
+    judged-goes (told (w .before .before) ∙ w .answer .given .1) (f .long) f
 
 pub lay-group-spec : {M : Type 1} → statement M
 lay-group-spec =

@@ -1,15 +1,14 @@
 -- Level one is asked by what it wants to know of the strings, of which the only run is all of the ruby. Its answer is taken apart: the one row is written, or the refusal is handed up.
-use mathlib.Core.Path.{_≡_, refl, sym, ap, _∙_, subst}
+use mathlib.Core.Path.{_≡_, sym, ap, ap₂, _∙_, subst}
 use Prim.Native.Nat.{_+_}
 use Rattle.spread.specs.Ratio.{Housed}
-use Rattle.word.specs.Given.{Given}
-use Rattle.word.specs.Answer.{answer}
-use Rattle.word.specs.declared.Form.the-variants.{J}
+use Rattle.word.specs.Summed.{singleBy}
+use Rattle.cells.specs.Cells.{ratiosAt}
 use Rattle.word_rows.specs.Table.{filled-one, filled-as}
 use Rattle.word_rows.specs.Runs.{runsOnly, jukugoRow}
 use Rattle.word_rows.specs.Word.{judged-stops, judged-goes, stopBy}
 use Rattle.one_reading.specs.Single.{singleRow, runs-any, single-row}
-use Rattle.one_reading.specs.Lay.{measured, Gives, single-told}
+use Rattle.one_reading.specs.Lay.{measured, rubyOf}
 use borrow.Author.Needs.{needs}
 use native.Mathlib.Omega.{arith}
 use Rattle.one_reading.proofs.lay_single.Statement.{statement}
@@ -19,13 +18,12 @@ use Rattle.one_reading.proofs.lay_single.Tie as tie
 abbrev entry : tie.After-single-answer → tie.Start
 entry m = m .before .before .before .before .before .before .before .before
 
-told : (m : tie.After-single-answer) (g : Given) →
+told : (m : tie.After-single-answer) →
     let x = entry m .args in
-    Gives J (x .em) (x .base) (x .p) (x .rclass .now) (x .rwidth .now) (x .runs .now) (x .t .now) g → m .single-answer .result ≡ answer J (x .place) g
-told m g v =
-    let a = entry m in
-    m .single-answer .ensures
-    ∙ single-told (a .args .place) (m .before .ratios-at .ensures) (m .before .before .before .ruby-at .ensures) v (a .pre .0) (a .pre .2 .whole (a .pre .0))
+    singleBy (x .place) (ratiosAt (x .t .now)) (x .em) (x .base) (rubyOf (x .p) (x .rclass .now) (x .rwidth .now)) ≡ m .single-answer .result
+told m =
+    let x = entry m .args in
+    sym (m .single-answer .ensures ∙ ap₂ (λ h r. singleBy (x .place) h (x .em) (x .base) r) (m .before .ratios-at .ensures) (m .before .before .before .ruby-at .ensures))
 
 ruby-at-requires : tie.Need-ruby-at-requires
 ruby-at-requires c κs = search needs
@@ -53,7 +51,7 @@ same-length c = search needs
 returns : tie.Need-returns
 returns c =
     let e = c .before .enum-told .given .1 in
-    (refl, λ g v. judged-stops (sym (told (c .before .before .before) g v) ∙ e) (c .refused .ensures ∙ ap (stopBy _) e))
+    judged-stops (told (c .before .before .before) ∙ e) (c .refused .ensures ∙ ap (stopBy _) e)
 
 put-single-requires : tie.Need-put-single-requires
 put-single-requires c κs = let a = entry (c .before .before .before .before) in (a .pre .0, runs-any (a .pre .2 .runs))
@@ -73,13 +71,11 @@ returns-2 c =
     let one = a .pre .0 in
     let f = put .put-single .ensures in
     let row = singleRow p w (x .ends) (x .rclass .now) (x .rwidth .now) (x .runs .now) in
-    let job = runsOnly (x .em) (x .rclass .now) (x .rwidth .now) (x .runs .now) in (
-      f .long,
-      λ g v. judged-goes (sym (told m g v) ∙ k .answer .given .1) (f .long)
-          (filled-as (λ i. row) (jukugoRow job p w (x .ends)) (p .base) (p .base + p .bases) (x .t .now) (put .put-single .last .0)
-          (λ i l h. single-row (x .em) (x .rclass .now) (x .rwidth .now) (x .runs .now) p w (x .ends) i one (omega (arith, one)))
-          (filled-one row (p .base) (p .base + p .bases) (x .t .now) (put .put-single .last .0) (omega (arith, one)) f)),
-    )
+    let job = runsOnly (x .em) (x .rclass .now) (x .rwidth .now) (x .runs .now) in
+    judged-goes (told m ∙ k .answer .given .1) (f .long)
+    (filled-as (λ i. row) (jukugoRow job p w (x .ends)) (p .base) (p .base + p .bases) (x .t .now) (put .put-single .last .0)
+    (λ i l h. single-row (x .em) (x .rclass .now) (x .rwidth .now) (x .runs .now) p w (x .ends) i one (omega (arith, one)))
+    (filled-one row (p .base) (p .base + p .bases) (x .t .now) (put .put-single .last .0) (omega (arith, one)) f))
 
 pub lay-single-spec : {M : Type 1} → statement M
 lay-single-spec =

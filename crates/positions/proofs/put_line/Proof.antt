@@ -17,30 +17,32 @@ use Rattle.positions.proofs.put_line.Statement.{statement}
 use Rattle.positions.proofs.put_line.Tie as tie
 
 abbrev Inv-loop : tie.InvT-loop
-Inv-loop t s e em width rwidth lwidth base₀ ruby₀ left₀ i₀ st₀ base ruby left i st = Along (sheet em t width rwidth lwidth) s e base₀ ruby₀ left₀ i st base ruby left
+Inv-loop t width rwidth lwidth base₀ ruby₀ left₀ e i₀ st₀ base ruby left i st = Along (sheet t width rwidth lwidth) i₀ e base₀ ruby₀ left₀ i st base ruby left
 
 abbrev μ-loop : tie.MeasureT-loop
-μ-loop t s e em width rwidth lwidth base₀ ruby₀ left₀ i₀ st₀ base ruby left i st = e - i
+μ-loop t width rwidth lwidth base₀ ruby₀ left₀ e i₀ st₀ base ruby left i st = e - i
 
 abbrev entry : tie.At-loop Inv-loop μ-loop → tie.Start Inv-loop μ-loop
 entry c = c .before .before .before .before .before .before .before .before
 
 abbrev g : tie.At-loop Inv-loop μ-loop → Sheet
-g c = let a = entry c .args in sheet (a .em) (a .t .now) (a .width .now) (a .rwidth .now) (a .lwidth .now)
+g c = let a = entry c .args in sheet (a .t .now) (a .width .now) (a .rwidth .now) (a .lwidth .now)
 
 -- where the piece ends, and its origin
 abbrev end : tie.At-loop Inv-loop μ-loop → ℕ
-end c = stop (entry c .args .t .now) (c .loop .i) (entry c .args .e)
+end c = stop (entry c .args .t .now) (c .loop .i) (entry c .args .l .upto)
 
 abbrev spot : tie.At-loop Inv-loop μ-loop → ℕ
 spot c = origin (c .loop .st) (pieceOf (g c) (c .loop .i) (end c))
 
-step-is : (c : tie.After-advance Inv-loop μ-loop) → let b = c .before .before .before .before .before in
-    c .advance .result ≡ stepAt (entry b .args .em) (entry b .args .t .now) (b .loop .st) (b .loop .i) (end b)
-step-is c = c .advance .ensures ∙ rw (c .before .fewer .ensures, c .before .before .before .cell-at .ensures)
-
 end-is : (c : tie.After-fewer Inv-loop μ-loop) → c .fewer .result ≡ end (c .before .before .before .before)
 end-is c = c .fewer .ensures ∙ rw (c .before .before .cell-at .ensures)
+
+step-is : (c : tie.After-advance Inv-loop μ-loop) → let b = c .before .before .before .before .before in
+    c .advance .result ≡ stepAt (entry b .args .t .now) (b .loop .st) (b .loop .i) (end b)
+step-is c =
+    let b = c .before .before .before .before .before in
+    c .advance .ensures ∙ ap (stepAt (entry b .args .t .now) (b .loop .st) (b .loop .i)) (end-is (c .before))
 
 loop-holds : tie.Need-loop-holds Inv-loop μ-loop
 loop-holds c = one.along-first (c .before .before .before .before .before .before .before .pre)

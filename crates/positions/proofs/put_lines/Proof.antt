@@ -1,16 +1,17 @@
 -- Before each line, what is written and what the lines from there on add make up the whole. After the last nothing is left to do.
 use Prim.Native.Nat.{_-_}
+use lib.ListN.{length}
 use Rattle.positions.specs.Positions.{sheet}
-use Rattle.positions.specs.Lines.{Going, going-first, line-ready, going-next, going-end}
+use Rattle.positions.specs.Lines.{Going, going-first, line-ready, going-next, going-all}
 use native.Mathlib.Omega.{arith}
 use Rattle.positions.proofs.put_lines.Statement.{statement}
 use Rattle.positions.proofs.put_lines.Tie as tie
 
 abbrev Inv-loop : tie.InvT-loop
-Inv-loop t n ends em width rwidth lwidth base₀ ruby₀ left₀ s₀ l₀ base ruby left s l = Going (sheet em t width rwidth lwidth) n ends base₀ ruby₀ left₀ s l base ruby left
+Inv-loop t ends width rwidth lwidth base₀ ruby₀ left₀ s₀ l₀ base ruby left s l = Going (sheet t width rwidth lwidth) (length ends) ends base₀ ruby₀ left₀ s l base ruby left
 
 abbrev μ-loop : tie.MeasureT-loop
-μ-loop t n ends em width rwidth lwidth base₀ ruby₀ left₀ s₀ l₀ base ruby left s l = n - l
+μ-loop t ends width rwidth lwidth base₀ ruby₀ left₀ s₀ l₀ base ruby left s l = length ends - l
 
 loop-holds : tie.Need-loop-holds Inv-loop μ-loop
 loop-holds c = going-first (c .before .before .before .before .before .before .before .before .pre)
@@ -55,7 +56,7 @@ same-length-3 : tie.Need-same-length-3 Inv-loop μ-loop
 same-length-3 c = c .before .loop .inv .lefts .long
 
 returns : tie.Need-returns Inv-loop μ-loop
-returns c = going-end (c .before .loop .inv) (c .loop-test .left)
+returns c = going-all (c .before .loop .inv) (c .loop-test .left)
 
 pub put-lines-spec : {M : Type 1} → statement M
 put-lines-spec =

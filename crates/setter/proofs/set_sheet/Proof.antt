@@ -127,12 +127,6 @@ add-l c = omega (arith, within (filled (c .before .before .before .before) .befo
 slice-aggregate-put-lines : tie.Need-slice-aggregate-put-lines
 slice-aggregate-put-lines c = search needs
 
-slice-aggregate-put-lines-2 : tie.Need-slice-aggregate-put-lines-2
-slice-aggregate-put-lines-2 c = search needs
-
-element-copy-out-put-lines : tie.Need-element-copy-out-put-lines
-element-copy-out-put-lines c = search needs
-
 sub-put-lines : tie.Need-sub-put-lines
 sub-put-lines c = search needs
 
@@ -141,9 +135,8 @@ part-put-lines-start c = search needs
 
 part-put-lines-end : tie.Need-part-put-lines-end
 part-put-lines-end c =
-    let d = filled (c .before .before .before .before .before .before .before) .before in
-    let u = sliced d in
-    column-within (held u .base) 1024 (counts u .n .given .0 .0 .bases) (lent d .longBase) (within d .bases) (omega arith)
+    let w = c .before .before .before .before .before .before in
+    ends-room (long (sliced (filled w .before))) (told (filled w) (w .k .given .1)) .1
 
 sub-put-lines-2 : tie.Need-sub-put-lines-2
 sub-put-lines-2 c = search needs
@@ -153,9 +146,9 @@ part-put-lines-start-2 c = search needs
 
 part-put-lines-end-2 : tie.Need-part-put-lines-end-2
 part-put-lines-end-2 c =
-    let d = filled (c .before .before .before .before .before .before .before .before) .before in
+    let d = filled (c .before .before .before .before .before .before .before) .before in
     let u = sliced d in
-    column-within (held u .ruby) 2048 (counts u .n .given .0 .0 .rubies) (lent d .longRuby) (within d .rubies) (omega arith)
+    column-within (held u .base) 1024 (counts u .n .given .0 .0 .bases) (lent d .longBase) (within d .bases) (omega arith)
 
 sub-put-lines-3 : tie.Need-sub-put-lines-3
 sub-put-lines-3 c = search needs
@@ -165,6 +158,18 @@ part-put-lines-start-3 c = search needs
 
 part-put-lines-end-3 : tie.Need-part-put-lines-end-3
 part-put-lines-end-3 c =
+    let d = filled (c .before .before .before .before .before .before .before .before) .before in
+    let u = sliced d in
+    column-within (held u .ruby) 2048 (counts u .n .given .0 .0 .rubies) (lent d .longRuby) (within d .rubies) (omega arith)
+
+sub-put-lines-4 : tie.Need-sub-put-lines-4
+sub-put-lines-4 c = search needs
+
+part-put-lines-start-4 : tie.Need-part-put-lines-start-4
+part-put-lines-start-4 c = search needs
+
+part-put-lines-end-4 : tie.Need-part-put-lines-end-4
+part-put-lines-end-4 c =
     let d = filled (c .before .before .before .before .before .before .before .before .before) .before in
     let u = sliced d in
     column-within (held u .left) 2048 (counts u .n .given .0 .0 .lefts) (lent d .rest .longLeft) (within d .few .lefts) (omega arith)
@@ -237,8 +242,6 @@ set-sheet-spec =
     add-r
     add-l
     slice-aggregate-put-lines
-    slice-aggregate-put-lines-2
-    element-copy-out-put-lines
     sub-put-lines
     part-put-lines-start
     part-put-lines-end
@@ -248,6 +251,9 @@ set-sheet-spec =
     sub-put-lines-3
     part-put-lines-start-3
     part-put-lines-end-3
+    sub-put-lines-4
+    part-put-lines-start-4
+    part-put-lines-end-4
     put-lines-requires
     slice-aggregate-put-ends
     put-ends-requires

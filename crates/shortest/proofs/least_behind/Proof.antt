@@ -27,13 +27,13 @@ within-requires c κs =
 -- the breaks within the piece are tried
 within-all : (c : tie.Joined1) →
     let a = c .before .before .before .before .args in
-    c .if1 .found ≡ innerLeast (a .em) (a .t .now) (a .st) (a .i) (a .least) (cellAt (a .t .now) (a .i) .bases - 1)
+    c .if1 .found ≡ innerLeast (a .t .now) (a .st) (a .i) (a .least) (cellAt (a .t .now) (a .i) .bases - 1)
 within-all c =
     let x = c .before .before in
     let a = x .before .before .args in
     ⊎-elim
-    (λ e. e .2 ∙ e .1 .ensures ∙ ap (λ z. innerLeast (a .em) (a .t .now) (a .st) (a .i) (a .least) (z .bases - 1)) (x .cell-at .ensures))
-    (λ e. e .1 ∙ sym (inner-whole (a .em) (a .t .now) (a .st) (a .i) (a .least) (sym (ap (λ z. z .cut) (x .cell-at .ensures)) ∙ e .0 .left) (cellAt (a .t .now) (a .i) .bases - 1)))
+    (λ e. e .2 ∙ e .1 .ensures ∙ ap (λ z. innerLeast (a .t .now) (a .st) (a .i) (a .least) (z .bases - 1)) (x .cell-at .ensures))
+    (λ e. e .1 ∙ sym (inner-whole (a .t .now) (a .st) (a .i) (a .least) (sym (ap (λ z. z .cut) (x .cell-at .ensures)) ∙ e .0 .left) (cellAt (a .t .now) (a .i) .bases - 1)))
     (c .if1 .came)
 
 -- before the job's end the row says whether a line may end behind it
@@ -60,7 +60,7 @@ returns c =
     let x = j .before .before in
     let a = x .before .before .args in
     c .lesser .ensures
-    ∙ behind-may (a .em) (a .t .now) (a .n) (a .i) (a .st) (a .next) (a .least) (j .if1 .found) (within-all j)
+    ∙ behind-may (a .t .now) (a .n) (a .i) (a .st) (a .next) (a .least) (j .if1 .found) (within-all j)
     (rw (eq-eqb _ _ (ap (λ z. a .i + z .bases) (sym (x .cell-at .ensures)) ∙ c .before .if2 .taken)))
 
 lesser-requires-2 : tie.Need-lesser-requires-2
@@ -72,7 +72,7 @@ returns-2 c =
     let x = j .before .before in
     let a = x .before .before .args in
     c .lesser2 .ensures
-    ∙ behind-may (a .em) (a .t .now) (a .n) (a .i) (a .st) (a .next) (a .least) (j .if1 .found) (within-all j)
+    ∙ behind-may (a .t .now) (a .n) (a .i) (a .st) (a .next) (a .least) (j .if1 .found) (within-all j)
     (not-end (c .before .before) ∙ sym (ap (λ z. z .ends) (x .cell-at .ensures)) ∙ c .before .if3 .taken)
 
 returns-3 : tie.Need-returns-3
@@ -80,7 +80,7 @@ returns-3 c =
     let j = c .before .before in
     let x = j .before .before in
     let a = x .before .before .args in
-    behind-not (a .em) (a .t .now) (a .n) (a .i) (a .st) (a .next) (a .least) (j .if1 .found) (within-all j)
+    behind-not (a .t .now) (a .n) (a .i) (a .st) (a .next) (a .least) (j .if1 .found) (within-all j)
     (not-end (c .before) ∙ sym (ap (λ z. z .ends) (x .cell-at .ensures)) ∙ c .if3 .left)
 
 pub least-behind-spec : {M : Type 1} → statement M

@@ -7,12 +7,12 @@ use Rattle.shortest.proofs.needed_extent.Statement.{statement}
 use Rattle.shortest.proofs.needed_extent.Tie as tie
 
 abbrev Inv-loop : tie.InvT-loop
-Inv-loop t n s em st₀ i₀ least₀ st i least = Passes em t n s i st least
+Inv-loop t n s st₀ i₀ least₀ st i least = Passes t n s i st least
 
 abbrev μ-loop : tie.MeasureT-loop
-μ-loop t n s em st₀ i₀ least₀ st i least = n - i
+μ-loop t n s st₀ i₀ least₀ st i least = n - i
 
-here : (c : tie.In-loop Inv-loop μ-loop) → let l = c .before in let a = l .before .before .args in Stands (a .em) (a .t .now) (a .n) (l .loop .i) (l .loop .st)
+here : (c : tie.In-loop Inv-loop μ-loop) → let l = c .before in let a = l .before .before .args in Stands (a .t .now) (a .n) (l .loop .i) (l .loop .st)
 here c = stands (c .before .loop .inv) (c .loop-test .taken)
 
 -- the row's own numbers

@@ -8,10 +8,10 @@ use Rattle.shortest.proofs.within.Statement.{statement}
 use Rattle.shortest.proofs.within.Tie as tie
 
 abbrev Inv-loop : tie.InvT-loop
-Inv-loop t n i bases st least em k₀ found₀ k found = (0 < k) × (k ≤ bases) × (found ≡ innerLeast em t st i least (k - 1))
+Inv-loop t n i bases st least k₀ found₀ k found = (0 < k) × (k ≤ bases) × (found ≡ innerLeast t st i least (k - 1))
 
 abbrev μ-loop : tie.MeasureT-loop
-μ-loop t n i bases st least em k₀ found₀ k found = bases - k
+μ-loop t n i bases st least k₀ found₀ k found = bases - k
 
 -- the J's own numbers
 some : (a : tie.Start Inv-loop μ-loop) → (0 < a .args .bases) × (a .args .bases ≤ 32) × (a .args .i < a .args .n) × (a .args .n ≤ 1024)
@@ -23,7 +23,7 @@ loop-holds : tie.Need-loop-holds Inv-loop μ-loop
 loop-holds c =
     let a = c .before in
     let x = a .args in
-    (omega arith, omega (arith, some a), sym (inner-none (x .em) (x .t .now) (x .st) (x .i) (x .least) 0 refl))
+    (omega arith, omega (arith, some a), sym (inner-none (x .t .now) (x .st) (x .i) (x .least) 0 refl))
 
 add-advance-cut : tie.Need-add-advance-cut Inv-loop μ-loop
 add-advance-cut c = omega (arith, c .loop-test .taken, some (c .before .before .before))
@@ -53,15 +53,15 @@ loop-again c =
       omega arith,
       omega (arith, b .loop-test .taken),
       rw (c .lesser .ensures, c .before .advance-cut .ensures, l .loop .inv .2)
-          (sym (inner-next (x .em) (x .t .now) (x .st) (x .i) (x .least) (a .pre .2) k (k - 1) (omega (arith, l .loop .inv .0)))
-          ∙ ap (innerLeast (x .em) (x .t .now) (x .st) (x .i) (x .least)) (omega arith)),
+          (sym (inner-next (x .t .now) (x .st) (x .i) (x .least) (a .pre .2) k (k - 1) (omega (arith, l .loop .inv .0)))
+          ∙ ap (innerLeast (x .t .now) (x .st) (x .i) (x .least)) (omega arith)),
     )
 
 returns : tie.Need-returns Inv-loop μ-loop
 returns c =
     let l = c .before in
     let x = l .before .before .args in
-    l .loop .inv .2 ∙ ap (innerLeast (x .em) (x .t .now) (x .st) (x .i) (x .least)) (omega (arith, c .loop-test .left, l .loop .inv .1))
+    l .loop .inv .2 ∙ ap (innerLeast (x .t .now) (x .st) (x .i) (x .least)) (omega (arith, c .loop-test .left, l .loop .inv .1))
 
 pub within-spec : {M : Type 1} → statement M
 within-spec =
