@@ -10,6 +10,10 @@ use native.Mathlib.Omega.{arith}
 use Rattle.account_text.proofs.put_needs.Statement.{statement}
 use Rattle.account_text.proofs.put_needs.Tie as tie
 
+-- where the path stood before
+abbrev start-of-put-said-arg4 : tie.After-put-said-arg4 → tie.Start
+start-of-put-said-arg4 c = c .before .before .before .before .before .before .before .before
+
 whole : (s : tie.Start) → let a = s .args in Left (a .out .now) (a .from) (needsText (a .needed) (a .measure)) (a .out .now) (a .from)
     (parts.needs (a .needed) ++ (parts.measure (a .measure) ++ (10 ∷ [])))
 whole s = parts.needs-left (s .args .needed) (s .args .measure) (s .pre .0)
@@ -24,11 +28,11 @@ slice-aggregate-put-said-2 : tie.Need-slice-aggregate-put-said-2
 slice-aggregate-put-said-2 c = search needs
 
 mul-put-said : tie.Need-mul-put-said
-mul-put-said c = omega (arith, c .before .before .before .before .before .before .before .before .pre .1)
+mul-put-said c = omega (arith, start-of-put-said-arg4 c .pre .1)
 
 put-said-requires-2 : tie.Need-put-said-requires-2
 put-said-requires-2 c κs =
-    let a = c .before .before .before .before .before .before .before .before in
+    let a = start-of-put-said-arg4 c in
     fits (parts.measure (a .args .measure)) (10 ∷ []) (left-next (parts.needs (a .args .needed)) (parts.measure (a .args .measure) ++ (10 ∷ [])) (whole a)
     (c .before .before .before .before .put-said .ensures))
 

@@ -10,6 +10,10 @@ use Rattle.account_text.specs.Reason.{last-fits}
 use Rattle.account_text.proofs.put_touch.Statement.{statement}
 use Rattle.account_text.proofs.put_touch.Tie as tie
 
+-- where the path stood before
+abbrev put-named-of-put-named2 : tie.After-put-named2 → tie.After-put-named
+put-named-of-put-named2 c = c .before .before .before .before .before
+
 abbrev entry : tie.After-put-named-arg2 → tie.Start
 entry c = c .before .before .before .before
 
@@ -52,7 +56,7 @@ slice-aggregate-put-said c = search needs
 put-said-requires : tie.Need-put-said-requires
 put-said-requires c κs =
     let q = c .before .before .before .before in
-    let p = q .before .before .before .before .before in
+    let p = put-named-of-put-named2 q in
     let s = entry (p .before) in
     last-fits (left-next (its s) (of s) (left-its p) (q .put-named2 .ensures))
 
@@ -64,7 +68,7 @@ unfolding touchText
 returns c =
     let d = c .before .before in
     let q = d .before .before .before .before .before in
-    then (q .before .before .before .before .before .put-named .ensures) (then (q .put-named2 .ensures) (d .put-said .ensures))
+    then (put-named-of-put-named2 q .put-named .ensures) (then (q .put-named2 .ensures) (d .put-said .ensures))
 
 pub put-touch-spec : {M : Type 1} → statement M
 put-touch-spec =

@@ -9,6 +9,10 @@ use borrow.Author.Needs.{needs}
 use Rattle.account_text.proofs.put_verdict.Statement.{statement}
 use Rattle.account_text.proofs.put_verdict.Tie as tie
 
+-- where the path stood before
+abbrev put-said-of-put-said2 : tie.After-put-said2 → tie.After-put-said
+put-said-of-put-said2 c = c .before .before .before .before .before
+
 whole : (s : tie.Start) → let a = s .args in Left (a .out .now) 0 (verdictText (a .lines) (a .elements) (a .readings)) (a .out .now) 0
     (parts.lines (a .lines) ++ (parts.elements (a .elements) ++ (parts.readings (a .readings) ++ (10 ∷ []))))
 whole s = parts.verdict-left (s .args .lines) (s .args .elements) (s .args .readings) (s .pre)
@@ -44,7 +48,7 @@ put-said-requires-3 c κs =
 put-byte-requires : tie.Need-put-byte-requires
 put-byte-requires c κs =
     let b = c .before .before .before .before .before .before .before .before in
-    let d = b .before .before .before .before .before in
+    let d = put-said-of-put-said2 b in
     let a = d .before .before .before .before in
     byte-fits (left-next (parts.readings (a .args .readings)) (10 ∷ []) (left-next (parts.elements (a .args .elements)) (parts.readings (a .args .readings) ++ (10 ∷ [])) (left-next (parts.lines
     (a .args .lines)) (parts.elements (a .args .elements) ++ (parts.readings (a .args .readings) ++ (10 ∷ []))) (whole a) (d .put-said .ensures)) (b .put-said2 .ensures))
@@ -58,7 +62,7 @@ unfolding verdictText
 returns c =
     let b = c .before .before .before .before .before .before in
     let d = b .before .before .before .before .before in
-    let a = d .before .before .before .before .before in
+    let a = put-said-of-put-said2 d in
     then (a .put-said .ensures) (then (d .put-said2 .ensures) (then (b .put-said3 .ensures) (c .before .before .put-byte .ensures)))
 
 pub put-verdict-spec : {M : Type 1} → statement M

@@ -18,23 +18,33 @@ abbrev μ-loop : tie.MeasureT-loop
 μ-loop n elements readings rows told extents out₀ at₀ q₀ l₀ out at q l =
     n - l
 
+-- where the path stood before
+abbrev start-of-put-verdict-arg : tie.After-put-verdict-arg Inv-loop μ-loop → tie.Start Inv-loop μ-loop
+start-of-put-verdict-arg c = c .before .before .before .before .before
+
+abbrev start-of-in-loop : tie.In-loop Inv-loop μ-loop → tie.Start Inv-loop μ-loop
+start-of-in-loop c = c .before .before .before .before .before .before .before .before .before .before
+
+abbrev in-loop-of-slice-known3 : tie.After-slice-known3 Inv-loop μ-loop → tie.In-loop Inv-loop μ-loop
+in-loop-of-slice-known3 c = c .before .before .before .before .before .before
+
 cast-put-verdict : tie.Need-cast-put-verdict Inv-loop μ-loop
-cast-put-verdict c = omega (arith, c .before .before .before .before .before .pre .few)
+cast-put-verdict c = omega (arith, start-of-put-verdict-arg c .pre .few)
 
 cast-put-verdict-2 : tie.Need-cast-put-verdict-2 Inv-loop μ-loop
-cast-put-verdict-2 c = omega (arith, c .before .before .before .before .before .pre .small .0)
+cast-put-verdict-2 c = omega (arith, start-of-put-verdict-arg c .pre .small .0)
 
 cast-put-verdict-3 : tie.Need-cast-put-verdict-3 Inv-loop μ-loop
-cast-put-verdict-3 c = omega (arith, c .before .before .before .before .before .pre .small .1)
+cast-put-verdict-3 c = omega (arith, start-of-put-verdict-arg c .pre .small .1)
 
 put-verdict-requires : tie.Need-put-verdict-requires Inv-loop μ-loop
-put-verdict-requires c κs = lists.verdict-fits (c .before .before .before .before .before .pre)
+put-verdict-requires c κs = lists.verdict-fits (start-of-put-verdict-arg c .pre)
 
 loop-holds : tie.Need-loop-holds Inv-loop μ-loop
 loop-holds c = lists.going-first (c .before .before .before .before .before .before .before .before .pre) (c .before .before .put-verdict .ensures)
 
 mul-e : tie.Need-mul-e Inv-loop μ-loop
-mul-e c = omega (arith, c .loop-test .taken, c .before .before .before .before .before .before .before .before .before .before .pre .few)
+mul-e c = omega (arith, c .loop-test .taken, start-of-in-loop c .pre .few)
 
 shared-slice-read-e : tie.Need-shared-slice-read-e Inv-loop μ-loop
 shared-slice-read-e c = lists.in-told (c .before .before .loop .inv) (c .before .loop-test .taken)
@@ -53,16 +63,16 @@ put-line-requires c κs = lists.line-ready (c .before .before .before .before .l
 
 add-l : tie.Need-add-l Inv-loop μ-loop
 add-l c =
-    let b = c .before .before .before .before .before .before in
-    let a = b .before .before .before .before .before .before .before .before .before .before in
+    let b = in-loop-of-slice-known3 c in
+    let a = start-of-in-loop b in
     omega (arith, b .loop-test .taken, a .pre .few)
 
 loop-less : tie.Need-loop-less Inv-loop μ-loop
-loop-less c = omega (arith, c .before .before .before .before .before .before .loop-test .taken)
+loop-less c = omega (arith, in-loop-of-slice-known3 c .loop-test .taken)
 
 loop-again : tie.Need-loop-again Inv-loop μ-loop
 loop-again c =
-    let b = c .before .before .before .before .before .before in
+    let b = in-loop-of-slice-known3 c in
     let a = b .before in
     lists.going-next (a .loop .inv) (b .loop-test .taken) (c .before .before .put-line .ensures)
 

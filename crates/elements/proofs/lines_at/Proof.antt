@@ -16,13 +16,23 @@ Inv-loop s form n from first table₀ runs₀ lruns₀ at₀ line₀ used₀ lus
 abbrev μ-loop : tie.MeasureT-loop
 μ-loop s form n from first table₀ runs₀ lruns₀ at₀ line₀ used₀ lused₀ i₀ table runs lruns at line used lused i = n - i
 
+-- where the path stood before
+abbrev start-of-loop : tie.At-loop Inv-loop μ-loop → tie.Start Inv-loop μ-loop
+start-of-loop c = c .before .before .before .before .before
+
+abbrev element-at-of-known-told : tie.After-known-told Inv-loop μ-loop → tie.After-element-at Inv-loop μ-loop
+element-at-of-known-told c = c .before .before .before .before .before .before .before
+
+abbrev known-told-of-struct-known2 : tie.After-struct-known2 Inv-loop μ-loop → tie.After-known-told Inv-loop μ-loop
+known-told-of-struct-known2 c = c .before .before .before .before .before .before
+
 loop-holds : tie.Need-loop-holds Inv-loop μ-loop
 loop-holds c = reading.lines-first _ _ _ _ _ _ _ _
 
 element-at-requires : tie.Need-element-at-requires Inv-loop μ-loop
 element-at-requires c κs =
     let l = c .before .before .before in
-    reading.line-ready (l .loop .inv) (c .before .before .loop-test .taken) (l .before .before .before .before .before .pre)
+    reading.line-ready (l .loop .inv) (c .before .before .loop-test .taken) (start-of-loop l .pre)
 
 enum-known-e : tie.Need-enum-known-e Inv-loop μ-loop
 enum-known-e c = search needs
@@ -49,48 +59,48 @@ returns c =
 put-element-requires : tie.Need-put-element-requires Inv-loop μ-loop
 put-element-requires c κs =
     let k = c .before in
-    let f = k .before .before .before .before .before .before .before in
+    let f = element-at-of-known-told k in
     let l = f .before .before .before .before in
-    reading.put-ready (l .loop .inv) (f .before .before .before .loop-test .taken) (l .before .before .before .before .before .pre)
+    reading.put-ready (l .loop .inv) (f .before .before .before .loop-test .taken) (start-of-loop l .pre)
 
 add-line : tie.Need-add-line Inv-loop μ-loop
 add-line c =
     let k = c .before .before .before .before in
-    let f = k .before .before .before .before .before .before .before in
+    let f = element-at-of-known-told k in
     let l = f .before .before .before .before in
-    let h = reading.line-fits (l .loop .inv) (f .before .before .before .loop-test .taken) (l .before .before .before .before .before .pre) in
+    let h = reading.line-fits (l .loop .inv) (f .before .before .before .loop-test .taken) (start-of-loop l .pre) in
     search needs
 
 add-used : tie.Need-add-used Inv-loop μ-loop
 add-used c =
     let k = c .before .before .before .before .before in
-    let f = k .before .before .before .before .before .before .before in
+    let f = element-at-of-known-told k in
     let l = f .before .before .before .before in
     let h = reading.used-fits (l .loop .inv) (f .before .before .before .loop-test .taken) _ _ (sym (k .before .e .given .1) ∙ f .element-at .ensures .line) in
     record { fits = omega (arith, h .0) }
 
 add-lused : tie.Need-add-lused Inv-loop μ-loop
 add-lused c =
-    let k = c .before .before .before .before .before .before in
-    let f = k .before .before .before .before .before .before .before in
+    let k = known-told-of-struct-known2 c in
+    let f = element-at-of-known-told k in
     let l = f .before .before .before .before in
     let h = reading.used-fits (l .loop .inv) (f .before .before .before .loop-test .taken) _ _ (sym (k .before .e .given .1) ∙ f .element-at .ensures .line) in
     record { fits = omega (arith, h .1) }
 
 add-i : tie.Need-add-i Inv-loop μ-loop
 add-i c =
-    let k = c .before .before .before .before .before .before in
-    let f = k .before .before .before .before .before .before .before in
+    let k = known-told-of-struct-known2 c in
+    let f = element-at-of-known-told k in
     let l = f .before .before .before .before in
-    record { fits = omega (arith, f .before .before .before .loop-test .taken, l .before .before .before .before .before .pre .few) }
+    record { fits = omega (arith, f .before .before .before .loop-test .taken, start-of-loop l .pre .few) }
 
 loop-less : tie.Need-loop-less Inv-loop μ-loop
 loop-less c = search needs
 
 loop-again : tie.Need-loop-again Inv-loop μ-loop
 loop-again c =
-    let k = c .before .before .before .before .before .before in
-    let f = k .before .before .before .before .before .before .before in
+    let k = known-told-of-struct-known2 c in
+    let f = element-at-of-known-told k in
     let l = f .before .before .before .before in
     let more = f .before .before .before .loop-test .taken in
     let r = f .element-at .ensures in

@@ -10,6 +10,10 @@ use borrow.Author.Needs.{needs}
 use Rattle.elements.proofs.listed_at.Statement.{statement}
 use Rattle.elements.proofs.listed_at.Tie as tie
 
+-- where the path stood before
+abbrev read-word-of-fields-at : tie.After-fields-at → tie.After-read-word
+read-word-of-fields-at c = c .before .before .before .before .before
+
 counts-of-requires : tie.Need-counts-of-requires
 counts-of-requires c κs = search needs
 
@@ -60,7 +64,7 @@ returns-2 : tie.Need-returns-2
 unfolding onPlace
 returns-2 c =
     let f = c .before .before .before .before in
-    let w = f .before .before .before .before .before in
+    let w = read-word-of-fields-at f in
     let st = w .before .before in
     let k = st .before in
     let a = k .before .before .before .args in
@@ -75,7 +79,7 @@ returns-3 : tie.Need-returns-3
 unfolding onPlace
 returns-3 c =
     let f = c .before .before .before .before .before in
-    let w = f .before .before .before .before .before in
+    let w = read-word-of-fields-at f in
     let st = w .before .before in
     let k = st .before in
     let a = k .before .before .before .args in

@@ -23,6 +23,19 @@ Inv-loop t₀ p w ends em rclass rwidth runs n at₀ i₀ t at i =
 abbrev μ-loop : tie.MeasureT-loop
 μ-loop t₀ p w ends em rclass rwidth runs n at₀ i₀ t at i = n - i
 
+-- where the path stood before
+abbrev start-of-loop : tie.At-loop Inv-loop μ-loop → tie.Start Inv-loop μ-loop
+start-of-loop c = c .before .before .before .before .before .before
+
+abbrev start-of-struct-known : tie.After-struct-known Inv-loop μ-loop → tie.Start Inv-loop μ-loop
+start-of-struct-known c = c .before .before .before .before .before
+
+abbrev start-of-in-loop : tie.In-loop Inv-loop μ-loop → tie.Start Inv-loop μ-loop
+start-of-in-loop c = c .before .before .before .before .before .before .before
+
+abbrev in-loop-of-past-run : tie.After-past-run Inv-loop μ-loop → tie.In-loop Inv-loop μ-loop
+in-loop-of-past-run c = c .before .before .before .before .before .before .before .before .before .before .before .before
+
 abbrev job : tie.Start Inv-loop μ-loop → Job
 job a = runsOnly (a .args .em) (a .args .rclass .now) (a .args .rwidth .now) (a .args .runs .now)
 
@@ -36,7 +49,7 @@ reads : (c : tie.In-loop Inv-loop μ-loop) →
     RunReads (a .args .rwidth .now) (l .loop .at .ruby) (runAt Right (job a) (a .args .p) (l .loop .i - a .args .p .base))
 reads c =
     let l = c .before in
-    let a = l .before .before .before .before .before .before in
+    let a = start-of-loop l in
     reads-at (job a) (a .args .p) (a .args .t .now) (a .pre) (l .loop .i - a .args .p .base) (inside c) (l .loop .at) (l .loop .inv .2)
 
 -- its width
@@ -47,15 +60,15 @@ wide : (c : tie.After-run-width Inv-loop μ-loop) →
 wide c =
     let i = c .before .before .before .before in
     let l = i .before in
-    let a = l .before .before .before .before .before .before in
+    let a = start-of-loop l in
     c .run-width .ensures ∙ own-at (job a) (a .args .p) (a .args .t .now) (a .pre) (l .loop .i - a .args .p .base) (inside i) (l .loop .at) (l .loop .inv .2)
 
 add-n : tie.Need-add-n Inv-loop μ-loop
-add-n c = omega (arith, c .before .before .before .before .before .pre .own .small)
+add-n c = omega (arith, start-of-struct-known c .pre .own .small)
 
 loop-holds : tie.Need-loop-holds Inv-loop μ-loop
 loop-holds c =
-    let a = c .before .before .before .before .before in
+    let a = start-of-struct-known c in
     let x = a .args in
     (omega arith, omega arith, cursor-first (job a) (x .p), filled-none (jukugoRow (job a) (x .p) (x .w) (x .ends)) (x .p .base) (x .t .now))
 
@@ -65,19 +78,19 @@ sub-run c = omega (arith, c .before .before .loop .inv .0)
 add-run : tie.Need-add-run Inv-loop μ-loop
 add-run c =
     let i = c .before .before in
-    let a = i .before .before .before .before .before .before .before in
+    let a = start-of-in-loop i in
     omega (arith, inside i, a .pre .own .few, a .pre .own .fewRuns)
 
 mul-run : tie.Need-mul-run Inv-loop μ-loop
 mul-run c =
     let i = c .before .before in
-    let a = i .before .before .before .before .before .before .before in
+    let a = start-of-in-loop i in
     omega (arith, inside i, a .pre .own .few, a .pre .own .fewRuns)
 
 shared-slice-read-run : tie.Need-shared-slice-read-run Inv-loop μ-loop
 shared-slice-read-run c =
     let i = c .before .before .before in
-    let a = i .before .before .before .before .before .before .before in
+    let a = start-of-in-loop i in
     omega (arith, inside i, a .pre .own .runs)
 
 cast-run-width : tie.Need-cast-run-width Inv-loop μ-loop
@@ -96,7 +109,7 @@ shared-slice-read-is-western : tie.Need-shared-slice-read-is-western Inv-loop μ
 shared-slice-read-is-western c =
     let i = c .before .before .before .before .before in
     let l = i .before in
-    let a = l .before .before .before .before .before .before in
+    let a = start-of-loop l in
     class-at (job a) (a .args .p) (a .args .t .now) (a .pre) (l .loop .i - a .args .p .base) (inside i) (l .loop .at) (l .loop .inv .2)
 
 is-western-requires : tie.Need-is-western-requires Inv-loop μ-loop
@@ -105,14 +118,14 @@ is-western-requires c κs = search needs
 run-row-requires : tie.Need-run-row-requires Inv-loop μ-loop
 run-row-requires c κs =
     let i = c .before .before .before .before .before .before in
-    let a = i .before .before .before .before .before .before .before in
+    let a = start-of-in-loop i in
     (omega (arith, i .before .loop .inv .1), a .pre .own .small, omega (arith, reads i .few))
 
 put-cell-requires : tie.Need-put-cell-requires Inv-loop μ-loop
 put-cell-requires c κs =
     let i = c .before .before .before .before .before .before .before .before in
     let l = i .before in
-    let a = l .before .before .before .before .before .before in
+    let a = start-of-loop l in
     omega (arith, a .pre .held, l .loop .inv .3 .long, i .loop-test .taken)
 
 past-run-requires : tie.Need-past-run-requires Inv-loop μ-loop
@@ -120,18 +133,18 @@ past-run-requires c κs =
     let w = c .before .before .before .before .before .before .before in
     let i = w .before .before .before .before in
     let l = i .before in
-    let a = l .before .before .before .before .before .before in
+    let a = start-of-loop l in
     past-ready (job a) (a .args .p) (a .args .t .now) (a .pre) (l .loop .i - a .args .p .base) (inside i) (l .loop .at) (l .loop .inv .2) (w .run-width .result) (wide w)
 
 add-i : tie.Need-add-i Inv-loop μ-loop
 add-i c =
-    let i = c .before .before .before .before .before .before .before .before .before .before .before .before in
-    let a = i .before .before .before .before .before .before .before in
+    let i = in-loop-of-past-run c in
+    let a = start-of-in-loop i in
     omega (arith, i .loop-test .taken, a .pre .own .small)
 
 loop-less : tie.Need-loop-less Inv-loop μ-loop
 loop-less c =
-    let i = c .before .before .before .before .before .before .before .before .before .before .before .before in
+    let i = in-loop-of-past-run c in
     omega (arith, i .loop-test .taken)
 
 loop-again : tie.Need-loop-again Inv-loop μ-loop
@@ -142,7 +155,7 @@ loop-again c =
     let w = west .before .before in
     let i = w .before .before .before .before in
     let l = i .before in
-    let a = l .before .before .before .before .before .before in
+    let a = start-of-loop l in
     let x = a .args in
     let q = l .loop .inv in
     let row = run-row (job a) (x .p) (x .w) (x .ends) (l .loop .i) (l .loop .at) (runAt Right (job a) (x .p) (l .loop .i - x .p .base)) (w .run-width .result) (west .is-western .result)
@@ -160,7 +173,7 @@ same-length c = c .before .loop .inv .3 .long
 returns : tie.Need-returns Inv-loop μ-loop
 returns c =
     let l = c .before in
-    let a = l .before .before .before .before .before .before in
+    let a = start-of-loop l in
     let x = a .args in
     upto-end (jukugoRow (job a) (x .p) (x .w) (x .ends)) (omega (arith, c .loop-test .left, l .loop .inv .1)) (l .loop .inv .3)
 

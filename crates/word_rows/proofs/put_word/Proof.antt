@@ -13,6 +13,10 @@ Inv-loop t₀ p w ends e i₀ t i = (p .base ≤ i) × (i ≤ e) × Filled (word
 abbrev μ-loop : tie.MeasureT-loop
 μ-loop t₀ p w ends e i₀ t i = e - i
 
+-- where the path stood before
+abbrev in-loop-of-slice-known2 : tie.After-slice-known2 Inv-loop μ-loop → tie.In-loop Inv-loop μ-loop
+in-loop-of-slice-known2 c = c .before .before .before .before .before .before
+
 add-e : tie.Need-add-e Inv-loop μ-loop
 add-e c = search needs
 
@@ -39,11 +43,11 @@ put-cell-requires c κs =
 
 add-i : tie.Need-add-i Inv-loop μ-loop
 add-i c =
-    let i = c .before .before .before .before .before .before in
+    let i = in-loop-of-slice-known2 c in
     omega (arith, i .loop-test .taken, i .before .before .before .before .pre)
 
 loop-less : tie.Need-loop-less Inv-loop μ-loop
-loop-less c = let i = c .before .before .before .before .before .before in omega (arith, i .loop-test .taken)
+loop-less c = let i = in-loop-of-slice-known2 c in omega (arith, i .loop-test .taken)
 
 loop-again : tie.Need-loop-again Inv-loop μ-loop
 loop-again c =
