@@ -1,7 +1,7 @@
 /*
  * Bolyverit for C and C++: ruby is set by a proved engine.
  *
- * Link with target/staticlib/libexports.a (written by `rt staticlib exports`), on x86-64 Linux. The header is plain C89 but
+ * Link with target/staticlib/libexports.a (written by `bin/proved exports`), on x86-64 Linux. The header is plain C89 but
  * for <stdint.h>, which C99 and C++11 have; a C89 compiler without it needs the types uint8_t and uint32_t declared before.
  *
  * All numbers are those of the scope document ("document 01"): widths are whole units, positions are half units from the

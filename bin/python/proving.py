@@ -2,7 +2,8 @@
 
 A program is run only if its stamp holds. The stamp, target/proved/PROGRAM, was written when the program was proved and built; it has a sum over the
 contents of crates/ and crates.txt and the kit's identity (`rt version`), and one over the built program. Dates play no part. Without a stamp that
-holds the program is proved and built first. The archive for callers in C is looked after in the same way.
+holds the program is proved and built first, by `rt run` in its crate's folder, which leaves it in out/, and from there it is taken to target/bin. The archive
+for callers in C is looked after in the same way (`rt lib`, target/staticlib). What rt keeps in a crate's folder out/ is no source.
 """
 
 import hashlib
@@ -71,6 +72,8 @@ def source_files():
     yield 'crates.txt'
     for where, folders, names in os.walk(os.path.join(ROOT, 'crates'), onerror=stop):
         folders.sort()
+        if os.path.dirname(where) == os.path.join(ROOT, 'crates') and 'out' in folders:
+            folders.remove('out')
         for folder in folders:
             if os.path.islink(os.path.join(where, folder)):
                 raise Trouble('%s is a link to a folder, and what is behind a link is not vouched for'
@@ -104,8 +107,20 @@ def is_program(crate):
 
 
 def built(crate):
-    """What rt makes of a crate, from target/ on: a program, or the archive of a library."""
+    """What is made of a crate, from target/ on: a program, or the archive of a static library."""
     return os.path.join('bin', crate) if is_program(crate) else os.path.join('staticlib', 'lib%s.a' % crate)
+
+
+def take(crate):
+    """What rt left in the crate's folder, to its place in target/: whole or not at all."""
+    import shutil
+    to = os.path.join(TARGET, built(crate))
+    try:
+        os.makedirs(os.path.dirname(to), exist_ok=True)
+        shutil.copy(os.path.join(ROOT, 'crates', crate, 'out', os.path.basename(to)), to + '.part')
+        os.replace(to + '.part', to)
+    except OSError as error:
+        raise Trouble('rt finds it proved, but target/%s cannot be had: %s' % (built(crate), reason(error)))
 
 
 def sum_of_built(program):
@@ -170,16 +185,12 @@ def remove(*words):
 
 def prove(name, program, rt, kit, sources):
     """Proves and builds, and writes the stamp. SOURCES is their sum before it began."""
-    if is_program(program) and ('' in stamp_of(program) or stamp_of(program)[1] != sum_of_built(program)):
-        # Nobody knows what made the program that is there: rt has to build it, also where it finds it proved.
-        remove('stamp', program)
     remove('proved', program)
     run_check(name, program, rt)
+    take(program)
     if sum_of_sources(kit) != sources:
         raise Trouble('the sources were changed while they were proved: run this again')
     made = sum_of_built(program)
-    if not made:
-        raise Trouble('rt finds it proved, but there is no target/%s: remove target/ and run this again' % built(program))
     stamp = os.path.join(TARGET, 'proved', program)
     with open(stamp + '.part', 'w') as file:
         file.write('sources %s\nprogram %s\n' % (sources, made))
@@ -193,7 +204,8 @@ def crates_below(program):
         for line in file:
             crate, colon, deps = line.split('#')[0].partition(':')
             if colon:
-                listed[crate.strip()] = deps.split()
+                # a static library has that word behind its name
+                listed[crate.split()[0]] = deps.split()
     found, left = set(), [program]
     while left:
         crate = left.pop()
@@ -204,17 +216,18 @@ def crates_below(program):
 
 
 def run_check(name, program, rt):
-    """`rt check PROGRAM`: a line for each crate on standard error, everything in a log; on failure the lines that matter."""
+    """`rt run`, or `rt lib` of the archive: a line for each crate on standard error, everything in a log; on failure the lines that matter. What a program
+    that is run writes, on an empty input, goes to the log too."""
     import time
     began = time.monotonic()
-    verb = 'check' if is_program(program) else 'staticlib'
+    verb = 'run' if is_program(program) else 'lib'
     log = os.path.join(TARGET, 'log', '%s-%s.log' % (verb, program))
     count = len(crates_below(program))
-    say('%s: it is proved and built first (rt %s %s), which takes some minutes from nothing; %s has all of it'
+    say('%s: it is proved and built first (rt %s in crates/%s), which takes some minutes from nothing; %s has all of it'
         % (name, verb, program, os.path.relpath(log, ROOT)))
     with open(log, 'wb') as kept:
         # The sheet waits on standard input: rt must not read it, nor write into the answer.
-        check = subprocess.Popen([rt, verb, program], cwd=ROOT, stdin=subprocess.DEVNULL, stdout=subprocess.PIPE, stderr=subprocess.STDOUT,
+        check = subprocess.Popen([rt, verb], cwd=os.path.join(ROOT, 'crates', program), stdin=subprocess.DEVNULL, stdout=subprocess.PIPE, stderr=subprocess.STDOUT,
                                  start_new_session=True)
         try:
             matter = follow(name, check.stdout, kept, count)
@@ -227,26 +240,30 @@ def run_check(name, program, rt):
     if status != 0:
         for line in matter[:SHOWN]:
             say('  ' + line[:WIDE])
-        raise Trouble('not proved (rt %s %s: status %d), so nothing is run; %s has all that was said'
+        raise Trouble('not proved (rt %s in crates/%s: status %d), so nothing is run; %s has all that was said'
                       % (verb, program, status, os.path.relpath(log, ROOT)))
     say('%s: proved and built in %d s' % (name, time.monotonic() - began))
 
 
 def follow(name, lines, log, count):
-    """Keeps what rt says and tells of each crate as it is proved. The lines that matter if the check fails."""
+    """Keeps what rt says and tells of each crate as it is proved; of one that was proved before it says nothing. The lines that matter if the check fails."""
     import re
-    proved = re.compile(r'rt: (\w+) proved \((?:(\d+ s)|unchanged.*)\)')
-    fault = re.compile(r'.*\berror\b|rt: .*(NOT PROVED|FAILED|is not |was not |ended with|crates\.txt)')
-    at, matter = 0, []
+    import time
+    crate = re.compile(r'crate (\w+): modules')
+    fault = re.compile(r'.*\berror\b|fn .*: (not proved|no proof)|rt: .*(did not build|is not |was not |ended with|crates\.txt)')
+    at, matter, which, began = 0, [], '', time.monotonic()
     for raw in lines:
         log.write(raw)
         log.flush()
         line = raw.decode('utf-8', 'replace').rstrip('\n')
-        one = proved.fullmatch(line)
+        one = crate.match(line)
         if one:
+            which = one[1]
+        elif line.startswith('logic=proved') and which:
             at += 1
-            say('%s: proving %d of %d: %s, %s' % (name, at, count, one[1], one[2] or 'proved before'))
-        elif fault.match(line) and 'its dependency' not in line:
+            say('%s: proving %d of %d: %s, %d s' % (name, at, count, which, time.monotonic() - began))
+            which, began = '', time.monotonic()
+        elif fault.match(line):
             matter.append(printable(line.replace(ROOT + os.sep, '')))
     return matter
 

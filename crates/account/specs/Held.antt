@@ -10,7 +10,7 @@ use Rattle.line.specs.declared.State.{State}
 use Rattle.line.specs.Rules.{ruby, HasRuby, el, org, block_at, ruby_at, ruby_end, Flush, Sounds}
 use Rattle.line.specs.Setting.{ruby_from, start, reach, Near, asks, asked, origin, settle, after}
 use Rattle.line.specs.Least.{reach-put, settle-origin, settle-follows}
-use Rattle.line.specs.Theorems.{keeps}
+use Rattle.line.proofs.Theorems.{keeps}
 use Rattle.account.specs.declared.Reason.{Reason}
 use Rattle.account.specs.declared.Reason.TheVariants.{Start, Block, Under, Over, Ruby, Edge}
 use Rattle.account.specs.Claims.{in_order, rank, Holds}

@@ -11,7 +11,7 @@ use Rattle.line.specs.declared.Reading.{Reading}
 use Rattle.line.specs.declared.Side.{Side}
 use Rattle.line.specs.declared.Side.TheVariants.{Right, Left}
 use Rattle.line.specs.Rules.{ruby, el, org, block_at, ruby_at, HasRuby, Apart, Sounds}
-use Rattle.line.specs.Pairs.{rubies-order}
+use Rattle.line.proofs.Pairs.{rubies-order}
 use Rattle.account.specs.declared.Reason.{Reason}
 use Rattle.account.specs.declared.Reason.TheVariants.{Start, Ruby, Edge, Free}
 use Rattle.account.specs.declared.Far.{Far}

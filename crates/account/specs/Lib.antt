@@ -2,7 +2,6 @@ pub mod Reasons
 pub mod Step
 pub mod Law
 pub mod Claims
-pub mod Order
 pub mod Held
 pub mod Tight
 pub mod Theorems

@@ -4,7 +4,7 @@ use Rattle.std.specs.Prelude.{◌≡◌, cond, List, ℕ, zero, suc, ◌+◌, �
 use Rattle.std.proofs.Common.{sym, ap, subst, inl, inr, arith, eq-eqb, ne_eqb}
 use Rattle.line.specs.declared.Element.{Element}
 use Rattle.line.specs.declared.Side.{Side}
-use Rattle.line.specs.Pairs.{ordered}
+use Rattle.line.proofs.Pairs.{ordered}
 use Rattle.line.specs.Rules.{Span, Off, block_of, ruby_of, el, org, block_at, ruby_at, kept, Apart, Sounds}
 use Rattle.account.specs.declared.Reason.{Reason}
 use Rattle.account.specs.declared.Reason.TheVariants.{Start, Block, Under, Over, Ruby, Edge, Free}

@@ -2,11 +2,12 @@
 // enough to tell that it is. The tables are `[0; n]` arrays, lent to the library; everything else is `account_sheet::account_sheet`.
 #![tactic(auto)]
 
-use libc::{STDIN_FILENO, STDOUT_FILENO};
+use std::io;
+use std::io::Write;
 
-fn main() {
+fn main(rt: HostRuntime) -> io::Result<()> {
     let mut text = [0u8; 65536];
-    let n = io::read_full(STDIN_FILENO, &mut text);
+    let n = frames::fill(&mut rt.stdin(), &mut text)?;
     let mut set = [0; limits::SET];
     let mut base = [0; limits::BASE_TABLE];
     let mut ruby = [0; limits::RUBY_TABLE];
@@ -32,5 +33,5 @@ fn main() {
         &mut extents,
         &mut out,
     );
-    io::write_all(STDOUT_FILENO, &out[..k]);
+    rt.stdout().write_all(&out[..k])
 }

@@ -14,7 +14,7 @@ use Rattle.door.specs.Job.{Job, base_count}
 use Rattle.door.specs.Refusals.{own_faults}
 use Rattle.door.specs.Passed.{Passed, passed}
 use Rattle.job.specs.Refusals.{lines_faults}
-use Rattle.job.specs.Declined as declined
+use Rattle.job.proofs.Declined as declined
 use Rattle.job.specs.Order.{lines-turn}
 use Rattle.cells.specs.Sound.{Sound}
 use Rattle.join.specs.Rows.{Holds}

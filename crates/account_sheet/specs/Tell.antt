@@ -11,7 +11,7 @@ use Rattle.sheet.specs.Sheet.{Tables}
 use Rattle.door.specs.Job.{Job, base_count, element_count}
 use Rattle.job.specs.Line.{ends}
 use Rattle.job.specs.Promise.{Filled}
-use Rattle.job.specs.Declined.{filled}
+use Rattle.job.proofs.Declined.{filled}
 use Rattle.engine.specs.Fault as fault
 use Rattle.engine.specs.Filled.{Stopped, Full, no-fault}
 use Rattle.result.specs.Text.{refusal_text}

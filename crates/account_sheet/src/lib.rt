@@ -4,14 +4,13 @@
 #![tactic(auto)]
 
 ghost use Rattle.std.specs.Prelude.{◌≤◌, length};
-ghost use Rattle.sheet.specs.Seen.{tables_now, tables_was};
-ghost use Rattle.account_sheet.specs.Seen.{lists_now, lists_was, Answers};
+ghost use Rattle.sheet.specs.Sheet.{tables};
 ghost use Rattle.text.specs.Print.{Wrote};
 ghost use Rattle.refusal.specs.Refusal.{place_of};
 ghost use Rattle.setter.specs.Answer.{Fits};
 ghost use Rattle.shortest.specs.Shortest.{needed_of};
 ghost use Rattle.job_account.specs.Walk.{LinesReady};
-ghost use Rattle.account_sheet.specs.Answer.{refused_text};
+ghost use Rattle.account_sheet.specs.Answer.{lists, Answered, refused_text};
 ghost use Rattle.account_sheet.specs.Needs.{Declined};
 ghost use Rattle.account_sheet.specs.Tell.{Listed, clear_text, ClearReady};
 
@@ -47,7 +46,7 @@ fn put_lists(
 )
     requires lines_ready { LinesReady t.now n ends.now rows.old told.old }
     requires n_bound { (n ≤ 1024) × (n ≤ length found.now) × (n ≤ length extents.old) }
-    ensures { Listed t.now n ends.now found.now (lists_was rows told extents) (lists_now rows.exit told.exit extents.exit) }
+    ensures { Listed t.now n ends.now found.now (lists rows.old told.old extents.old) (lists rows.new told.new extents.new) }
 {
     job_account::tell_lines(t, n, ends, rows, told);
     job_account::put_extents(n, found, extents);
@@ -90,7 +89,7 @@ pub fn account_sheet(
     extents: &mut [u32; limits::MOST_BASES],
     out: &mut [u8; limits::ANSWER],
 ) -> usize
-    ensures answers { Answers s (tables_was set base ruby left elem runs lruns) (lists_was rows told extents) out result (tables_now set.exit base.exit ruby.exit left.exit elem.exit runs.exit lruns.exit) (lists_now rows.exit told.exit extents.exit) }
+    ensures answers { Answered s.now (tables set.old base.old ruby.old left.old elem.old runs.old lruns.old) (lists rows.old told.old extents.old) out.old result (tables set.new base.new ruby.new left.new elem.new runs.new lruns.new) (lists rows.new told.new extents.new) out.new }
     ensures fits { Fits result out.new }
 {
     match sheet::read_sheet(s, set, base, ruby, left, elem, runs, lruns) {

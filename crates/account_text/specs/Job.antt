@@ -2,7 +2,7 @@
 use Rattle.std.specs.Prelude.{◌≡◌, take, drop}
 use Rattle.std.proofs.Math.Path.{refl, ap, ap₂}
 use Rattle.std.proofs.Common.{sym, ◌∙◌, drop-drop}
-use mathlib.Core.List.{List, [], ◌∷◌, ◌++◌, append_assoc, append-nil}
+use mathlib.Core.List.{List, [], ◌∷◌, ◌++◌, append_assoc}
 use Prim.Native.Nat.{ℕ, ◌+◌, ◌-◌, ◌*◌, ◌≤◌, zero-le}
 use native.Mathlib.Omega.{arith}
 use Rattle.std.proofs.Math.ListN.{length, length-append, length-map}
@@ -11,18 +11,17 @@ use Rattle.std.proofs.Math.Seq.{length-sets, take_at, drop-append_seam}
 use Rattle.basics.specs.Lists.{All}
 use Rattle.door.specs.declared.Piece.{Piece}
 use Rattle.door.specs.Job.{Job, base_count, element_count}
-use Rattle.door.specs.Whole.{element-within}
 use Rattle.door.specs.Passed.{Passed}
 use Rattle.job.specs.Line.{pieces, seen, line_of, origins, extent_of, ends, along, alone, base_at, base_in, by_line}
-use Rattle.job.specs.Walk.{length-origins}
+use Rattle.job.proofs.Walk.{length-origins}
 use Rattle.job.specs.Words.{GoodPiece}
-use Rattle.job.specs.Pieces.{good-pieces}
+use Rattle.job.proofs.Pieces.{good-pieces}
 use Rattle.job.specs.Promise.{Filled}
-use Rattle.job.specs.Filled.{chain-few}
-use Rattle.job.specs.Placed.{base-counted, base-long}
+use Rattle.job.proofs.Filled.{chain-few}
+use Rattle.job.proofs.Placed.{base-counted, base-long}
 use Rattle.positions.specs.Lists.{sets_over}
 use Rattle.job_account.specs.Rows.{rows_in, length-rows}
-use Rattle.job_account.specs.Lines.{accounts, counts_from, counts, extents_from, extents, LinesTold}
+use Rattle.job_account.specs.Lines.{accounts, counts_from, counts, extents_from, extents}
 use Rattle.account_text.specs.Text.{head_text, rows_text, segment, verdict_text, readings_of, line_text, lines_text, account_text, lists_text}
 use Rattle.account_text.specs.Lists.{Rising, ListsReady}
 use Rattle.account_text.specs.Readings.{readings-few}

@@ -14,7 +14,7 @@ use Rattle.door.specs.Job.{Job, base_count, element_count}
 use Rattle.door.specs.Passed.{Passed}
 use Rattle.job.specs.Line.{line_of, extent_of, ends, by_line}
 use Rattle.job.specs.Promise.{piece_of, Filled}
-use Rattle.job.specs.Filled.{chain-few}
+use Rattle.job.proofs.Filled.{chain-few}
 use Rattle.result.specs.Text.{bytes, refusal_text}
 use Rattle.result.specs.Short.{refusal_short}
 use Rattle.account.specs.Claims.{number, depth}

@@ -2,26 +2,12 @@
 // ends where no frame follows. Since every program ends, it takes a million sheets at most.
 #![tactic(auto)]
 
-ghost use Rattle.io.specs.Counts.{IsPrefixLen};
-
 use frames::Frame;
+use std::io;
 
-// A sheet of n bytes into `text`; the number of its bytes there. Here, as in `write_front`, the array is lent as one: that a local array has its length after it was lent is known only so.
-fn read_front(n: u32, text: &mut [u8; 65536]) -> usize
-    ensures { IsPrefixLen result text.new }
-{
-    let got = frames::read_sheet(n, text);
-    io::count(got as isize, text)
-}
-
-// The first k bytes of `out`, as an answer: no more than it has.
-fn write_front(k: usize, out: &[u8; limits::ANSWER]) {
-    let most = limits::ANSWER;
-    let m = if k <= most { k as u32 } else { most as u32 };
-    frames::write_answer(m, out);
-}
-
-fn main() {
+fn main(rt: HostRuntime) -> io::Result<()> {
+    let mut input = rt.stdin();
+    let mut output = rt.stdout();
     let mut text = [0; 65536];
     let mut set = [0; limits::SET];
     let mut base = [0; limits::BASE_TABLE];
@@ -36,11 +22,11 @@ fn main() {
     let mut out = [0; limits::ANSWER];
     let mut rest: u32 = 1000000;
     while 0 < rest {
-        let frame = frames::next_frame();
+        let frame = frames::next_frame(&mut input)?;
         let Frame::Sheet(n) = frame else {
-            return;
+            return Ok(());
         };
-        let m = read_front(n, &mut text);
+        let m = frames::read_sheet(&mut input, n, &mut text)?;
         let k = account_sheet::account_sheet(
             &text[..m],
             &mut set,
@@ -55,7 +41,8 @@ fn main() {
             &mut extents,
             &mut out,
         );
-        write_front(k, &out);
+        frames::write_answer(&mut output, k, &out)?;
         rest -= 1;
     }
+    Ok(())
 }

@@ -9,7 +9,7 @@ use Rattle.sheet.specs.Form.{Written, sheet_of, written_of}
 use Rattle.other_form.specs.Other.{Holds}
 use Rattle.sheet_job.specs.Tables.{sheet_job}
 use Rattle.converter.specs.Convert.{given, convert_text}
-use Rattle.converter.specs.Exact.{same_numbers}
+use Rattle.converter.proofs.Exact.{same_numbers}
 use Rattle.account_sheet.specs.Answer.{account_by, account_of_sheet}
 
 same-told : (r : Written) → account_by (sheet_of One r) (sheet_of One r).end ≡ account_by (sheet_of Two r) (sheet_of Two r).end

@@ -1,5 +1,5 @@
 -- A sound table: the rows of an element go on to its end, a line sees no more than level one may make, and a J can be cut.
-use Rattle.std.specs.Prelude.{◌≡◌, Bool, cond, not, ◌&&◌, ◌||◌, List, ℕ, zero, suc, ◌+◌, ◌-◌, ◌*◌, ◌≤◌, ◌<◌, max, eqb, leb, ltb, length}
+use Rattle.std.specs.Prelude.{◌≡◌, Bool, cond, not, ◌&&◌, ◌||◌, List, ℕ, ◌+◌, ◌-◌, ◌*◌, ◌≤◌, ◌<◌, max, eqb, leb, ltb, length}
 use Rattle.std.proofs.Math.Path.{refl}
 use Rattle.std.proofs.Common.{sym, ap, ap₂, ◌∙◌, subst, true≢false, zero-le, mul-le-mul, arith, le-leb, lt-ltb, le-ltb, eq-eqb, ne_eqb, eqb-true}
 use Rattle.std.proofs.Math.Bool.{true, false}
@@ -8,7 +8,7 @@ use Rattle.std.proofs.Math.Decide.{dec_lt}
 use Rattle.spread.specs.declared.Way.{Way}
 use Rattle.spread.specs.declared.Way.TheVariants.{Solid, Spread}
 use Rattle.spread.specs.Ratio.{Ratios, Housed}
-use Rattle.spread.specs.Laws.{all-space}
+use Rattle.spread.proofs.Laws.{all-space}
 use Rattle.spread.specs.declared.Ratio.{Ratio}
 use Rattle.spread.specs.Gap.{gaps}
 use Rattle.word.specs.declared.Str.{Str}
@@ -18,7 +18,6 @@ use Rattle.word.specs.Word.{none, between, short_ruby, short_base}
 use Rattle.word.specs.Numbers.{word_from}
 use Rattle.word.specs.Both.{longest}
 use Rattle.word.specs.Sides.{reading_over, sided, monos_word}
-use Rattle.line.specs.declared.Element.{Element}
 use Rattle.line.specs.declared.State.{State}
 use Rattle.line.specs.Setting.{furthest, total}
 use Rattle.cells.specs.declared.Cell.{Cell}

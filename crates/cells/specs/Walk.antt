@@ -3,16 +3,16 @@ use Rattle.std.specs.Prelude.{◌≡◌, Bool, true, false, ◌||◌, List, eqb,
 use Rattle.std.proofs.Math.Path.{refl, ap}
 use Rattle.std.proofs.Common.{sym, ◌∙◌, subst, add-zero, lt-ltb, le-ltb, eq-eqb, ne_eqb}
 use Rattle.std.proofs.Math.Bool.{cond}
-use Prim.Native.Nat.{ℕ, zero, suc, ◌+◌, ◌-◌, ◌*◌, ◌≤◌, ◌<◌, max, min, zero-le}
+use Prim.Native.Nat.{ℕ, zero, suc, ◌+◌, ◌-◌, ◌*◌, ◌≤◌, ◌<◌}
 use native.Mathlib.Omega.{arith}
 use Rattle.std.proofs.Math.Decide.{dec_lt}
 use Rattle.line.specs.declared.State.{State}
-use Rattle.line.specs.Setting.{put, origin, furthest}
-use Rattle.line.specs.Bound.{put_bound}
-use Rattle.line.specs.Extent.{put-grows}
+use Rattle.line.specs.Setting.{furthest}
+use Rattle.line.proofs.Bound.{put_bound}
+use Rattle.line.proofs.Extent.{put-grows}
 use Rattle.cells.specs.declared.Cell.{Cell}
-use Rattle.cells.specs.Cells.{cell_at, part, piece, next, stop, walk, rest, may_end, last_of}
-use Rattle.cells.specs.Sound.{Row, Sound, piece-total}
+use Rattle.cells.specs.Cells.{cell_at, piece, next, stop, walk, rest, may_end, last_of}
+use Rattle.cells.specs.Sound.{Sound, piece-total}
 
 -- where a piece ends: with its element, or before
 pub stop-whole : (t : List ℕ) (i c : ℕ) → i + (cell_at t i).bases ≤ c → stop t i c ≡ i + (cell_at t i).bases

@@ -5,7 +5,6 @@
 #![tactic(auto)]
 
 ghost use Rattle.std.specs.Prelude.{◌≡◌, true, not, ◌&&◌, ◌+◌, ◌-◌, ◌*◌, ◌≤◌, ◌<◌, eqb, length};
-ghost use Rattle.basics.specs.Seen.{was};
 ghost use Rattle.spread.specs.Ratio.{ratios_of};
 ghost use Rattle.word.specs.Word.{between};
 ghost use Rattle.line.specs.Setting.{furthest, total};
@@ -87,7 +86,7 @@ pub struct Step {
 // The house ratios, from the head of a table.
 pub fn ratios_at(t: &[u32]) -> [[u32; 3]; 2]
     requires { size 0 ≤ length t.now }
-    ensures { ratios_of result ≡ ratios_at (was t) }
+    ensures { ratios_of result ≡ ratios_at t.now }
 {
     [[t[0], t[1], t[2]], [t[3], t[4], t[5]]]
 }

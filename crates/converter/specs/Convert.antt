@@ -1,6 +1,6 @@
 -- What the converter writes of a sheet (document 02, R-6), from its bytes alone: the other sheet whole, or `refused N P`. "17 .. given by the converter only, after 13"; "other jobs get their
 -- refusal".
-use Rattle.std.specs.Prelude.{cond, List, ◌≡◌, ℕ, ◌≤◌, eqb, length}
+use Rattle.std.specs.Prelude.{cond, List, ℕ, ◌≤◌, eqb}
 use Rattle.std.proofs.Math.Option.{Option, none, some}
 use Rattle.text.specs.Print.{Wrote}
 use Rattle.refusal.specs.declared.Refusal.{Refusal}

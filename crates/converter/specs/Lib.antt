@@ -2,7 +2,6 @@ pub mod Modest
 pub mod Convert
 pub mod Accepted
 pub mod Steps
-pub mod Whole
 pub mod Determined
 pub mod Exact
 pub mod Seventeen

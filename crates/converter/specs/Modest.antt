@@ -13,11 +13,10 @@ use Rattle.elements.specs.Print.{Right, M, G, J, Left, Entry, P, word, none, ele
 use Rattle.sheet.specs.Form.{Written, InForm}
 use Rattle.class.specs.Class.{accepted}
 use Rattle.word.specs.declared.Form.{Form}
-use Rattle.word.specs.declared.Form.TheVariants as form
 use Rattle.door.specs.declared.Taken.{Taken}
 use Rattle.door.specs.Job.{Job, base_count, ruby_count, element_count, entries, form_of, takes_base, takes_ruby, takes_runs, nothing, past, element, elements_from, elements}
 use Rattle.door.specs.Passed.{Passed, GoodBase, GoodReading, GoodElement, Tiled}
-use Rattle.job.specs.Bounded.{tiled-sum}
+use Rattle.job.proofs.Bounded.{tiled-sum}
 use Rattle.other_form.specs.Short.{Modest, RightSmall, short_base, short_ruby, short-word, short-plain}
 
 -- Lists.

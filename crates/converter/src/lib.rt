@@ -4,6 +4,7 @@
 #![tactic(auto)]
 
 ghost use Rattle.std.specs.Prelude.{◌≡◌};
+ghost use Rattle.sheet.specs.Sheet.{tables};
 ghost use Rattle.sheet.specs.Seen.{tables_now, tables_was};
 ghost use Rattle.setter.specs.Answer.{Fits};
 ghost use Rattle.job.specs.Refusals.{fault};
@@ -63,7 +64,7 @@ pub fn convert(
     lruns: &mut [u32; limits::RUNS],
     out: &mut [u8; limits::SHEET],
 ) -> usize
-    ensures converted { Converted s.now (tables_was set base ruby left elem runs lruns) out.old result (tables_now set.exit base.exit ruby.exit left.exit elem.exit runs.exit lruns.exit) out.new }
+    ensures converted { Converted s.now (tables set.old base.old ruby.old left.old elem.old runs.old lruns.old) out.old result (tables set.new base.new ruby.new left.new elem.new runs.new lruns.new) out.new }
     ensures fits { Fits result out.new }
 {
     match sheet::read_sheet(s, set, base, ruby, left, elem, runs, lruns) {

@@ -2,7 +2,7 @@
 -- the other. What follows about lines asks for this and nothing else.
 use Rattle.std.specs.Prelude.{◌≡◌, Bool, true, false, cond, not, ◌&&◌, ◌||◌, eqb, ltb, length, get_or}
 use Rattle.std.proofs.Math.Path.{refl, subst}
-use Rattle.std.proofs.Common.{sym, ap, ◌∙◌, true≢false}
+use Rattle.std.proofs.Common.{sym, ◌∙◌, true≢false}
 use Rattle.std.proofs.lemmas.Bool.{false≢true}
 use mathlib.Core.List.{List, [], ◌∷◌, ◌++◌, map}
 use Prim.Native.Nat.{ℕ, zero, suc, ◌+◌, ◌%◌, ◌≤◌, ◌<◌, zero-le}
@@ -30,7 +30,7 @@ use Rattle.word.specs.Answered as answered
 use Rattle.door.specs.declared.Taken.{Taken}
 use Rattle.door.specs.declared.Piece.{Piece}
 use Rattle.door.specs.Job.{Job, base_count, ruby_count, left_count, element_count, takes_base, takes_ruby, known, known_left, left_by_runs, left_by_count, takes_left, nothing, past, element, elements_from, elements, given, gloss_of}
-use Rattle.door.specs.Refusals.{◌when◌, outside, em_wrong, measure_wrong, ratio_wrong, list_short, reading_wrong, counts_out, left_out, counts_wrong, left_kind_wrong, run_out, left_over, job_table, base_table, element_table, base_faults, reading_faults, ruby_faults, gloss_faults, element_faults, job_faults, char_faults, elements_faults, left_faults, own_faults}
+use Rattle.door.specs.Refusals.{outside, em_wrong, measure_wrong, ratio_wrong, list_short, reading_wrong, counts_out, left_out, counts_wrong, left_kind_wrong, run_out, left_over, job_table, base_table, element_table, base_faults, reading_faults, ruby_faults, gloss_faults, element_faults, job_faults, char_faults, elements_faults, left_faults, own_faults}
 use Rattle.door.specs.Verdict.{append_none, each_none, when_none, held_none}
 use Rattle.door.specs.Entries.{length-entries, none-zero, some-sum}
 

@@ -1,10 +1,10 @@
 -- The walk along the elements: where it stands, and what one element does to it.
-use Rattle.std.specs.Prelude.{◌≡◌, refl, Bool, true, false, cond, not, ◌||◌, List, [], ◌++◌, ℕ, ◌+◌, ◌^◌, ◌≤◌, ◌<◌, eqb, length, get_or}
+use Rattle.std.specs.Prelude.{◌≡◌, refl, Bool, true, false, cond, not, ◌||◌, List, ◌++◌, ℕ, ◌+◌, ◌^◌, ◌≤◌, ◌<◌, eqb, length, get_or}
 use Rattle.std.proofs.Math.Path.{sym}
-use Rattle.std.proofs.Common.{ap, ◌∙◌, subst, true≢false, arith, ne_eqb}
-use Rattle.std.proofs.lemmas.Bool.{false≢true, not-true}
-use Rattle.basics.specs.Lists.{sum, All}
-use Rattle.basics.specs.Laws.{or_none, none_any, all_map}
+use Rattle.std.proofs.Common.{ap, ◌∙◌, true≢false, arith, ne_eqb}
+use Rattle.std.proofs.lemmas.Bool.{false≢true}
+use Rattle.basics.specs.Lists.{All}
+use Rattle.basics.specs.Laws.{none_any, all_map}
 use Rattle.refusal.specs.declared.Refusal.{Refusal}
 use Rattle.refusal.specs.declared.Refusal.TheVariants.{Element, LeftKind, Supply, BlankInside, JukugoBase, Mixed, WesternOver}
 use Rattle.word.specs.declared.Form.{Form}
@@ -23,10 +23,10 @@ use Rattle.door.specs.declared.Counted.{Counted}
 use Rattle.door.specs.declared.Counted.TheVariants.{Is, Out}
 use Rattle.door.specs.declared.Step.{Step}
 use Rattle.door.specs.declared.Step.TheVariants.{Next, Stop}
-use Rattle.door.specs.Job.{Job, base_count, ruby_count, left_count, element_count, entries, known, known_left, form_of, left_of, left_by_runs, takes_runs, takes_left, takes_left_runs, element, given, gloss_of}
+use Rattle.door.specs.Job.{Job, base_count, ruby_count, left_count, element_count, entries, known, known_left, left_by_runs, takes_runs, takes_left_runs, element, given, gloss_of}
 use Rattle.door.specs.Refusals.{◌when◌, counts_out, left_out, counts_wrong, run_out, element_faults}
 use Rattle.door.specs.Entries.{length-entries, sum-most, sum_first, some-within}
-use Rattle.door.specs.Elements.{with_left, right_by, glossed_by, and_then, counted_by, stepped, Reads, by_rows_lem}
+use Rattle.door.specs.Elements.{with_left, and_then, counted_by, stepped, Reads, by_rows_lem}
 use Rattle.door.specs.Passed.{Few, FewLeft, counts-few, gloss-few, supplied}
 use Rattle.door.specs.Whole.{base-within, ruby-within, left-within}
 

@@ -1,5 +1,5 @@
 -- How the loop over the elements comes along: what is left to read, stored after what was read, makes up the whole. A run takes two bytes of the sheet at least, so that the tables have room.
-use Rattle.std.specs.Prelude.{List, [], ◌++◌, ◌≡◌, refl}
+use Rattle.std.specs.Prelude.{List, ◌++◌, ◌≡◌, refl}
 use Rattle.std.proofs.Common.{◌∙◌, ap₂, sym}
 use Rattle.std.proofs.Math.Path.{ap}
 use Prim.Native.Nat.{ℕ, suc, ◌+◌, ◌-◌, ◌*◌, ◌^◌, ◌≤◌, ◌<◌}

@@ -5,7 +5,6 @@
 
 ghost use Rattle.std.specs.Prelude.{◌≡◌};
 ghost use Rattle.std.proofs.lemmas.List.Edits.{sets};
-ghost use Rattle.basics.specs.Seen.{was};
 ghost use Rattle.rows.specs.Table.{strided};
 ghost use Rattle.elements.specs.Element.{plain_at, mono_at, group_at, jukugo_at, either, right_at, byte_at, is_counted, is_listed, counts_of, counted_at, listed_at, left_at, stop_by, word_at, element, row_of};
 ghost use Rattle.elements.specs.Elements.{lines, elements};

@@ -1,12 +1,11 @@
 -- The answer and the lists by what was found: the first refusal of all, or the lines that are written.
-use Rattle.std.specs.Prelude.{◌≡◌, refl, List, [], ℕ, ◌≤◌, length, take}
-use Rattle.std.proofs.Common.{sym, ap, ◌∙◌, arith}
+use Rattle.std.specs.Prelude.{◌≡◌, List, ℕ, ◌≤◌, length, take}
+use Rattle.std.proofs.Common.{sym, ap, arith}
 use Rattle.std.proofs.Math.Path.{subst}
 use Rattle.std.proofs.Math.Nat.{sub-zero}
 use Rattle.refusal.specs.declared.Refusal.{Refusal}
 use Rattle.door.specs.Job.{Job, base_count, ruby_count, left_count}
 use Rattle.job.specs.declared.Answer.TheVariants.{Set, Refused}
-use Rattle.job.specs.Line.{ends, base_in, reading_in, by_line}
 use Rattle.job.specs.Outcome.{Outcome, after, outcome}
 use Rattle.line.specs.declared.Side.TheVariants.{Right, Left}
 use Rattle.positions.specs.Positions as rows

@@ -116,7 +116,7 @@ fn set_table(
     lines: &mut [u32],
 ) -> job::Answer
     requires { let job = job_now em measure ratios profile class width before after flag rclass rwidth lclass lwidth kind ebase eruby lkind eleft runs lruns in Room job t.old ends.old extents.old }
-    ensures { let job = job_was em measure ratios profile class width before after flag rclass rwidth lclass lwidth kind ebase eruby lkind eleft runs lruns in leaves result base.exit ruby.exit left.exit lines.exit ≡ outcome job base.old ruby.old left.old lines.old }
+    ensures { let job = job_was em measure ratios profile class width before after flag rclass rwidth lclass lwidth kind ebase eruby lkind eleft runs lruns in leaves result base.new ruby.new left.new lines.new ≡ outcome job base.old ruby.old left.old lines.old }
 {
     let sizes = door::Sizes {
         bases: door::base_count(class, width, before, after, flag),
@@ -188,7 +188,7 @@ pub fn set_job(
     left: &mut [u32],
     lines: &mut [u32],
 ) -> job::Answer
-    ensures { let job = job_was em measure ratios profile class width before after flag rclass rwidth lclass lwidth kind ebase eruby lkind eleft runs lruns in leaves result base.exit ruby.exit left.exit lines.exit ≡ outcome job base.old ruby.old left.old lines.old }
+    ensures { let job = job_was em measure ratios profile class width before after flag rclass rwidth lclass lwidth kind ebase eruby lkind eleft runs lruns in leaves result base.new ruby.new left.new lines.new ≡ outcome job base.old ruby.old left.old lines.old }
 {
     if door::base_count(class, width, before, after, flag) <= FEW {
         let mut t = [0; SMALL];

@@ -7,8 +7,8 @@ use Rattle.job.specs.declared.Answer.{Answer}
 use Rattle.job.specs.declared.Answer.TheVariants.{Set, Refused}
 use Rattle.job.specs.Line.{ends}
 use Rattle.job.specs.Outcome.{Outcome, outcome}
-use Rattle.job.specs.Filled.{chain-few}
-use Rattle.job.specs.Demands.{lines-filled}
+use Rattle.job.proofs.Filled.{chain-few}
+use Rattle.job.proofs.Demands.{lines-filled}
 use Rattle.result.specs.Set.{accepted, many, door}
 use Rattle.job_account.specs.Outcome.{Telling, telling}
 use Rattle.job_account.specs.Outcome as account

@@ -7,8 +7,7 @@ ghost use Rattle.door.specs.Seen.{job_was};
 ghost use Rattle.text.specs.Print.{Wrote};
 ghost use Rattle.setter.specs.Answer.{answer_text, Fits};
 ghost use Rattle.account_sheet.specs.Answer.{account_of_sheet};
-ghost use Rattle.exports.specs.Seen.{Leaves};
-ghost use Rattle.exports.specs.Told.{told, Few, Accounted};
+ghost use Rattle.exports.specs.Told.{told, Few, Left, Accounted};
 
 // Number 0 and the number of lines, or a refusal's number and its place.
 #[repr(C)]
@@ -64,7 +63,7 @@ pub extern "C" fn bv_set_job(
     left: &mut [u32],
     lines: &mut [u32],
 ) -> Answer
-    ensures { Leaves (job_was em measure (rratio.now ∷ bratio.now ∷ []) profile class width before after flag rclass rwidth lclass lwidth kind ebase eruby lkind eleft runs lruns) base.old ruby.old left.old lines.old result base.exit ruby.exit left.exit lines.exit }
+    ensures { Left (job_was em measure (rratio.now ∷ bratio.now ∷ []) profile class width before after flag rclass rwidth lclass lwidth kind ebase eruby lkind eleft runs lruns) base.old ruby.old left.old lines.old result base.new ruby.new left.new lines.new }
 {
     let answer = engine::set_job(
         em,

@@ -1,16 +1,16 @@
 -- A line has no room for more characters of one em than the measure leaves behind its last block: so tries past that number fail.
-use Rattle.std.specs.Prelude.{◌≡◌, refl, Bool, true, false, cond, List, leb}
+use Rattle.std.specs.Prelude.{◌≡◌, true, false, List}
 use Rattle.std.proofs.Math.Path.{sym}
-use Rattle.std.proofs.Common.{ap, ◌∙◌, subst, div-lt_iff_lt-mul, mul_comm, mul_assoc}
-use Prim.Native.Nat.{ℕ, ◌+◌, ◌-◌, ◌*◌, ◌/◌, ◌≤◌, ◌<◌, max, min}
+use Rattle.std.proofs.Common.{◌∙◌, div-lt_iff_lt-mul, mul_comm, mul_assoc}
+use Prim.Native.Nat.{ℕ, ◌+◌, ◌-◌, ◌*◌, ◌/◌, ◌≤◌, ◌<◌, min}
 use native.Mathlib.Omega.{arith}
 use borrow.Author.Tests.{lt-leb}
 use Rattle.line.specs.declared.Element.{Element}
 use Rattle.line.specs.declared.State.{State}
 use Rattle.line.specs.declared.Side.TheVariants.{Right}
-use Rattle.line.specs.Setting.{furthest, origin}
+use Rattle.line.specs.Setting.{furthest}
 use Rattle.line.specs.Least.{origin-near}
-use Rattle.cells.specs.Cells.{em_at, cell_at, part, word_at, piece, next}
+use Rattle.cells.specs.Cells.{em_at, cell_at, word_at, piece, next}
 use Rattle.cells.specs.Sound.{part-long}
 use Rattle.filling.specs.declared.Break.{Break}
 use Rattle.filling.specs.Search.{extent_upto, fits_upto, inner_break, most_of, break_none}

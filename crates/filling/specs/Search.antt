@@ -1,16 +1,16 @@
 -- The search for a line's end, piece by piece: what is known at a piece, and what its breaks add.
 use Rattle.std.specs.Prelude.{◌≡◌, Bool, ◌&&◌, ◌||◌, List, leb, eqb, length}
 use Rattle.std.proofs.Math.Path.{refl, sym, ap, subst}
-use Rattle.std.proofs.Common.{ap₂, ◌∙◌, add-zero, le-leb, leb-false, eq-eqb, ne_eqb}
+use Rattle.std.proofs.Common.{◌∙◌, leb-false, eq-eqb, ne_eqb}
 use Rattle.std.proofs.Math.Bool.{true, false, cond}
-use Prim.Native.Nat.{ℕ, zero, suc, ◌+◌, ◌-◌, ◌*◌, ◌/◌, ◌≤◌, ◌<◌, max, min, zero-le}
+use Prim.Native.Nat.{ℕ, zero, suc, ◌+◌, ◌-◌, ◌*◌, ◌/◌, ◌≤◌, ◌<◌, min, zero-le}
 use native.Mathlib.Omega.{arith}
 use Rattle.std.proofs.Math.Decide.{dec_lt}
 use Rattle.std.proofs.lemmas.Bool.{lt-leb}
 use Rattle.line.specs.declared.State.{State}
-use Rattle.line.specs.Setting.{start, furthest, origin}
+use Rattle.line.specs.Setting.{start, furthest}
 use Rattle.cells.specs.declared.Cell.{Cell}
-use Rattle.cells.specs.Cells.{size, cell_at, piece, next, stop, walk, rest, state_at, may_end, holds, last_of, breaks, end_of, Advances}
+use Rattle.cells.specs.Cells.{size, cell_at, piece, next, rest, state_at, may_end, holds, last_of, breaks, end_of, Advances}
 use Rattle.cells.specs.Sound.{Row, Sound, advances}
 use Rattle.cells.specs.Walk.{stop-whole, stop-within, may_within, may_end_lem, step, next-near, rest-none, grows, last-split, last_none, last-same, last-at}
 use Rattle.filling.specs.declared.Break.{Break}

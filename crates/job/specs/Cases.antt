@@ -1,16 +1,12 @@
--- K1 to K12 of document 01 ("Settings on both sides of each edge") and the job of its sheet, as one list of jobs with one claim over `outcome`: "Em 10,
--- base 10 wide, ruby 5 wide, kana-like." Then what R-1, R-5 and R-9 of document 02 add, worked out by hand. All are computed.
-use Rattle.std.specs.Prelude.{◌≡◌, refl, List, [], ◌∷◌, ◌++◌, map, ℕ, zero, suc, ◌+◌, ◌-◌, ◌<◌, length, replicate}
-use Rattle.std.proofs.Common.{ap, arith}
+-- K1 to K12 of document 01 ("Settings on both sides of each edge") and the job of its sheet, as one list of jobs: "Em 10, base 10 wide, ruby 5 wide, kana-like." Then what R-1, R-5
+-- and R-9 of document 02 add, worked out by hand. The one claim over `outcome` is `all-cases` in `proofs/Cases.antt`, and all are computed.
+use Rattle.std.specs.Prelude.{List, [], ◌∷◌, ◌++◌, map, ℕ, ◌+◌, ◌-◌, length, replicate}
 use Rattle.spread.specs.Ratio.{usual}
 use Rattle.basics.specs.Lists.{sum, each}
-use Rattle.door.specs.declared.Piece.{Piece}
-use Rattle.door.specs.Job.{Job, elements, given, gloss_of}
+use Rattle.door.specs.Job.{Job}
 use Rattle.job.specs.declared.Answer.TheVariants.{Set}
-use Rattle.job.specs.Line.{words_in}
 use Rattle.job.specs.Outcome.{Outcome, outcome}
-use Rattle.job.specs.Correction.{Line, IsSet, SameElement, Corrected}
-use Rattle.job.specs.Exchanged.{element_of, words_of, StandsFrom, ElementExchanged, BreaksKept, one-element}
+use Rattle.job.specs.Correction.{Line}
 
 -- an element with its base characters, which are alike; kinds are the sheet's letters
 pub record Entry : Type 0 where
@@ -26,24 +22,24 @@ pub record Entry : Type 0 where
   pub left_runs : List ℕ
 
 -- a P by its class, its width and its blank after
-abbrev P : ℕ → ℕ → ℕ → Entry
+abbrev pub P : ℕ → ℕ → ℕ → Entry
 P c w a = record { class = c; width = w; after = a; kind = 80; bases = 1; rubies = 0; runs = []; gloss = 78; lefts = 0; left_runs = [] }
 
-abbrev word : ℕ → ℕ → ℕ → List ℕ → Entry
+abbrev pub word : ℕ → ℕ → ℕ → List ℕ → Entry
 word kind b r runs = record { class = 19; width = 10; after = 0; kind = kind; bases = b; rubies = r; runs = runs; gloss = 78; lefts = 0; left_runs = [] }
 
 -- an M by its ruby count, a G by its base count and its ruby count, a J by its runs
-abbrev M : ℕ → Entry
+abbrev pub M : ℕ → Entry
 M r = word 77 1 r []
 
-abbrev G : ℕ → ℕ → Entry
+abbrev pub G : ℕ → ℕ → Entry
 G b r = word 71 b r []
 
-abbrev J : List ℕ → Entry
+abbrev pub J : List ℕ → Entry
 J runs = word 74 (length runs) (sum runs) runs
 
 -- with a left reading of so many characters, mono on an M or group on a G or a J; or by runs, mono or jukugo on a J
-abbrev under : Entry → ℕ → ℕ → List ℕ → Entry
+abbrev pub under : Entry → ℕ → ℕ → List ℕ → Entry
 under e kind l runs =
     record {
       class = e.class;
@@ -58,27 +54,27 @@ under e kind l runs =
       left_runs = runs;
     }
 
-abbrev mono : ℕ → Entry → Entry
+abbrev pub mono : ℕ → Entry → Entry
 mono l e = under e 77 l []
 
-abbrev group : ℕ → Entry → Entry
+abbrev pub group : ℕ → Entry → Entry
 group l e = under e 71 l []
 
-abbrev monos : List ℕ → Entry → Entry
+abbrev pub monos : List ℕ → Entry → Entry
 monos runs e = under e 77 0 runs
 
-abbrev jukugo : List ℕ → Entry → Entry
+abbrev pub jukugo : List ℕ → Entry → Entry
 jukugo runs e = under e 74 0 runs
 
-abbrev one : ℕ → List ℕ
+abbrev pub one : ℕ → List ℕ
 one n = n ∷ []
 
 -- an entry for each base character
-abbrev per_base : (Entry → ℕ) → List Entry → List ℕ
+abbrev pub per_base : (Entry → ℕ) → List Entry → List ℕ
 per_base f es = each (λ e. replicate e.bases (f e)) es
 
 -- a job by its measure, the flag of the base characters that are not their element's last, and its elements
-abbrev job_of : ℕ → ℕ → List Entry → Job
+abbrev pub job_of : ℕ → ℕ → List Entry → Job
 job_of measure inner es =
     let rubies = sum (map (λ e. e.rubies) es) in
     let lefts = sum (map (λ e. e.lefts + sum e.left_runs) es) in
@@ -116,13 +112,13 @@ pub record Case : Type 0 where
   pub lines : List ℕ
 
 -- all in one line, with left characters or without
-abbrev both : List Entry → List ℕ → List ℕ → List ℕ → Case
+abbrev pub both : List Entry → List ℕ → List ℕ → List ℕ → Case
 both es base ruby left = record { measure = 1000; inner = 1; entries = es; base = base; ruby = ruby; left = left; lines = one (length base) }
 
-abbrev wide : List Entry → List ℕ → List ℕ → Case
+abbrev pub wide : List Entry → List ℕ → List ℕ → Case
 wide es base ruby = both es base ruby []
 
-pub cases : List Case
+unfoldable pub cases : List Case
 cases =
     -- K1 "M, 3 ruby: base 5; ruby 0, 10, 20"
     wide (M 3 ∷ []) (5 ∷ []) (0 ∷ 10 ∷ 20 ∷ [])
@@ -161,15 +157,15 @@ cases =
     ∷ []
 
 -- the lists before: one entry more than is needed, all 9
-abbrev nines : List ℕ → List ℕ
+abbrev pub nines : List ℕ → List ℕ
 nines xs = replicate (length xs + 1) 9
 
-pub got : Case → Outcome
+unfoldable pub got : Case → Outcome
 unfolding outcome
 got c = outcome (job_of c.measure c.inner c.entries) (nines c.base) (nines c.ruby) (nines c.left) (nines c.base)
 
 -- the paper's numbers, and the entries past those used as they were
-pub wanted : Case → Outcome
+unfoldable pub wanted : Case → Outcome
 wanted c =
     record {
       answer = Set (length c.lines);
@@ -179,13 +175,8 @@ wanted c =
       lines = c.lines ++ replicate (length c.base + 1 - length c.lines) 9;
     }
 
--- the one claim: "K1 to K12 form a single list with a single proved claim about all of them"
-pub all-cases : map got cases ≡ map wanted cases
-unfolding got wanted cases
-all-cases = refl
-
 -- The opening indent (document 02, R-1), worked out by hand. A space 10 wide has its block from 0 up to 20, and K1's ruby begins 5 ahead of its base.
-pub openings : List Case
+unfoldable pub openings : List Case
 openings =
     -- "a class 14 character that is the job's first element takes no ruby at all": the ruby begins where the space ends
     wide (P 14 10 0 ∷ M 3 ∷ []) (0 ∷ 25 ∷ []) (20 ∷ 30 ∷ 40 ∷ [])
@@ -203,13 +194,9 @@ openings =
     }
     ∷ []
 
-pub all-openings : map got openings ≡ map wanted openings
-unfolding got wanted openings
-all-openings = refl
-
 -- Readings on both sides (document 02, R-5), worked out by hand: left characters are 5 wide as well. Where three strings are centred on the longest, of T units, each starts at
 -- T less its own length, in half units.
-pub glosses : List Case
+unfoldable pub glosses : List Case
 glosses =
     -- "Mono with mono is solid and centred on both sides." Base 10, right 5, left 15: base at 15 - 10, right at 15 - 5, left at 0 and solid, up to 30. "Clearance rule 2 holds for each
     -- ruby": the kana behind starts at 30, though the base ends at 25.
@@ -280,102 +267,21 @@ glosses =
     ∷ both (mono 3 (M 1) ∷ P 14 3 0 ∷ mono 3 (M 1) ∷ []) (5 ∷ 25 ∷ 35 ∷ []) (10 ∷ 40 ∷ []) (0 ∷ 10 ∷ 20 ∷ 30 ∷ 40 ∷ 50 ∷ [])
     ∷ []
 
-pub all-glosses : map got glosses ≡ map wanted glosses
-unfolding got wanted glosses
-all-glosses = refl
-
 -- One correction (document 02, R-9), worked out by hand: K12 with one K1 more behind it, and its first word exchanged for one with a single ruby character. The
 -- space moves back by 5 and all after it by 9: the first element after it may move by another amount than the rest.
-abbrev was : Case
+abbrev pub was : Case
 was = wide (M 3 ∷ P 14 3 0 ∷ M 3 ∷ M 3 ∷ []) (5 ∷ 25 ∷ 35 ∷ 65 ∷ []) (0 ∷ 10 ∷ 20 ∷ 30 ∷ 40 ∷ 50 ∷ 60 ∷ 70 ∷ 80 ∷ [])
 
-abbrev now : Case
+abbrev pub now : Case
 now = wide (M 1 ∷ P 14 3 0 ∷ M 3 ∷ M 3 ∷ []) (0 ∷ 20 ∷ 26 ∷ 56 ∷ []) (5 ∷ 21 ∷ 31 ∷ 41 ∷ 51 ∷ 61 ∷ 71 ∷ [])
 
 -- And that word exchanged for the J of `glosses` whose two characters are an element each, from 0 up to 50 with its base up to 45: the left reading lies 5 deep on the space, which
 -- stands at 45; the ruby behind lies 5 deep on it too, from 46 on, as it is of the other side. All behind the J move by 25.
-abbrev then : Case
+abbrev pub then : Case
 then =
     both (monos (1 ∷ 3 ∷ []) (J (1 ∷ 1 ∷ [])) ∷ P 14 3 0 ∷ M 3 ∷ M 3 ∷ []) (0 ∷ 25 ∷ 45 ∷ 51 ∷ 81 ∷ []) (5 ∷ 30 ∷ 46 ∷ 56 ∷ 66 ∷ 76 ∷ 86 ∷ 96 ∷ []) (5 ∷ 20 ∷ 30 ∷ 40 ∷ [])
 
-pub one-correction : map got (was ∷ now ∷ then ∷ []) ≡ map wanted (was ∷ now ∷ then ∷ [])
-unfolding got wanted
-one-correction = refl
-
 -- These jobs meet what the theorem asks: they differ in element 0, and the breaks of the one line are kept.
-abbrev line_in : Case → Line
+abbrev pub line_in : Case → Line
 line_in c =
     record { job = job_of c.measure c.inner c.entries; base = nines c.base; ruby = nines c.ruby; left = nines c.left; lines = nines c.base; number = 0 }
-
-set : IsSet (line_in was) × IsSet (line_in now) × IsSet (line_in then)
-unfolding outcome
-set = (
-  record { count = 1; answer = refl; there = omega arith },
-  record { count = 1; answer = refl; there = omega arith },
-  record { count = 1; answer = refl; there = omega arith },
-)
-
--- an element that is given alike in all its fields
-same : (job : Job) (p : Piece) (job' : Job) (q : Piece) → job.profile ≡ job'.profile → p.form ≡ q.form → given job p ≡ given job' q → gloss_of job p ≡ gloss_of job' q →
-    SameElement job p job' q
-same job p job' q h f e g =
-    record {
-      profile = h;
-      form = f;
-      alike =
-          record {
-            given =
-                record {
-                  em = ap (λ w. w.em) e;
-                  ratios = ap (λ w. w.ratios) e;
-                  class = ap (λ w. w.class) e;
-                  width = ap (λ w. w.width) e;
-                  ruby_class = ap (λ w. w.ruby_class) e;
-                  ruby_width = ap (λ w. w.ruby_width) e;
-                  run = λ _. ap (λ w. w.run) e;
-                };
-            kind = ap (λ w. w.kind) g;
-            class = ap (λ w. w.class) g;
-            width = ap (λ w. w.width) g;
-            run = λ _ _ _. ap (λ w. w.run) g;
-          };
-      before = ap (λ w. w.before) e;
-      after = ap (λ w. w.after) e;
-    }
-
--- element k is the same in two of them; and so are the three behind the first
-abbrev Same : Case → Case → ℕ → Type 0
-Same c d k = SameElement (line_in c).job (element_of (line_in c).job k) (line_in d).job (element_of (line_in d).job k)
-
-others : (c d : Case) → Same c d 1 → Same c d 2 → Same c d 3 → (k : ℕ) → k < 4 → (k ≡ 0 → ⊥) → Same c d k
-others c d x y z zero h n = absurd (n refl)
-others c d x y z (suc zero) h n = x
-others c d x y z (suc (suc zero)) h n = y
-others c d x y z (suc (suc (suc zero))) h n = z
-others c d x y z (suc (suc (suc (suc k)))) h n = absurd (omega arith)
-
-exchanged : ElementExchanged 0 (line_in was).job (line_in now).job × ElementExchanged 0 (line_in now).job (line_in then).job
-unfolding elements
-exchanged = (
-  record { there = omega arith; each = refl; others = others was now (same _ _ _ _ refl refl refl refl) (same _ _ _ _ refl refl refl refl) (same _ _ _ _ refl refl refl refl) },
-  record { there = omega arith; each = refl; others = others now then (same _ _ _ _ refl refl refl refl) (same _ _ _ _ refl refl refl refl) (same _ _ _ _ refl refl refl refl) },
-)
-
-kept : BreaksKept 0 (line_in was) (line_in now) × BreaksKept 0 (line_in now) (line_in then)
-unfolding elements outcome
-kept = (
-  record { number = refl; begins = refl; ahead = omega arith; behind = omega arith; ends = refl },
-  record { number = refl; begins = refl; ahead = omega arith; behind = omega arith; ends = refl },
-)
-
--- what the theorem says of them: one piece exchanged for one, and one for two
-pub corrected : (n : ℕ) × StandsFrom n 0 (line_in was) × StandsFrom n 0 (line_in now) × Corrected n (length (words_of (line_in was) 0)) (length (words_of (line_in now) 0)) (line_in was) (line_in now)
-corrected = one-element 0 (line_in was) (line_in now) set.0 set.1 exchanged.0 kept.0
-
-pub corrected-apart :
-    (n : ℕ) × StandsFrom n 0 (line_in now) × StandsFrom n 0 (line_in then) × Corrected n (length (words_of (line_in now) 0)) (length (words_of (line_in then) 0)) (line_in now) (line_in then)
-corrected-apart = one-element 0 (line_in now) (line_in then) set.1 set.2 exchanged.1 kept.1
-
-pub many-words : map (λ l. length (words_of l 0)) (line_in was ∷ line_in now ∷ line_in then ∷ []) ≡ 1 ∷ 1 ∷ 2 ∷ []
-unfolding elements words_in
-many-words = refl

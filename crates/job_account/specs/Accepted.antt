@@ -5,7 +5,8 @@ use Rattle.door.specs.Passed.{Passed, passed}
 use Rattle.job.specs.declared.Answer.TheVariants.{Set}
 use Rattle.job.specs.Line.{line_of, origins}
 use Rattle.job.specs.Outcome.{outcome}
-use Rattle.job.specs.Demands.{Accepted, set-accepted, filled-exactly}
+use Rattle.job.specs.Demands.{Accepted}
+use Rattle.job.proofs.Demands.{set-accepted, filled-exactly}
 use Rattle.account.specs.Claims.{Tight}
 use Rattle.account.specs.Theorems.{Accounted}
 use Rattle.job_account.specs.Theorems.{reason_in, accounted, tight}

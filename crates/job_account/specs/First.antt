@@ -1,6 +1,6 @@
 -- The index of an element in the job, by a base character of it: so the account names elements. Elements stand one after the other, so those that have ended are those before it;
 -- within a word the index stays, and behind a word it is the next one unless the word's element goes on.
-use Rattle.std.specs.Prelude.{◌≡◌, refl, Bool, true, false, cond, ◌&&◌, List, [], ◌∷◌, ◌++◌, ◌⊎◌, ℕ, suc, ◌+◌, ◌≤◌, ◌<◌, leb, ltb, length}
+use Rattle.std.specs.Prelude.{◌≡◌, refl, Bool, true, false, cond, List, [], ◌∷◌, ◌++◌, ◌⊎◌, ℕ, suc, ◌+◌, ◌≤◌, ◌<◌, leb, ltb, length}
 use Rattle.std.proofs.Common.{sym, ap, ap₂, ◌∙◌, subst, append-nil, inl, inr, zero-le, arith, le-leb, lt-ltb, le-ltb, length-append}
 use Rattle.std.proofs.Math.Decide.{dec_lt}
 use Rattle.std.proofs.lemmas.Bool.{lt-leb}
@@ -8,11 +8,11 @@ use Rattle.std.proofs.Math.Seq.{append_snoc}
 use Rattle.basics.specs.Lists.{keep, All}
 use Rattle.basics.specs.Laws.{all_map}
 use Rattle.door.specs.declared.Piece.{Piece}
-use Rattle.door.specs.Job.{Job, base_count, elements}
-use Rattle.door.specs.Passed.{GoodElement, Passed, BaseTiled}
+use Rattle.door.specs.Job.{Job, elements}
+use Rattle.door.specs.Passed.{GoodElement, Passed}
 use Rattle.job.specs.Line.{part}
 use Rattle.job.specs.Laws.{keep_append}
-use Rattle.job.specs.Pieces.{tiled-ends, IsElement, Single, IsWord}
+use Rattle.job.specs.Pieces.{IsElement, Single, IsWord}
 use Rattle.job.specs.Walk.{length-elements}
 
 abbrev ends_by : ℕ → Piece → Bool

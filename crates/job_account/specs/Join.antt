@@ -15,12 +15,14 @@ use Rattle.door.specs.declared.Piece.{Piece}
 use Rattle.door.specs.Job.{Job, base_count}
 use Rattle.door.specs.Passed.{Passed, BaseTiled}
 use Rattle.job.specs.Line.{part, words, cuts, pieces, seen, line_of, origins, by_line}
-use Rattle.job.specs.Pieces.{IsWord, is_word, into, none_before}
-use Rattle.job.specs.Walk.{state_of, state-more, state-none, extent_of_lem}
+use Rattle.job.specs.Pieces.{IsWord}
+use Rattle.job.proofs.Pieces.{is_word, into, none_before}
+use Rattle.job.specs.Walk.{state_of}
+use Rattle.job.proofs.Walk.{state-more, state-none, extent_of_lem}
 use Rattle.job.specs.Promise.{nobody, Chain}
-use Rattle.job.specs.Stretches.{length-line}
+use Rattle.job.proofs.Stretches.{length-line}
 use Rattle.account.specs.Step.{nothing}
-use Rattle.account.specs.Theorems.{earlier}
+use Rattle.account.proofs.Theorems.{earlier}
 use Rattle.filling.specs.Lines.{extents_of}
 use Rattle.join.specs.Rows.{upto, row_of, Holds}
 use Rattle.join.specs.Join as join
@@ -287,19 +289,19 @@ module _ (job : Job) (door : Passed job) (t : List ℕ) (table : Holds job t) (s
 
 -- Line by line.
 module _ (job : Job) (door : Passed job) (t : List ℕ) (table : Holds job t) where
-  pub rows_join : (at : Place) (s : ℕ) (es : List ℕ) (d : ℕ) → at.k ≡ first_in job s → Chain job s es d → rows_by t at s es ≡ by_line (rows_in job) s es
-  rows_join at s [] d f c = refl
-  rows_join at s (e ∷ es) d f c =
+  pub rows_join : (place : Place) (s : ℕ) (es : List ℕ) (d : ℕ) → place.k ≡ first_in job s → Chain job s es d → rows_by t place s es ≡ by_line (rows_in job) s es
+  rows_join place s [] d f c = refl
+  rows_join place s (e ∷ es) d f c =
       let a = c.0.at in
       let j = line-join job door t table s e a.ahead a.within in
-      ap₂ (λ x y. x ++ y) (ap (λ k. line_rows t k s e) f ∙ j.rows) (rows_join (behind t s e at) e es d (ap (λ k. k + ended_in t s e) f ∙ j.ends) c.1)
+      ap₂ (λ x y. x ++ y) (ap (λ k. line_rows t k s e) f ∙ j.rows) (rows_join (behind t s e place) e es d (ap (λ k. k + ended_in t s e) f ∙ j.ends) c.1)
 
-  pub counts-join : (at : Place) (s : ℕ) (es : List ℕ) (d : ℕ) → Chain job s es d → counts_by t at s es ≡ counts_from job at.q s es
-  counts-join at s [] d c = refl
-  counts-join at s (e ∷ es) d c =
+  pub counts-join : (place : Place) (s : ℕ) (es : List ℕ) (d : ℕ) → Chain job s es d → counts_by t place s es ≡ counts_from job place.q s es
+  counts-join place s [] d c = refl
+  counts-join place s (e ∷ es) d c =
       let a = c.0.at in
-      let j = ap (λ n. at.q + n) (line-join job door t table s e a.ahead a.within).many in
-      ap₂ (λ x y. x ∷ y) j (counts-join (behind t s e at) e es d c.1 ∙ ap (λ q. counts_from job q e es) j)
+      let j = ap (λ n. place.q + n) (line-join job door t table s e a.ahead a.within).many in
+      ap₂ (λ x y. x ∷ y) j (counts-join (behind t s e place) e es d c.1 ∙ ap (λ q. counts_from job q e es) j)
 
   pub extents-join : (s : ℕ) (es : List ℕ) (d : ℕ) → Chain job s es d → extents_of t s es ≡ extents_from job s es
   extents-join s [] d c = refl

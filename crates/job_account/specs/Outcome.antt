@@ -17,8 +17,8 @@ use Rattle.job.specs.Line.{ends}
 use Rattle.job.specs.Refusals.{lines_faults, faults, fault}
 use Rattle.job.specs.Laws.{head-none}
 use Rattle.job.specs.Promise.{Chain, Filled}
-use Rattle.job.specs.Filled.{chain-few}
-use Rattle.job.specs.Declined.{filled}
+use Rattle.job.proofs.Filled.{chain-few}
+use Rattle.job.proofs.Declined.{filled}
 use Rattle.filling.specs.Lines.{extents_of, length-extents}
 use Rattle.join.specs.Join.{sound}
 use Rattle.engine.specs.Fault as fault

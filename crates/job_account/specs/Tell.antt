@@ -13,14 +13,15 @@ use Rattle.door.specs.declared.Piece.{Piece}
 use Rattle.door.specs.Job.{Job}
 use Rattle.door.specs.Passed.{Passed}
 use Rattle.job.specs.Line.{pieces, seen, line_of, origins}
-use Rattle.job.specs.Walk.{state_of, origins-more, length-origins}
+use Rattle.job.specs.Walk.{state_of}
+use Rattle.job.proofs.Walk.{origins-more, length-origins}
 use Rattle.job.specs.Promise.{nobody}
-use Rattle.job.specs.Stretches.{length-line}
-use Rattle.job.specs.Sound.{sounds}
+use Rattle.job.proofs.Stretches.{length-line}
+use Rattle.job.proofs.Sound.{sounds}
 use Rattle.account.specs.declared.Before.{Before}
 use Rattle.account.specs.Reasons.{account_of}
 use Rattle.account.specs.Step.{account_after, passed, nothing, standing}
-use Rattle.account.specs.Theorems.{earlier}
+use Rattle.account.proofs.Theorems.{earlier}
 use Rattle.account.specs.More as more
 use Rattle.job_account.specs.Theorems.{account_in, apart}
 use Rattle.job_account.specs.First.{first_in}

@@ -7,7 +7,7 @@ use Rattle.line.specs.declared.Element.{Element}
 use Rattle.line.specs.declared.Side.{Side}
 use Rattle.line.specs.declared.Side.TheVariants.{Right, Left}
 use Rattle.line.specs.Rules.{ruby, HasRuby, org, Apart}
-use Rattle.line.specs.Theorems.{keeps}
+use Rattle.line.proofs.Theorems.{keeps}
 use Rattle.door.specs.declared.Piece.{Piece}
 use Rattle.door.specs.Job.{Job}
 use Rattle.door.specs.Entries.{length-entries}
@@ -15,17 +15,17 @@ use Rattle.door.specs.Passed.{Passed}
 use Rattle.job.specs.Line.{seen, pieces, line_of, origins, first_of, many_of, widths_of, count_of, widths_in}
 use Rattle.job.specs.Promise.{piece_of}
 use Rattle.job.specs.Words.{GoodPiece}
-use Rattle.job.specs.Pieces.{good-pieces}
-use Rattle.job.specs.Belong.{all-at}
+use Rattle.job.proofs.Pieces.{good-pieces}
+use Rattle.job.proofs.Belong.{all-at}
 use Rattle.job.specs.Laws.{entries_at}
-use Rattle.job.specs.Stretches.{reading-stands, some_of, seen-reading, el-seen, length-line}
-use Rattle.job.specs.Sound.{sounds}
+use Rattle.job.proofs.Stretches.{reading-stands, some_of, seen-reading, el-seen, length-line}
+use Rattle.job.proofs.Sound.{sounds}
 use Rattle.account.specs.declared.Account.{Account}
 use Rattle.account.specs.declared.Reason.{Reason}
 use Rattle.account.specs.Reasons.{reason, account_of}
 use Rattle.account.specs.Claims.{First, Written, Tight, Rule}
 use Rattle.account.specs.Theorems.{Accounted}
-use Rattle.account.specs.Theorems as account
+use Rattle.account.proofs.Theorems as account
 
 -- the account of piece i of the line from s up to e
 abbrev pub account_in : Job → ℕ → ℕ → ℕ → Account

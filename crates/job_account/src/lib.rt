@@ -206,7 +206,7 @@ pub fn account_job(
     told: &mut [u32],
     extents: &mut [u32],
 ) -> job::Answer
-    ensures { let job = job_was em measure ratios profile class width before after flag rclass rwidth lclass lwidth kind ebase eruby lkind eleft runs lruns in leaves result rows.exit told.exit extents.exit ≡ telling job rows.old told.old extents.old }
+    ensures { let job = job_was em measure ratios profile class width before after flag rclass rwidth lclass lwidth kind ebase eruby lkind eleft runs lruns in leaves result rows.new told.new extents.new ≡ telling job rows.old told.old extents.old }
 {
     let room = room_of(rows.len(), told.len(), extents.len());
     let mut t = [0; engine::TABLE];

@@ -1,5 +1,5 @@
 -- A table that holds a job that passed the door: its lines are the job's. A line from s up to c by rows is the line of `Line`, whatever s and c are.
-use Rattle.std.specs.Prelude.{◌≡◌, Bool, ◌&&◌, ◌||◌, ◌⊎◌, eqb, leb, length, get_or}
+use Rattle.std.specs.Prelude.{◌≡◌, Bool, ◌&&◌, ◌||◌, ◌⊎◌, eqb, length, get_or}
 use Rattle.std.proofs.Math.Path.{refl, sym, ap, ap₂, subst}
 use Rattle.std.proofs.Common.{◌∙◌, true≢false, inl, inr, zero-mul}
 use Rattle.std.proofs.Math.Bool.{true, false, cond}
@@ -13,10 +13,10 @@ use borrow.Author.Tests.{lt-ltb, le-ltb, ltb-true, ltb-false, eq-eqb, ne_eqb}
 use Rattle.std.proofs.Math.Dec.{ltb}
 use Rattle.std.proofs.Math.Seq.{append_snoc}
 use Rattle.basics.specs.Lists.{sum, All, last_or}
-use Rattle.class.specs.Class.{western, depths_by}
+use Rattle.class.specs.Class.{western}
 use Rattle.class.specs.declared.Depths.{Depths}
 use Rattle.class.specs.Laws.{before-within}
-use Rattle.spread.specs.Ratio.{Ratios, Housed}
+use Rattle.spread.specs.Ratio.{Housed}
 use Rattle.word.specs.declared.Form.{Form}
 use Rattle.word.specs.declared.Form.TheVariants.{P, M, G, J}
 use Rattle.word.specs.declared.Word.{Word}
@@ -32,7 +32,7 @@ use Rattle.word.specs.Part.{form_of_part}
 use Rattle.readings.specs.Parts.{left_by, left_of_part}
 use Rattle.line.specs.declared.Side.TheVariants.{Right, Left}
 use Rattle.line.specs.declared.State.{State}
-use Rattle.line.specs.Setting.{start, furthest, total}
+use Rattle.line.specs.Setting.{total}
 use Rattle.cells.specs.declared.Cell.{Cell}
 use Rattle.cells.specs.Cells as cells
 use Rattle.cells.specs.Cells.{Head, ratios_at, em_at, head_at, left_reading, cell_at, part_by, both_by, over_with, word_at, element_of, Ran, Plain, Flat, bare, piece, next, stop, rest, state_at, may_end, last_of, breaks, end_of, lines_of}
@@ -45,16 +45,19 @@ use Rattle.door.specs.Passed.{Passed, BaseTiled}
 use Rattle.job.specs.Line as line
 use Rattle.job.specs.Line.{part, words, cuts, in_line, pieces, on_p, depths_at, seen, permitted, can_set}
 use Rattle.job.specs.Laws.{all_split, entries_at, both}
-use Rattle.job.specs.Pieces.{IsWord, is_word, in_by, into, none_before, cut-is, cut-last}
-use Rattle.job.specs.Apart.{words-tiled}
-use Rattle.job.specs.Sound.{on_le, on_none, plain-left}
-use Rattle.job.specs.Walk.{state_of, state-more, state-none, permitted-end, permitted-within, can_set_lem, best, best-all, best_none, best-step}
-use Rattle.job.specs.Filled.{found-ahead}
+use Rattle.job.specs.Pieces.{IsWord}
+use Rattle.job.proofs.Pieces.{is_word, in_by, into, none_before, cut-is, cut-last}
+use Rattle.job.proofs.Apart.{words-tiled}
+use Rattle.job.proofs.Sound.{on_le, on_none, plain-left}
+use Rattle.job.specs.Walk.{state_of, best}
+use Rattle.job.proofs.Walk.{state-more, state-none, permitted-end, permitted-within, can_set_lem, best-all, best_none, best-step}
+use Rattle.job.proofs.Filled.{found-ahead}
 use Rattle.job.specs.Promise.{Chain}
 use Rattle.job.specs.Refusals.{lines_faults}
-use Rattle.job.specs.Declined.{Way, lines-way}
+use Rattle.job.specs.Declined.{Way}
+use Rattle.job.proofs.Declined.{lines-way}
 use Rattle.job.specs.Words.{promise, readings-narrow, runs_of-j, none_of-j, is_j_lem, left-fits, whole-piece}
-use Rattle.job.specs.Bounded.{piece-short}
+use Rattle.job.proofs.Bounded.{piece-short}
 use Rattle.refusal.specs.declared.Refusal.TheVariants.{NoBreak}
 use Rattle.join.specs.Rows.{first_at, run_at, run_width, wide_before, longer, is_cut, upto, runs_before, none, left_runs, left_row_by, ends_behind, row_of, HasRows, Holds, house, ems}
 use Rattle.join.specs.Runs.{first_next, first_more, wide-more, wide-next, longer-next, longer-few}

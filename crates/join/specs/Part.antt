@@ -1,28 +1,26 @@
 -- A part of a J, by the rows of its first and its last character.
-use Rattle.std.specs.Prelude.{◌≡◌, ◌&&◌, ◌||◌, List, [], ◌∷◌, ◌++◌, map, leb, ltb, length, take, drop}
+use Rattle.std.specs.Prelude.{◌≡◌, ◌&&◌, ◌||◌, List, [], ◌∷◌, map, ltb, length, take, drop}
 use Rattle.std.proofs.Math.Path.{refl, sym, ap, ap₂}
-use Rattle.std.proofs.Common.{◌∙◌, subst, add-zero, zero-add, add-suc, suc-add, mul-zero, mul-suc, arith, length-append, length-drop, take_all}
+use Rattle.std.proofs.Common.{◌∙◌, subst, add-zero, add-suc, mul-zero, mul-suc, arith, length-drop, take_all}
 use Rattle.std.proofs.Math.Bool.{Bool, true, false, cond, not}
 use Rattle.std.proofs.lemmas.Bool.{false≢true}
-use Rattle.std.proofs.lemmas.List.{map-append}
 use Prim.Native.Nat.{ℕ, zero, suc, ◌+◌, ◌-◌, ◌*◌, ◌≤◌, ◌<◌, zero-le}
 use Rattle.std.proofs.Math.Decide.{dec_lt}
-use borrow.Author.Tests.{eq-eqb, ne_eqb, eqb-true, eqb-false, not-false, lt-leb, le-leb}
+use borrow.Author.Tests.{eq-eqb, ne_eqb, eqb-true, not-false}
 use Rattle.std.proofs.Math.Dec.{eqb}
 use Rattle.std.proofs.Math.ListN.{get_or}
 use Rattle.basics.specs.Lists.{sum, count, any, keep, other, All, last_or}
 use Rattle.basics.specs.Laws.{or_none, any_none, none_any, all_take, all_drop}
 use Rattle.class.specs.Class.{accepted, western, kana_like}
 use Rattle.spread.specs.declared.Way.TheVariants.{Solid, Spread, Limited}
-use Rattle.word.specs.declared.Form.{Form}
-use Rattle.word.specs.declared.Form.TheVariants.{P, M, G, J}
+use Rattle.word.specs.declared.Form.TheVariants.{M, J}
 use Rattle.word.specs.declared.Word.{Word}
 use Rattle.word.specs.declared.Script.{Script}
 use Rattle.word.specs.declared.Script.TheVariants.{Kana, Western}
 use Rattle.word.specs.declared.Str.{Str}
 use Rattle.word.specs.declared.Reading.{Reading}
 use Rattle.spread.specs.Ratio.{Ratios}
-use Rattle.word.specs.Given.{Given, has_ruby, is_j}
+use Rattle.word.specs.Given.{has_ruby, is_j}
 use Rattle.word.specs.Alone as alone
 use Rattle.word.specs.Word as word
 use Rattle.word.specs.Numbers.{word_from, word_from_lem}
@@ -30,7 +28,7 @@ use Rattle.word.specs.declared.Answer.TheVariants.{Set}
 use Rattle.word.specs.Answer.{mixed_in, answer}
 use Rattle.word.specs.declared.Left.{Left as LeftKind}
 use Rattle.word.specs.declared.Left.TheVariants as left
-use Rattle.word.specs.Both.{has_left, is_group, is_jukugo}
+use Rattle.word.specs.Both.{has_left, is_jukugo}
 use Rattle.word.specs.Sides as sides
 use Rattle.word.specs.Answered.{answer_both}
 use Rattle.word.specs.Answered as answered
@@ -45,11 +43,12 @@ use Rattle.door.specs.Job.{Job, base_count, ruby_count, entries, left_by_runs, g
 use Rattle.door.specs.Entries.{length-entries}
 use Rattle.door.specs.Passed.{Passed}
 use Rattle.job.specs.Line.{part, cuts, word_of, first_of, widths_of}
-use Rattle.job.specs.Laws.{entries_at, entries-cut, entries-add, count-join, keep_append, both}
-use Rattle.job.specs.Pieces.{IsWord, cut-is, cut-piece}
+use Rattle.job.specs.Laws.{entries_at, entries-cut, both}
+use Rattle.job.specs.Pieces.{IsWord}
+use Rattle.job.proofs.Pieces.{cut-is, cut-piece}
 use Rattle.job.specs.Words.{GoodPiece, runs_of-j}
 use Rattle.join.specs.Runs.{first_next, first_more, wide-more, longer-more}
-use Rattle.join.specs.Rows.{runs_of, run_of, taken, first_at, run_at, run_width, wide_before, longer}
+use Rattle.join.specs.Rows.{runs_of, run_of, first_at, run_at, run_width, wide_before, longer}
 
 -- entries in two pieces
 pub entries-take : (xs : List ℕ) (a c n : ℕ) → take c (entries xs a (c + n)) ≡ entries xs a c

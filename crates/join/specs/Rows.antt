@@ -1,10 +1,8 @@
 -- The rows of a job's words, by the job's own definitions: a word is an element, or one character of a J with a mono left reading (`words`). What is said of runs is said of either side.
-use Rattle.std.specs.Prelude.{◌≡◌, Bool, false, cond, ◌&&◌, ◌||◌, List, map, ℕ, ◌+◌, ◌-◌, ◌*◌, ◌≤◌, ◌<◌, eqb, ltb, length, get_or}
+use Rattle.std.specs.Prelude.{◌≡◌, Bool, false, cond, ◌&&◌, ◌||◌, List, map, ℕ, ◌+◌, ◌-◌, ◌≤◌, ◌<◌, eqb, ltb, length, get_or}
 use Rattle.std.proofs.Common.{ap}
 use Rattle.basics.specs.Lists.{sum, count, keep, All}
-use Rattle.class.specs.declared.Depths.{Depths}
 use Rattle.class.specs.Class.{western, depths_by}
-use Rattle.word.specs.declared.Reading.{Reading}
 use Rattle.word.specs.declared.Word.{Word}
 use Rattle.word.specs.Both.{has_left}
 use Rattle.word.specs.Word as word
@@ -15,8 +13,8 @@ use Rattle.cells.specs.declared.Cell.{Cell}
 use Rattle.cells.specs.declared.LeftRow.{LeftRow}
 use Rattle.cells.specs.Cells.{Head, size, ratios_at, em_at, head_at, beside, cell_at}
 use Rattle.door.specs.declared.Piece.{Piece}
-use Rattle.door.specs.Job.{Job, base_count, entries, left_by_runs}
-use Rattle.job.specs.Line.{part, words, cuts, word_of, on_p, depths_at, first_of, many_of, widths_of}
+use Rattle.door.specs.Job.{Job, base_count, entries}
+use Rattle.job.specs.Line.{part, words, cuts, word_of, on_p, depths_at, first_of, widths_of}
 
 -- the runs of one side, and the first of a word's
 abbrev pub runs_of : Side → Job → List ℕ

@@ -1,13 +1,12 @@
 -- The runs of a J, of either side, one after the other: where the characters of each begin, and of ruby how wide the runs are and how many are longer than one em.
-use Rattle.std.specs.Prelude.{◌≡◌, refl, Bool, true, false, cond, List, [], ◌∷◌, map, ℕ, zero, suc, ◌+◌, ◌≤◌, ltb, length}
+use Rattle.std.specs.Prelude.{◌≡◌, refl, Bool, true, false, cond, [], ◌∷◌, map, ℕ, zero, suc, ◌+◌, ◌≤◌, ltb, length}
 use Rattle.std.proofs.Common.{sym, ap, ◌∙◌, subst, zero-le, add-zero, zero-add, arith, length-append}
 use Rattle.std.proofs.lemmas.List.{map-append}
 use Rattle.basics.specs.Lists.{sum, count, keep}
 use Rattle.line.specs.declared.Side.{Side}
-use Rattle.line.specs.declared.Side.TheVariants.{Right, Left}
+use Rattle.line.specs.declared.Side.TheVariants.{Right}
 use Rattle.door.specs.declared.Piece.{Piece}
 use Rattle.door.specs.Job.{Job, entries}
-use Rattle.job.specs.Line.{first_of, widths_of}
 use Rattle.job.specs.Laws.{entries-add, count-join, keep_append}
 use Rattle.join.specs.Rows.{runs_of, run_of, taken, first_at, run_at, run_width, wide_before, longer}
 

@@ -24,8 +24,8 @@ use Rattle.door.specs.Loop.{Along, past_plain}
 use Rattle.door.specs.Whole.{base-within}
 use Rattle.job.specs.Line.{part, words_in, words, cuts}
 use Rattle.job.specs.Laws.{all_append, all-each, each_append}
-use Rattle.job.specs.Apart.{by_apart}
-use Rattle.job.specs.Pieces.{tiled-ends}
+use Rattle.job.proofs.Apart.{by_apart}
+use Rattle.job.proofs.Pieces.{tiled-ends}
 use Rattle.job.specs.Walk.{At, at_first, at_next, length-elements}
 use Rattle.join.specs.Rows.{head_of, row_of, HasRows, Holds}
 use Rattle.word_rows.specs.Table.{Clear, filled-one}

@@ -2,13 +2,9 @@ pub mod Rules
 pub mod Words
 pub mod Setting
 pub mod Flag
-pub mod Pairs
 pub mod Least
-pub mod Extent
-pub mod Theorems
 pub mod OneSide
 pub mod Onward
 pub mod Exchange
-pub mod Bound
 pub mod Plain
 pub mod Cases

@@ -16,7 +16,7 @@ use Rattle.line_lists.specs.declared.Why.{Why}
 use Rattle.line_lists.specs.declared.Why.TheVariants.{Refused, Unsound, Long}
 use Rattle.line.specs.Rules.{extent, Sounds}
 use Rattle.line.specs.Setting.{start, settle, run}
-use Rattle.line.specs.Theorems.{exact, settled, extent-state}
+use Rattle.line.proofs.Theorems.{exact, settled, extent-state}
 use Rattle.line_lists.specs.Promise.{rows, line, AllWithin, Promise}
 use Rattle.line_lists.specs.Passes.{tried}
 use Rattle.line_lists.proofs.Rest.{line-length, line_at}

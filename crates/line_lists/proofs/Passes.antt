@@ -17,7 +17,7 @@ use Rattle.line_lists.specs.declared.Answer.TheVariants.{Set, Declined}
 use Rattle.line_lists.specs.declared.Why.TheVariants as why
 use Rattle.line.specs.Setting.{start, put, origin, settle_from, settle, run, furthest, placed, total}
 use Rattle.line.specs.Least.{settle-follows}
-use Rattle.line.specs.Bound.{put_bound}
+use Rattle.line.proofs.Bound.{put_bound}
 use Rattle.line_lists.specs.Promise.{rows, element_at, line, most_elements, longest_element, WithinAt, AllWithin}
 use Rattle.line_lists.specs.Passes.{Tells, told, denied, tried, Ready}
 use Rattle.line_lists.proofs.Rest.{rest, rest-start, rest-step, rest_end, line-length}

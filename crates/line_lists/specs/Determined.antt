@@ -8,7 +8,7 @@ use Rattle.line_lists.specs.declared.Answer.TheVariants.{Set, Declined}
 use Rattle.line_lists.specs.declared.Why.{Why}
 use Rattle.line_lists.specs.declared.Why.TheVariants.{Long}
 use Rattle.line.specs.Rules.{Clear, extent}
-use Rattle.line.specs.Theorems.{unique}
+use Rattle.line.proofs.Theorems.{unique}
 use Rattle.line_lists.specs.Promise.{rows, line, AllWithin, Unless, Declines, Sets, Promise}
 
 -- one answer and one list

@@ -15,7 +15,8 @@ use Rattle.sheet.specs.declared.Reading.TheVariants.{Sound}
 use Rattle.sheet.specs.Sheet.{Sheet, plain, reading}
 use Rattle.sheet.specs.Form.{Written, InForm, Shown, sheet_text, sheet_of, written_of}
 use Rattle.sheet.specs.Reads.{sheet-reads}
-use Rattle.sheet.specs.Exact.{SoundAs, print_read}
+use Rattle.sheet.specs.Exact.{SoundAs}
+use Rattle.sheet.proofs.Exact.{print_read}
 use Rattle.other_form.specs.Other.{other, other_text, has_left, Holds}
 use Rattle.other_form.specs.Text.{numbers_part, rows_part, head_part, plain_text, none_text, text-one, text-two}
 use Rattle.other_form.specs.Known.{known}

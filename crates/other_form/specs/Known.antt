@@ -13,7 +13,7 @@ use Rattle.sheet.specs.declared.Reading.TheVariants.{Sound}
 use Rattle.sheet.specs.Sheet.{Sheet, plain, singles, reading}
 use Rattle.sheet.specs.Form.{Written, sheet_text, InForm, sheet_of, written_of}
 use Rattle.sheet.specs.Reads.{sheet-reads}
-use Rattle.sheet.specs.Exact.{sound-exactly}
+use Rattle.sheet.proofs.Exact.{sound-exactly}
 use Rattle.other_form.specs.Lines.{Passes, word-plain, passes_then, rows-passes, head-passes, section-passes}
 use Rattle.other_form.specs.Text.{numbers_part, rows_part, head_part, plain_text, none_text, text-one, text-two}
 

@@ -4,7 +4,6 @@
 #![tactic(auto)]
 
 ghost use Rattle.std.specs.Prelude.{◌≡◌, cond, ◌+◌, ◌-◌, ◌≤◌, ◌<◌, eqb, length, drop};
-ghost use Rattle.basics.specs.Seen.{was};
 ghost use Rattle.text.specs.Print.{Wrote};
 ghost use Rattle.elements.specs.declared.SheetForm.TheVariants.{One, Two};
 ghost use Rattle.sheet.specs.Sheet.{plain};

@@ -10,7 +10,7 @@ use Rattle.line.specs.declared.Side.{Side}
 use Rattle.line.specs.declared.Side.TheVariants.{Right, Left}
 use Rattle.line.specs.declared.State.{State}
 use Rattle.line.specs.Setting.{start, origin, furthest}
-use Rattle.line.specs.Bound.{origin_bound}
+use Rattle.line.proofs.Bound.{origin_bound}
 use Rattle.cells.specs.Cells.{size, cell_at, next, stop, Advances}
 use Rattle.cells.specs.Sound.{advances}
 use Rattle.cells.specs.Walk.{next-near, stop-whole}

@@ -13,8 +13,10 @@ use Rattle.door.specs.Job.{Job, base_count}
 use Rattle.door.specs.Passed.{Passed, BaseTiled}
 use Rattle.job.specs.Line.{words, cuts, pieces, seen, permitted, base_at, reading_at, base_in, reading_in}
 use Rattle.job.specs.Line as line
-use Rattle.job.specs.Pieces.{IsWord, is_word, into, none_before}
-use Rattle.job.specs.Walk.{state_of, state-none, base_more, reading-more, base-none, reading-none, permitted-within}
+use Rattle.job.specs.Pieces.{IsWord}
+use Rattle.job.proofs.Pieces.{is_word, into, none_before}
+use Rattle.job.specs.Walk.{state_of}
+use Rattle.job.proofs.Walk.{state-none, base_more, reading-more, base-none, reading-none, permitted-within}
 use Rattle.job.specs.Promise.{Chain}
 use Rattle.join.specs.Rows.{is_cut, upto, Holds}
 use Rattle.join.specs.Join as join

@@ -9,11 +9,11 @@ use Rattle.job.specs.Line.{words, first_of, many_of, count_of, base_in, reading_
 use Rattle.job.specs.Line as line
 use Rattle.job.specs.Refusals.{lines_faults}
 use Rattle.job.specs.Outcome as outcome
-use Rattle.job.specs.Apart.{words-tiled, readings-tiled}
-use Rattle.job.specs.Pieces.{is_word}
+use Rattle.job.proofs.Apart.{words-tiled, readings-tiled}
+use Rattle.job.proofs.Pieces.{is_word}
 use Rattle.job.specs.Promise.{Chain, Filled}
-use Rattle.job.specs.Filled.{chain-few}
-use Rattle.job.specs.Declined.{filled}
+use Rattle.job.proofs.Filled.{chain-few}
+use Rattle.job.proofs.Declined.{filled}
 use Rattle.join.specs.Rows.{Holds}
 use Rattle.join.specs.Join as join
 use Rattle.positions.specs.Positions.{over, first, base_of, side_of, by_line}

@@ -1,11 +1,11 @@
 -- One piece of a word, by its rows: it is the job's piece, and its characters stand where that one's do, of the base and of either side.
-use Rattle.std.specs.Prelude.{◌≡◌, Bool, not, ◌&&◌, ◌||◌, ℕ, zero, suc, ◌+◌, ◌-◌, ◌≤◌, ◌<◌, eqb, leb, ltb, length, get_or, take, drop}
+use Rattle.std.specs.Prelude.{◌≡◌, Bool, ◌&&◌, ℕ, suc, ◌+◌, ◌-◌, ◌≤◌, ◌<◌, eqb, ltb, length, get_or, take, drop}
 use Rattle.std.proofs.Math.Path.{refl, sym, ap, ap₂}
 use Rattle.std.proofs.Common.{◌∙◌, subst, true≢false, add-zero, arith, ltb-true, ltb-false}
 use Rattle.std.proofs.Math.Bool.{true, false, cond}
 use Rattle.std.proofs.lemmas.Bool.{false≢true}
 use mathlib.Core.List.{List, [], ◌∷◌, map}
-use Rattle.basics.specs.Lists.{sum, All}
+use Rattle.basics.specs.Lists.{sum}
 use Rattle.spread.specs.Worded.{solid, along}
 use Rattle.spread.specs.Gap.{starts}
 use Rattle.word.specs.declared.Form.{Form}
@@ -14,7 +14,7 @@ use Rattle.word.specs.declared.Left.{Left as LeftKind}
 use Rattle.word.specs.declared.Left.TheVariants as left
 use Rattle.word.specs.declared.Reading.{Reading}
 use Rattle.word.specs.declared.Word.{Word}
-use Rattle.word.specs.Given.{Given, has_ruby, is_j}
+use Rattle.word.specs.Given.{Given, has_ruby}
 use Rattle.word.specs.Alone as strings
 use Rattle.word.specs.Both.{Gloss, has_left, is_group}
 use Rattle.word.specs.Both as both-places
@@ -32,11 +32,12 @@ use Rattle.door.specs.Whole.{base-within}
 use Rattle.door.specs.Passed.{Passed}
 use Rattle.job.specs.Line.{part, cuts, word_of, first_of, many_of, widths_of, count_of, has_reading, widths_in, on_side, alone, base_at, reading_at}
 use Rattle.job.specs.Laws.{both}
-use Rattle.job.specs.Pieces.{IsWord, cut-is, cut-piece, runs-cut, plain-one}
-use Rattle.job.specs.Placed.{stands}
-use Rattle.job.specs.Sound.{plain-left}
-use Rattle.job.specs.Words.{GoodPiece, promise, runs_of-j, none_of-j, whole-piece}
-use Rattle.join.specs.Rows.{runs_of, run_of, first_at, run_at, is_cut, upto, runs_before, left_runs, Holds}
+use Rattle.job.specs.Pieces.{IsWord}
+use Rattle.job.proofs.Pieces.{cut-is, cut-piece, runs-cut, plain-one}
+use Rattle.job.proofs.Placed.{stands}
+use Rattle.job.proofs.Sound.{plain-left}
+use Rattle.job.specs.Words.{GoodPiece, promise, runs_of-j, whole-piece}
+use Rattle.join.specs.Rows.{runs_of, run_of, first_at, run_at, is_cut, upto, left_runs, Holds}
 use Rattle.join.specs.Runs.{first_more}
 use Rattle.join.specs.Part.{runs_from, whole-runs}
 use Rattle.join.specs.Join as join

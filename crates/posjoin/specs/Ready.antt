@@ -18,12 +18,14 @@ use Rattle.door.specs.Whole.{base-within}
 use Rattle.door.specs.Passed.{Passed, Tiled, BaseTiled}
 use Rattle.job.specs.Line.{part, words, cuts, word_of, first_of, many_of, count_of, has_reading, widths_in}
 use Rattle.job.specs.Laws.{both}
-use Rattle.job.specs.Apart.{words-tiled, readings-tiled}
-use Rattle.job.specs.Pieces.{IsWord, is_word, tiled-split}
+use Rattle.job.proofs.Apart.{words-tiled, readings-tiled}
+use Rattle.job.specs.Pieces.{IsWord}
+use Rattle.job.proofs.Pieces.{is_word, tiled-split}
 use Rattle.job.specs.Words.{promise}
-use Rattle.job.specs.Sound.{plain-left}
-use Rattle.job.specs.Stretches.{none_of}
-use Rattle.job.specs.Tiles.{Shares, read_to, reading_shares}
+use Rattle.job.proofs.Sound.{plain-left}
+use Rattle.job.proofs.Stretches.{none_of}
+use Rattle.job.specs.Tiles.{Shares, read_to}
+use Rattle.job.proofs.Tiles.{reading_shares}
 use Rattle.join.specs.Rows.{first_at, is_cut, upto, left_runs, Holds}
 use Rattle.join.specs.Join as join
 use Rattle.positions.specs.Positions as positions

@@ -2,7 +2,7 @@
 -- level one found none.
 use Rattle.std.specs.Prelude.{◌≡◌, true, false, List, ◌++◌, map, ltb, length}
 use Rattle.std.proofs.Math.Path.{refl, ap, ap₂}
-use Rattle.std.proofs.Common.{sym, ◌∙◌, subst, add-zero, ltb-false}
+use Rattle.std.proofs.Common.{sym, ◌∙◌, subst, ltb-false}
 use Prim.Native.Nat.{ℕ, zero, suc, ◌+◌, ◌-◌, ◌*◌, ◌≤◌, ◌<◌}
 use Rattle.std.proofs.Math.Nat.{add-suc}
 use native.Mathlib.Omega.{arith}
@@ -22,7 +22,8 @@ use Rattle.door.specs.Entries.{part_of}
 use Rattle.door.specs.Whole.{ruby-within, left-within}
 use Rattle.door.specs.Passed.{Passed}
 use Rattle.job.specs.Line.{cuts, count_of, widths_of}
-use Rattle.job.specs.Pieces.{IsWord, cut-is}
+use Rattle.job.specs.Pieces.{IsWord}
+use Rattle.job.proofs.Pieces.{cut-is}
 use Rattle.job.specs.Words.{runs_of-j, ruby-fits, left-fits}
 use Rattle.join.specs.Rows.{runs_of, run_of, first_at, run_at, run_width, Holds, ems}
 use Rattle.join.specs.Runs.{first_next}

@@ -9,9 +9,9 @@ use Rattle.cells.specs.Cells.{state_at}
 use Rattle.door.specs.Job.{Job, base_count, ruby_count, left_count}
 use Rattle.door.specs.Passed.{Passed}
 use Rattle.job.specs.Line.{permitted, ends, by_line}
-use Rattle.job.specs.Walk.{extent_of_lem}
+use Rattle.job.proofs.Walk.{extent_of_lem}
 use Rattle.job.specs.Promise.{Chain}
-use Rattle.job.specs.Declined.{filled}
+use Rattle.job.proofs.Declined.{filled}
 use Rattle.job.specs.Refusals.{lines_faults}
 use Rattle.filling.specs.Lines.{over, extents_of, length-extents}
 use Rattle.join.specs.Rows.{Holds}

@@ -13,7 +13,7 @@ use Rattle.door.specs.Job.{Job, base_count, elements}
 use Rattle.door.specs.Passed.{GoodElement, Passed}
 use Rattle.job.specs.Line.{part, cuts, in_line, first_of, many_of, count_of}
 use Rattle.job.specs.Laws.{all-each, both}
-use Rattle.job.specs.Tiles.{reading_shares}
+use Rattle.job.proofs.Tiles.{reading_shares}
 use Rattle.result.specs.Text.{printed}
 
 -- its characters are the job's

@@ -6,7 +6,8 @@ use Rattle.door.specs.Passed.{Passed, passed}
 use Rattle.job.specs.declared.Answer.TheVariants.{Set}
 use Rattle.job.specs.Line.{ends}
 use Rattle.job.specs.Outcome.{outcome}
-use Rattle.job.specs.Demands.{Accepted, set-accepted, filled-exactly, lines-told}
+use Rattle.job.specs.Demands.{Accepted}
+use Rattle.job.proofs.Demands.{set-accepted, filled-exactly, lines-told}
 
 module _ (job : Job) (base ruby left lines : List ℕ) {n : ℕ} (set : (outcome job base ruby left lines).answer ≡ Set n) where
   pub accepted : Accepted job base ruby left lines

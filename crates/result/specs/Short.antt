@@ -17,9 +17,9 @@ use Rattle.door.specs.Job.{Job, base_count}
 use Rattle.door.specs.Passed.{Passed}
 use Rattle.job.specs.Line.{extent_of, ends, by_line, first_of, many_of, count_of}
 use Rattle.job.specs.Laws.{each_append}
-use Rattle.job.specs.Tiles.{elements_laid, base-numbers_of, reading-numbers_of}
+use Rattle.job.proofs.Tiles.{elements_laid, base-numbers_of, reading-numbers_of}
 use Rattle.job.specs.Promise.{Filled}
-use Rattle.job.specs.Filled.{chain-few}
+use Rattle.job.proofs.Filled.{chain-few}
 use Rattle.result.specs.Text.{bytes, line_one, line_two, rows, letter, of_reading, of_piece, printed, of_line, result_text, refusal_text}
 use Rattle.result.specs.Rows.{length-one, length_two, rows_short}
 

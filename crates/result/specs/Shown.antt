@@ -17,9 +17,11 @@ use Rattle.door.specs.declared.Piece.{Piece}
 use Rattle.door.specs.Job.{Job, base_count, elements}
 use Rattle.door.specs.Passed.{Passed, BaseTiled}
 use Rattle.job.specs.Line.{part, cuts, in_line, permitted, first_of, many_of}
-use Rattle.job.specs.Pieces.{IsElement, all-elements, IsWord, whole_word, single-word, single-whole, in_by, in_ahead, in_behind}
-use Rattle.job.specs.Tiles.{Shares, read_to, reading_shares}
-use Rattle.job.specs.Walk.{apart-cuts}
+use Rattle.job.specs.Pieces.{IsElement, IsWord}
+use Rattle.job.proofs.Pieces.{all-elements, whole_word, single-word, single-whole, in_by, in_ahead, in_behind}
+use Rattle.job.specs.Tiles.{Shares, read_to}
+use Rattle.job.proofs.Tiles.{reading_shares}
+use Rattle.job.proofs.Walk.{apart-cuts}
 use Rattle.join.specs.Rows.{is_cut, upto, Holds}
 use Rattle.join.specs.Join as join
 use Rattle.positions.specs.Positions.{first, reading_end}

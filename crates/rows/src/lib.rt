@@ -4,7 +4,6 @@
 #![tactic(auto)]
 
 ghost use Rattle.std.specs.Prelude.{◌≡◌, ◌+◌, ◌<◌, ◌^◌};
-ghost use Rattle.basics.specs.Seen.{was};
 ghost use Rattle.text.specs.Text.{stop_of};
 ghost use Rattle.rows.specs.Table.{FieldsReady, RowsReady, SectionReady};
 ghost use Rattle.rows.specs.Section.{head_of, line_of};

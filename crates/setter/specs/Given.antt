@@ -11,10 +11,11 @@ use Rattle.refusal.specs.Refusal.{number_of, place_of, by_paper, of_number}
 use Rattle.sheet.specs.declared.Counts.{Counts}
 use Rattle.sheet.specs.declared.Reading.TheVariants.{Sound, Refused}
 use Rattle.sheet.specs.Sheet.{reading}
-use Rattle.sheet.specs.Faults.{ours, thirteen_or_two}
+use Rattle.sheet.specs.Faults.{ours}
+use Rattle.sheet.proofs.Faults.{thirteen_or_two}
 use Rattle.sheet.specs.Form.{Over}
 use Rattle.sheet.specs.Breaks.{Breaks, place-most}
-use Rattle.sheet.specs.Exact.{two-exactly, place-exactly}
+use Rattle.sheet.proofs.Exact.{two-exactly, place-exactly}
 use Rattle.sheet.specs.Place.{over-most}
 use Rattle.door.specs.Job.{Job}
 use Rattle.job.specs.Table.{First}

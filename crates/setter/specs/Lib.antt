@@ -1,5 +1,4 @@
 pub mod Answer
-pub mod Seen
 pub mod Over
 pub mod Tell
 pub mod Printed

@@ -1,6 +1,6 @@
 -- A job that was filled is told: a refusal by its text; its lines by the positions that are put into the result lists, and by the text that is printed of these.
 use Rattle.std.specs.Prelude.{◌≡◌, refl, List, ℕ, ◌≤◌, length, take, drop}
-use Rattle.std.proofs.Common.{sym, ap, ◌∙◌, subst, arith, length-append}
+use Rattle.std.proofs.Common.{sym, ap, subst, arith, length-append}
 use Rattle.text.specs.Print.{Wrote}
 use Rattle.refusal.specs.declared.Refusal.{Refusal}
 use Rattle.line.specs.declared.Side.TheVariants.{Right, Left}
@@ -8,7 +8,7 @@ use Rattle.door.specs.Job.{Job, base_count, ruby_count, left_count}
 use Rattle.job.specs.declared.Answer.TheVariants.{Set}
 use Rattle.job.specs.Line.{ends}
 use Rattle.job.specs.Outcome.{Outcome, outcome}
-use Rattle.job.specs.Demands.{lengths-kept}
+use Rattle.job.proofs.Demands.{lengths-kept}
 use Rattle.filling.specs.Lines.{extents_of, length-extents}
 use Rattle.positions.specs.Positions.{lent, over}
 use Rattle.positions.specs.Ready.{LinesReady}

@@ -13,12 +13,12 @@ use Rattle.sheet.specs.declared.Reading.TheVariants.{Sound}
 use Rattle.sheet.specs.Sheet.{Sheet, reading}
 use Rattle.sheet.specs.Form.{Written, InForm, sheet_text, sheet_of}
 use Rattle.sheet.specs.Reads.{sheet-reads}
-use Rattle.sheet.specs.Sound.{sound}
+use Rattle.sheet.proofs.Sound.{sound}
 use Rattle.door.specs.Job.{Job, base_count, ruby_count, left_count, element_count}
 use Rattle.job.specs.declared.Answer.TheVariants.{Set, Refused}
 use Rattle.job.specs.Table.{Row}
 use Rattle.job.specs.Outcome.{Outcome, outcome}
-use Rattle.job.specs.Demands.{refused-exactly}
+use Rattle.job.proofs.Demands.{refused-exactly}
 use Rattle.result.specs.Text.{result_text, refusal_text}
 use Rattle.sheet_job.specs.Tables.{sheet_job}
 use Rattle.setter.specs.Answer.{job_text, answer_by, answer_text}

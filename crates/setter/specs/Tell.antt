@@ -12,7 +12,7 @@ use Rattle.job.specs.declared.Answer.TheVariants.{Set, Refused}
 use Rattle.job.specs.Line.{ends, base_in, reading_in, by_line}
 use Rattle.job.specs.Refusals.{fault}
 use Rattle.job.specs.Outcome.{Outcome, after, outcome}
-use Rattle.job.specs.Demands.{lines-filled, base-told, reading-told}
+use Rattle.job.proofs.Demands.{lines-filled, base-told, reading-told}
 use Rattle.result.specs.Text.{result_text, refusal_text}
 use Rattle.result.specs.Set.{accepted, door}
 use Rattle.result.specs.Short.{longest, result-short, refusal_short}

@@ -3,9 +3,8 @@
 // for the job's lines, on `positions` for what stands in them and on `result` for the text.
 #![tactic(auto)]
 
-ghost use Rattle.sheet.specs.Seen.{tables_now, tables_was};
-ghost use Rattle.setter.specs.Seen.{lists_now, lists_was, Answers};
-ghost use Rattle.setter.specs.Answer.{Fits};
+ghost use Rattle.sheet.specs.Sheet.{tables};
+ghost use Rattle.setter.specs.Answer.{lists, Answered, Fits};
 
 // Sets a sheet of either form. The answer is how many bytes of `out` its text has: `refused N P`, or the result.
 pub fn set_sheet(
@@ -23,7 +22,7 @@ pub fn set_sheet(
     lines: &mut [u32; limits::MOST_BASES],
     out: &mut [u8; limits::ANSWER],
 ) -> usize
-    ensures answers { Answers s (tables_was set base ruby left elem runs lruns) (lists_was bases rubies lefts lines) out result (tables_now set.exit base.exit ruby.exit left.exit elem.exit runs.exit lruns.exit) (lists_now bases.exit rubies.exit lefts.exit lines.exit) }
+    ensures answers { Answered s.now (tables set.old base.old ruby.old left.old elem.old runs.old lruns.old) (lists bases.old rubies.old lefts.old lines.old) out.old result (tables set.new base.new ruby.new left.new elem.new runs.new lruns.new) (lists bases.new rubies.new lefts.new lines.new) out.new }
     ensures fits { Fits result out.new }
 {
     match sheet::read_sheet(s, set, base, ruby, left, elem, runs, lruns) {

@@ -1,5 +1,5 @@
 -- Each section begins where the one before it ended: what a call answers, handed to the next.
-use Rattle.std.specs.Prelude.{Bool, true, false, cond, List, [], ◌++◌, ◌≡◌, refl, ℕ, ◌+◌, eqb, length}
+use Rattle.std.specs.Prelude.{Bool, true, false, cond, List, [], ◌++◌, ◌≡◌, refl, ℕ, eqb, length}
 use Rattle.std.proofs.Common.{append-nil, ◌∙◌, sym, zero-add, eqb-true}
 use Rattle.std.proofs.Math.Path.{ap, ap₂, subst}
 use Rattle.rows.specs.declared.Part.{Part}

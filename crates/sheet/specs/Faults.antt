@@ -1,29 +1,8 @@
 -- "The first fault met, 13 or a count over its maximum (2)": the reading of a sheet gives no other number.
-use Rattle.std.specs.Prelude.{Bool, true, ◌||◌, List, ◌≡◌, ℕ, eqb}
+use Rattle.std.specs.Prelude.{Bool, ◌||◌, eqb}
 use Rattle.refusal.specs.Refusal.{number_of}
 use Rattle.refusal.specs.declared.Refusal.{Refusal}
-use Rattle.refusal.specs.declared.Refusal.TheVariants.{Form, Count}
-use Rattle.sheet.specs.declared.Reading.TheVariants.{Refused}
-use Rattle.sheet.specs.Sheet.{reading}
-use Rattle.sheet.specs.Reads.{SheetIs, broken, over, stands, sheet-is, over_reads, breaks-reads}
-use Rattle.sheet.specs.Exact.{sound-not, sound-keeps}
 
 -- 13 or 2
 abbrev pub ours : Refusal → Bool
 ours r = eqb (number_of r) 13 || eqb (number_of r) 2
-
-pub thirteen_or_two : (s : List ℕ) (r : Refusal) → (reading s).end ≡ Refused r → ours r ≡ true
-thirteen_or_two s r e = go (sheet-is s)
-  where
-    go : SheetIs s → ours r ≡ true
-    go (broken l b) =
-        let f = breaks-reads s l b in
-        let i : Form l ≡ r = cc in
-        rw (← i)
-    go (over which o) =
-        let f = over_reads o in
-        let i : Count which ≡ r = cc in
-        rw (← i)
-    go (stands f q form text) =
-        let c = (sound-keeps s).1 (record { form = f; numbers = q; keeps = form; text = text }) in
-        absurd (sound-not s c.0 c.1 e)

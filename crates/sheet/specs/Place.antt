@@ -8,43 +8,20 @@ use Rattle.elements.specs.declared.SheetForm.{SheetForm}
 use Rattle.elements.specs.declared.SheetForm.TheVariants.{One, Two}
 use Rattle.sheet.specs.declared.Reading.{Reading}
 use Rattle.sheet.specs.declared.Reading.TheVariants.{Refused}
-use Rattle.sheet.specs.Sheet.{reading}
 use Rattle.sheet.specs.Form.{sections, KeepsForm, Over, in_rows, in_elem}
 use Rattle.sheet.specs.Breaks.{Breaks}
-use Rattle.sheet.specs.Reads.{SheetIs, sheet-is, over_reads, breaks-reads}
-use Rattle.sheet.specs.Exact.{sound-not, sound-keeps}
 
-same_line : (r : Reading) (l m : ℕ) → r ≡ Refused (Form l) → r ≡ Refused (Form m) → l ≡ m
+pub same_line : (r : Reading) (l m : ℕ) → r ≡ Refused (Form l) → r ≡ Refused (Form m) → l ≡ m
 same_line r l m e f = cc
 
-not-count : (r : Reading) (l m : ℕ) → r ≡ Refused (Form l) → r ≡ Refused (Count m) → ⊥
+pub not-count : (r : Reading) (l m : ℕ) → r ≡ Refused (Form l) → r ≡ Refused (Count m) → ⊥
 not-count r l m e f = let z : ◌≡◌ {A = ℕ} 0 1 = cc in omega arith
-
-pub one_place : (s : List ℕ) (l m : ℕ) → Breaks s l → Breaks s m → l ≡ m
-one_place s l m x y = same_line (reading s).end l m (breaks-reads s l x) (breaks-reads s m y)
 
 -- All bytes are one of three: a sheet, or a count over its maximum is the first fault in them, or they break the form on some line.
 pub data OneOfThree (s : List ℕ) : Type 0 where
   keeps : KeepsForm s → OneOfThree s
   over : (which : ℕ) → Over s which → OneOfThree s
   breaks : (l : ℕ) → Breaks s l → OneOfThree s
-
-pub one_of_three : (s : List ℕ) → OneOfThree s
-one_of_three s = go (sheet-is s)
-  where
-    go : SheetIs s → OneOfThree s
-    go (SheetIs.broken l b) = breaks l b
-    go (SheetIs.over which o) = over which o
-    go (SheetIs.stands f r form text) = keeps (record { form = f; numbers = r; keeps = form; text = text })
-
--- and no two of them
-pub keeps-alone : (s : List ℕ) → KeepsForm s → ((which : ℕ) → Over s which → ⊥) × ((l : ℕ) → Breaks s l → ⊥)
-keeps-alone s k =
-    let c = (sound-keeps s).1 k in
-    (λ w o. sound-not s c.0 c.1 (over_reads o), λ l b. sound-not s c.0 c.1 (breaks-reads s l b))
-
-pub breaks-alone : (s : List ℕ) (l which : ℕ) → Breaks s l → Over s which → ⊥
-breaks-alone s l which b o = not-count (reading s).end l which (breaks-reads s l b) (over_reads o)
 
 -- a count over its maximum has a place up to 3
 chain-which : {s : List ℕ} {xs : List Section} {at which : ℕ} → All (λ (x : Section). x.which ≤ 3) xs → ChainOver s xs at which → which ≤ 3

@@ -3,9 +3,8 @@
 use Rattle.std.specs.Prelude.{Bool, cond, ◌≡◌, refl, ℕ, suc, ◌+◌, ◌≤◌, ◌<◌, eqb, ltb, drop}
 use Rattle.std.proofs.Math.Bool.{true, false}
 use mathlib.Core.List.{List, [], ◌∷◌, ◌++◌, append-nil}
-use Rattle.std.proofs.Common.{◌∙◌, zero-add, arith, ltb-true, ltb-false, lt-ltb, le-ltb, eqb-true, eq-eqb, ne_eqb}
+use Rattle.std.proofs.Common.{◌∙◌, zero-add, arith, ltb-true, ltb-false, lt-ltb, le-ltb, eq-eqb}
 use Rattle.std.proofs.Math.Path.{ap, ap₂, sym, subst}
-use Rattle.std.proofs.lemmas.Bool.{eqb-false}
 use Rattle.std.proofs.Math.ListN.{length, length-append}
 use Rattle.std.proofs.lemmas.List.{length-map}
 use Rattle.basics.specs.Lists.{All}
@@ -15,17 +14,15 @@ use Rattle.text.specs.declared.Place.{Place}
 use Rattle.text.specs.declared.Place.TheVariants.{At, Off}
 use Rattle.text.specs.Text.{word}
 use Rattle.text.specs.Print.{bytes, decimal}
-use Rattle.text.specs.Stands.{Stands, stands-then, stands-cut, word_stands, stands_word, stands-whole, whole-stands, begins-stands}
+use Rattle.text.specs.Stands.{Stands, stands-cut, word_stands, stands_word, whole-stands}
 use Rattle.rows.specs.declared.Part.{Part}
 use Rattle.rows.specs.declared.Part.TheVariants.{Read, Refused}
 use Rattle.rows.specs.Section.{on_place, on_part, Rows, lines, head_of, rows_of, count_of}
 use Rattle.rows.specs.Whole.{Came, rows_whole, rows_came, head_came}
 use Rattle.rows.specs.Print.{rows_text, head_text, section_text, Small}
-use Rattle.rows.specs.Printed as rows
-use Rattle.rows.specs.Printed.{RowsIs, lines-is, stands-lines, singles-of}
-use Rattle.rows.specs.Breaks.{RowsBreak, lines-stuck, stuck-lines}
-use Rattle.rows.specs.Chain.{Chained, chain, chain_text, lines_in, ChainKept, section_handed, ChainIs, Tops, chain-is, ChainRead, stands-chain, over-chain}
-use Rattle.rows.specs.Chain.{stuck-chain}
+use Rattle.rows.specs.Printed.{stands-lines}
+use Rattle.rows.specs.Breaks.{RowsBreak, stuck-lines}
+use Rattle.rows.specs.Chain.{chain, chain_text, lines_in, ChainKept, section_handed, Tops, ChainRead, stands-chain, over-chain}
 use Rattle.elements.specs.declared.SheetForm.{SheetForm}
 use Rattle.elements.specs.declared.SheetForm.TheVariants.{One, Two}
 use Rattle.elements.specs.declared.Elements.{Elements}
@@ -33,17 +30,13 @@ use Rattle.elements.specs.declared.Elements.TheVariants.{Read as ElementsRead, R
 use Rattle.elements.specs.Elements.{Listed, elements}
 use Rattle.elements.specs.Print.{Entry, elem_text, KeptElements, all_runs, all_left, listed_of}
 use Rattle.elements.specs.Printed as elem
-use Rattle.elements.specs.Breaks as elem-form
 use Rattle.sheet.specs.declared.Reading.TheVariants.{Sound, Refused as SheetRefused}
 use Rattle.sheet.specs.Sheet.{set_word, numbers_in, elem_word, opening, form_by, form_of, set_of, plain, singles, house, base_from, ruby_from, left_head, left_from, elem_from, base_of, ruby_of, left_of, elem_of, end_of}
 use Rattle.sheet.specs.Sheet.{Sheet, reading}
 use Rattle.sheet.specs.Form.{Written, set_text, numbers_of, sections, tables_by, sheet_text, Shown, InForm, Begins, Over, in_rows, in_elem, sheet_of}
-use Rattle.sheet.specs.Breaks as breaks
-use Rattle.sheet.specs.Breaks.{Breaks, too_long, no-set, in_set, after, tables-kept}
+use Rattle.sheet.specs.Breaks.{Breaks, tables-kept}
 
--- The first line.
-
-data OpenIs (s : List ℕ) : Part → Type 0 where
+pub data OpenIs (s : List ℕ) : Part → Type 0 where
   long : 65535 < length s → OpenIs s (Refused (Form 0))
   none : length s ≤ 65535 → ((f : SheetForm) (p : ℕ) → Stands s 0 (set_word f) p → ⊥) → OpenIs s (Refused (Form 1))
   begins : (f : SheetForm) (p : ℕ) → length s ≤ 65535 → Stands s 0 (set_word f) p → OpenIs s (Read (numbers_in f) p 2)
@@ -74,7 +67,7 @@ open_tested : (s : List ℕ) (b : Bool) → ltb 65535 (length s) ≡ b →
 open_tested s true e = long (ltb-true 65535 (length s) e)
 open_tested s false e = open_one s (ltb-false 65535 (length s) e) (word (set_word One) s 0) refl
 
-open_is : (s : List ℕ) → OpenIs s (opening s)
+pub open_is : (s : List ℕ) → OpenIs s (opening s)
 unfolding opening
 open_is s = open_tested s (ltb 65535 (length s)) refl
 
@@ -100,8 +93,6 @@ form-told : (f : SheetForm) (s : List ℕ) (p : ℕ) → length s ≤ 65535 → 
 unfolding form_of
 form-told f s p h x = ap form_by (open_stands f s p h x) ∙ told f p 2
 
--- The section `set`.
-
 set-head : (f : SheetForm) → head_text (bytes "set ") (numbers_in f) ≡ set_word f
 unfolding head_text decimal numbers_in set_word
 set-head One = refl
@@ -110,7 +101,7 @@ set-head Two = refl
 pub single-count : (vs : List ℕ) → length (singles vs) ≡ length vs
 single-count vs = length-map vs (λ (v : ℕ). v ∷ [])
 
-set_text_lem : (f : SheetForm) (vs : List ℕ) → length vs ≡ numbers_in f → set_text vs ≡ set_word f ++ rows_text (singles vs)
+pub set_text_lem : (f : SheetForm) (vs : List ℕ) → length vs ≡ numbers_in f → set_text vs ≡ set_word f ++ rows_text (singles vs)
 unfolding set_text section_text
 set_text_lem f vs e = ap (λ n. head_text (bytes "set ") n ++ rows_text (singles vs)) (single-count vs ∙ e) ∙ ap (λ l. l ++ rows_text (singles vs)) (set-head f)
 
@@ -122,7 +113,7 @@ single-small : (vs : List ℕ) → Small vs → All Small (singles vs)
 single-small [] a = tt
 single-small (v ∷ vs) a = ((a.0, tt), single-small vs a.1)
 
-small-single : (vs : List ℕ) → All Small (singles vs) → Small vs
+pub small-single : (vs : List ℕ) → All Small (singles vs) → Small vs
 small-single [] a = tt
 small-single (v ∷ vs) a = (a.0.0, small-single vs a.1)
 
@@ -140,8 +131,6 @@ module _ (f : SheetForm) (s : List ℕ) (p : ℕ) (b : Begins f s p) where
       let c = stands-cut (set_word f) (rows_text (singles b.numbers)) (rw (set_text_lem f b.numbers b.count) at b.text) in
       form-told f s c.mid b.short c.first
 
--- A refusal is handed on.
-
 left_handed : (f : SheetForm) (s : List ℕ) (last : Part) (q : Refusal) → last ≡ Refused q → (left_from f s last).end ≡ Refused q
 unfolding rows_of left_head head_of on_part
 left_handed One s last q e = rw e
@@ -156,7 +145,7 @@ unfolding end_of
 end_handed s b c l d q e = rw e
 
 module _ (s : List ℕ) (q : Refusal) where
-  from-elem : (elem_of s).end ≡ ElementsRefused q → (reading s).end ≡ SheetRefused q
+  pub from-elem : (elem_of s).end ≡ ElementsRefused q → (reading s).end ≡ SheetRefused q
   unfolding reading
   from-elem e = end_handed s (base_of s).end (ruby_of s).end (left_of s).end (elem_of s).end q e
 
@@ -164,13 +153,11 @@ module _ (s : List ℕ) (q : Refusal) where
   unfolding elem_of
   from-left e = from-elem (elem_handed (form_of s) s (left_of s).end q e)
 
-  from-set : (set_of s).end ≡ Refused q → (reading s).end ≡ SheetRefused q
+  pub from-set : (set_of s).end ≡ Refused q → (reading s).end ≡ SheetRefused q
   unfolding left_of ruby_of base_of
   from-set e =
       from-left (left_handed (form_of s) s (ruby_of s).end q
       (section_handed (bytes "ruby ") 2 2048 1 s (base_of s).end q (section_handed (bytes "base ") 5 1024 0 s (set_of s).end q e)))
-
--- The sections between `set` and `elem` are the chain of the form.
 
 abbrev left_part : SheetForm → List ℕ → Part → Rows
 left_part f s p = left_from f s (ruby_from s (base_from s p).end).end
@@ -205,7 +192,7 @@ left-none s (Read n at line) = refl
 left-none s (Refused r) = refl
 
 module _ (f : SheetForm) (s : List ℕ) (p : ℕ) (b : Begins f s p) where
-  abbrev first : Part
+  abbrev pub first : Part
   first = Read (numbers_in f) p (2 + numbers_in f)
 
   set-end : (set_of s).end ≡ first
@@ -215,10 +202,10 @@ module _ (f : SheetForm) (s : List ℕ) (p : ℕ) (b : Begins f s p) where
   unfolding left_of ruby_of base_of
   left_part_lem = ap₂ (λ i e. left_part i s e) (form-begins f s p b) set-end
 
-  from-chain : (q : Refusal) → (chain (sections f) s first).end ≡ Refused q → (reading s).end ≡ SheetRefused q
+  pub from-chain : (q : Refusal) → (chain (sections f) s first).end ≡ Refused q → (reading s).end ≡ SheetRefused q
   from-chain q e = from-left s q (ap (λ (t : Rows). t.end) left_part_lem ∙ left-refused f s first q e)
 
-  elem-part : (n at line : ℕ) → (chain (sections f) s first).end ≡ Read n at line → (m : ℕ) × (elem_of s ≡ elem_from f s (Read m at line))
+  pub elem-part : (n at line : ℕ) → (chain (sections f) s first).end ≡ Read n at line → (m : ℕ) × (elem_of s ≡ elem_from f s (Read m at line))
   unfolding elem_of
   elem-part n at line e =
       let m = left-read f s first n at line e in
@@ -228,8 +215,6 @@ module _ (f : SheetForm) (s : List ℕ) (p : ℕ) (b : Begins f s p) where
 end_of_lem : (s : List ℕ) (n u v at line : ℕ) → (elem_of s).end ≡ ElementsRead n u v at line → (c : _) × ((reading s).end ≡ cond (eqb at (length s)) (Sound c) (SheetRefused (Form line)))
 unfolding end_of reading
 end_of_lem s n u v at line e = (_, ap (end_of s (base_of s).end (ruby_of s).end (left_of s).end) e)
-
--- What is printed is read.
 
 counted-rows : (k : ℕ) (s : List ℕ) (head : Part) → Came (rows_of k s head).end → count_of (rows_of k s head).end ≡ length (rows_of k s head).rows
 counted-rows k s head c = ap count_of c.is ∙ sym (rows_whole k s head c.count c.at c.line c.is).1.count
@@ -381,24 +366,24 @@ over_reads {s} (in_elem f p ts q n next b k x c h) =
     from-elem s (Count 2) (ap (λ (d : Listed). d.end) e.1 ∙ elem.over-section f elem_word 1024 2 s e.0 q (2 + numbers_in f + lines_in ts) n next c h)
 
 -- and a broken form, with its line
-set-refused : (s : List ℕ) (q : Refusal) → opening s ≡ Refused q → (set_of s).end ≡ Refused q
+pub set-refused : (s : List ℕ) (q : Refusal) → opening s ≡ Refused q → (set_of s).end ≡ Refused q
 unfolding set_of rows_of on_part
 set-refused s q e = rw e
 
-set-stuck : (f : SheetForm) (s : List ℕ) (p l : ℕ) → opening s ≡ Read (numbers_in f) p 2 → RowsBreak 1 (numbers_in f) s p 2 l → (set_of s).end ≡ Refused (Form l)
+pub set-stuck : (f : SheetForm) (s : List ℕ) (p l : ℕ) → opening s ≡ Read (numbers_in f) p 2 → RowsBreak 1 (numbers_in f) s p 2 l → (set_of s).end ≡ Refused (Form l)
 unfolding set_of rows_of on_part
 set-stuck f s p l e x = rw e (stuck-lines 1 (numbers_in f) (numbers_in f) s p 2 l x)
 
-open_long : (s : List ℕ) → 65535 < length s → opening s ≡ Refused (Form 0)
+pub open_long : (s : List ℕ) → 65535 < length s → opening s ≡ Refused (Form 0)
 unfolding opening
 open_long s h = rw (lt-ltb 65535 (length s) h)
 
-open_none : (s : List ℕ) → length s ≤ 65535 → ((f : SheetForm) (p : ℕ) → Stands s 0 (set_word f) p → ⊥) → (o : Part) → OpenIs s o → o ≡ Refused (Form 1)
+pub open_none : (s : List ℕ) → length s ≤ 65535 → ((f : SheetForm) (p : ℕ) → Stands s 0 (set_word f) p → ⊥) → (o : Part) → OpenIs s o → o ≡ Refused (Form 1)
 open_none s h n o (long g) = absurd (omega arith)
 open_none s h n o (none g k) = refl
 open_none s h n o (begins f p g x) = absurd (n f p x)
 
-longer : (s t rest : List ℕ) → s ≡ t ++ rest → (rest ≡ [] → ⊥) → length t ≡ length s → ⊥
+pub longer : (s t rest : List ℕ) → s ≡ t ++ rest → (rest ≡ [] → ⊥) → length t ≡ length s → ⊥
 longer s t [] e h g = h refl
 longer s t (x ∷ rest) e h g = omega (arith, ap length e, length-append t (x ∷ rest))
 
@@ -406,7 +391,7 @@ past-last : (a b c : ℕ) → 2 + a + b + 1 + c ≡ 3 + a + b + c
 past-last a b c = omega arith
 
 -- what the end says of a sheet that begins with the text of r
-after_read : (s : List ℕ) (f : SheetForm) (r : Written) → InForm f r → length s ≤ 65535 → (p : ℕ) → Stands s 0 (sheet_text f r) p →
+pub after_read : (s : List ℕ) (f : SheetForm) (r : Written) → InForm f r → length s ≤ 65535 → (p : ℕ) → Stands s 0 (sheet_text f r) p →
     (c : _) × ((reading s).end ≡ cond (eqb p (length s)) (Sound c) (SheetRefused (Form (3 + numbers_in f + lines_in (tables_by f r.base r.ruby r.left) + length r.elem))))
 unfolding listed_of
 after_read s f r form short p x =
@@ -415,39 +400,23 @@ after_read s f r form short p x =
     let n = past-last (numbers_in f) (lines_in (tables_by f r.base r.ruby r.left)) (length r.elem) in
     (e.0, e.1 ∙ ap (λ i. cond (eqb p (length s)) (Sound e.0) (SheetRefused (Form i))) n)
 
-pub breaks-reads : (s : List ℕ) (l : ℕ) → Breaks s l → (reading s).end ≡ SheetRefused (Form l)
-breaks-reads s l (too_long e h) = from-set s (Form l) (set-refused s (Form l) (open_long s h ∙ ap (λ i. Refused (Form i)) (sym e)))
-breaks-reads s l (no-set e h n) = from-set s (Form l) (set-refused s (Form l) (open_none s h n (opening s) (open_is s) ∙ ap (λ i. Refused (Form i)) (sym e)))
-breaks-reads s l (in_set f p h x y) = from-set s (Form l) (set-stuck f s p l (open_stands f s p h x) y)
-breaks-reads s l (breaks.in_rows f p b y) = from-chain f s p b (Form l) (stuck-chain (numbers_in f) (tops f) y)
-breaks-reads s l (breaks.in_elem f p ts q b k x y) =
-    let t = stands-chain (sections f) ts s (numbers_in f) p (2 + numbers_in f) q (tops f) k x in
-    let e = elem-part f s p b t.count q (2 + numbers_in f + lines_in ts) t.end in
-    from-elem s (Form l) (ap (λ (d : Listed). d.end) e.1 ∙ elem-form.stuck-section f elem_word 1024 2 s e.0 q (2 + numbers_in f + lines_in ts) l y)
-breaks-reads s l (after f r rest short form e some is) =
-    let x = begins-stands s (sheet_text f r) rest e in
-    let read = after_read s f r form short (length (sheet_text f r)) x in
-    read.1 ∙ rw (ne_eqb (length (sheet_text f r)) (length s) (longer s (sheet_text f r) rest e some), is)
-
--- The other way: every sheet is one of three.
-
 pub data SheetIs (s : List ℕ) : Type 0 where
   broken : (l : ℕ) → Breaks s l → SheetIs s
   over : (which : ℕ) → Over s which → SheetIs s
   stands : (f : SheetForm) (r : Written) → InForm f r → s ≡ sheet_text f r → SheetIs s
 
-something : (s t : List ℕ) (p : ℕ) → Stands s 0 t p → (p ≡ length s → ⊥) → drop p s ≡ [] → ⊥
+pub something : (s t : List ℕ) (p : ℕ) → Stands s 0 t p → (p ≡ length s → ⊥) → drop p s ≡ [] → ⊥
 something s t p x h e = h (x.past ∙ (zero-add (length t) ∙ ap length (sym (x.text ∙ (ap (λ l. t ++ l) e ∙ append-nil t)))))
 
 -- the numbers of `set`, the sections between, and the elements are those of some numbers in form
-record Says (f : SheetForm) (vs : List ℕ) (ts : List (List (List ℕ))) (es : List Entry) : Type 0 where
-  written : Written
-  numbers : numbers_of f written ≡ vs
-  tables : tables_by f written.base written.ruby written.left ≡ ts
-  elem : written.elem ≡ es
-  form : length (sheet_text f written) ≤ 65535 → KeptElements f 1024 es → InForm f written
+pub record Says (f : SheetForm) (vs : List ℕ) (ts : List (List (List ℕ))) (es : List Entry) : Type 0 where
+  pub written : Written
+  pub numbers : numbers_of f written ≡ vs
+  pub tables : tables_by f written.base written.ruby written.left ≡ ts
+  pub elem : written.elem ≡ es
+  pub form : length (sheet_text f written) ≤ 65535 → KeptElements f 1024 es → InForm f written
 
-says : (f : SheetForm) (vs : List ℕ) (ts : List (List (List ℕ))) (es : List Entry) → length vs ≡ numbers_in f → Small vs → ChainKept (sections f) ts → Says f vs ts es
+pub says : (f : SheetForm) (vs : List ℕ) (ts : List (List (List ℕ))) (es : List Entry) → length vs ≡ numbers_in f → Small vs → ChainKept (sections f) ts → Says f vs ts es
 unfolding ChainKept sections numbers_in numbers_of tables_by Shown
 says One (a ∷ (b ∷ [])) (t ∷ (u ∷ [])) es c small k =
     record {
@@ -477,55 +446,3 @@ says Two (a ∷ (b ∷ vs)) [] es c small k = absurd k
 says Two (a ∷ (b ∷ vs)) (t ∷ []) es c small k = absurd k.1
 says Two (a ∷ (b ∷ vs)) (t ∷ (u ∷ [])) es c small k = absurd k.1.1
 says Two (a ∷ (b ∷ vs)) (t ∷ (u ∷ (w ∷ (v ∷ ts)))) es c small k = absurd k.1.1.1
-
-module _ (f : SheetForm) (s : List ℕ) where
-  module _ (p : ℕ) (b : Begins f s p) where
-    module _ (ts : List (List (List ℕ))) (k : ChainKept (sections f) ts) (q : ℕ) (x : Stands s p (chain_text (sections f) ts) q) where
-      whole_is : (es : List Entry) (next : ℕ) → KeptElements f 1024 es → Stands s q (elem_text f elem_word es) next → (t : Bool) → eqb next (length s) ≡ t → SheetIs s
-      unfolding sheet_text
-      whole_is es next ke z true e =
-          let w = says f b.numbers ts es b.count b.small k in
-          let y : Stands s 0 (sheet_text f w.written) next = rw (w.numbers, w.tables, w.elem) (stands-then b.text (stands-then x z)) in
-          let same : s ≡ sheet_text f w.written = stands-whole s (sheet_text f w.written) (rw (eqb-true next (length s) e) at y) in
-          stands f w.written (w.form (subst (λ (l : List ℕ). length l ≤ 65535) same b.short) ke) same
-      whole_is es next ke z false e =
-          let w = says f b.numbers ts es b.count b.small k in
-          let y : Stands s 0 (sheet_text f w.written) next = rw (w.numbers, w.tables, w.elem) (stands-then b.text (stands-then x z)) in
-          let n = ap length y.text ∙ length-append (sheet_text f w.written) (drop next s) in
-          broken _ (after f w.written (drop next s) b.short (w.form (omega (arith, n, b.short)) ke) y.text (something s (sheet_text f w.written) next y (eqb-false next (length s) e)) refl)
-
-      elem_is : (d : Listed) → d ≡ elem_from f s (Read 0 q (2 + numbers_in f + lines_in ts)) → elem.SectionIs f elem_word 1024 2 s q d → SheetIs s
-      elem_is d i (elem.SectionIs.broken l e) =
-          broken l (breaks.in_elem f p ts q b k x (elem-form.section-stuck f elem_word 1024 2 s 0 q (2 + numbers_in f + lines_in ts) l (ap (λ (t : Listed). t.end) (sym i) ∙ e)))
-      elem_is d i (elem.SectionIs.over n next c h e) = over 2 (in_elem f p ts q n next b k x c h)
-      elem_is d i (elem.SectionIs.stands es next l ke z e) = whole_is es next ke z (eqb next (length s)) refl
-
-    chain-stage : (c : Chained) → ChainIs (sections f) s p (2 + numbers_in f) c → SheetIs s
-    chain-stage c (ChainIs.broken l y e) = broken l (breaks.in_rows f p b y)
-    chain-stage c (ChainIs.over which o e) = over which (in_rows f p which b o)
-    chain-stage c (ChainIs.stands n q k y e) = elem_is c.tables k q y (elem_from f s (Read 0 q (2 + numbers_in f + lines_in c.tables))) refl
-        (elem.section-is f elem_word 1024 2 s 0 q (2 + numbers_in f + lines_in c.tables))
-
-  set-stage : (p : ℕ) → length s ≤ 65535 → Stands s 0 (set_word f) p → (t : Rows) → t ≡ lines 1 (numbers_in f) (numbers_in f) s p 2 → RowsIs 1 (numbers_in f) s p t → SheetIs s
-  set-stage p h x t i (rows.rows-broken l e) = broken l (in_set f p h x (lines-stuck 1 (numbers_in f) (numbers_in f) s p 2 l (ap (λ (t : Rows). t.end) (sym i) ∙ e)))
-  set-stage p h x t i (rows.rows_whole next l e count wide took) =
-      let one = singles-of t.rows wide in
-      let c = one.count ∙ count in
-      chain-stage next
-      (record {
-        short = h;
-        numbers = one.values;
-        count = c;
-        small = small-single one.values (subst (All Small) one.is took.small);
-        text = rw (set_text_lem f one.values c) (stands-then x (subst (λ r. Stands s p (rows_text r) next) one.is took.text));
-      })
-      (chain (sections f) s (Read 0 next (2 + numbers_in f)))
-      (chain-is (sections f) s 0 next (2 + numbers_in f) (tops f))
-
-pub sheet-is : (s : List ℕ) → SheetIs s
-sheet-is s = go (opening s) (open_is s)
-  where
-    go : (o : Part) → OpenIs s o → SheetIs s
-    go o (long h) = broken 0 (too_long refl h)
-    go o (none h n) = broken 1 (no-set refl h n)
-    go o (begins f p h x) = set-stage f s p h x (lines 1 (numbers_in f) (numbers_in f) s p 2) refl (lines-is 1 (numbers_in f) s p 2)

@@ -11,10 +11,9 @@ use Rattle.elements.specs.Print.{elements_text, elem_text, rows-many, rows-wide,
 use Rattle.elements.specs.Printed.{elements-long}
 use Rattle.sheet.specs.declared.Counts.{Counts}
 use Rattle.sheet.specs.declared.Reading.TheVariants.{Sound}
-use Rattle.sheet.specs.Sheet.{elem_word, Sheet, reading}
+use Rattle.sheet.specs.Sheet.{elem_word, Sheet}
 use Rattle.sheet.specs.Form.{Written, InForm, Shown, numbers_of, set_text, sections, tables_by, sheet_text, sheet_of}
-use Rattle.sheet.specs.Reads.{single-count, single-wide, sheet-reads}
-use Rattle.sheet.specs.Exact.{sound-keeps}
+use Rattle.sheet.specs.Reads.{single-count, single-wide}
 
 -- n lines of k numbers, at most so many
 pub record Lines (k most n : ℕ) (rows : List (List ℕ)) : Type 0 where
@@ -57,7 +56,7 @@ few_runs_lem f r form =
     let s = form.short in
     (omega arith, omega arith)
 
-sound-of : (f : SheetForm) (r : Written) → InForm f r → (c : Counts) → (sheet_of f r).end ≡ Sound c → SoundSheet (sheet_of f r) c
+pub sound-of : (f : SheetForm) (r : Written) → InForm f r → (c : Counts) → (sheet_of f r).end ≡ Sound c → SoundSheet (sheet_of f r) c
 unfolding sheet_of
 sound-of f r form c e =
     let bases : c.bases ≡ length r.base = cc in
@@ -79,9 +78,3 @@ sound-of f r form c e =
       lruns = sym lruns;
       few_lruns = omega (arith, u.1);
     }
-
-pub sound : (s : List ℕ) (c : Counts) → (reading s).end ≡ Sound c → SoundSheet (reading s) c
-sound s c is =
-    let k = (sound-keeps s).0 (c, is) in
-    let e = sheet-reads s k.form k.numbers k.keeps k.text in
-    rw e (sound-of k.form k.numbers k.keeps c (ap (λ (t : Sheet). t.end) (sym e) ∙ is))

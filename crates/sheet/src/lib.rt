@@ -4,11 +4,9 @@
 #![tactic(auto)]
 
 ghost use Rattle.std.specs.Prelude.{◌≡◌};
-ghost use Rattle.basics.specs.Seen.{was};
-ghost use Rattle.sheet.specs.Seen.{tables_now, tables_was};
 ghost use Rattle.rows.specs.Section.{count_of};
 ghost use Rattle.rows.specs.Table.{laid};
-ghost use Rattle.sheet.specs.Sheet.{opening, form_by, house, left_head, LineFits, end_of, Into};
+ghost use Rattle.sheet.specs.Sheet.{tables, opening, form_by, house, left_head, LineFits, end_of, Into};
 
 // The most rows of a section, as its head counts them.
 const MOST_BASES: u32 = limits::MOST_BASES as u32;
@@ -144,7 +142,7 @@ pub fn read_sheet(
     runs: &mut [u32; limits::RUNS],
     lruns: &mut [u32; limits::RUNS],
 ) -> Reading
-    ensures { Into s.now (tables_was set base ruby left elem runs lruns) result (tables_now set.exit base.exit ruby.exit left.exit elem.exit runs.exit lruns.exit) }
+    ensures { Into s.now (tables set.old base.old ruby.old left.old elem.old runs.old lruns.old) result (tables set.new base.new ruby.new left.new elem.new runs.new lruns.new) }
 {
     let o = opening_of(s);
     let form = form_of(o);

@@ -17,7 +17,7 @@ use Rattle.job.specs.declared.Answer.TheVariants.{Refused}
 use Rattle.job.specs.Line.{extent_of, permitted, tries}
 use Rattle.job.specs.Laws.{count-join, keep_append}
 use Rattle.job.specs.Outcome.{outcome}
-use Rattle.job.specs.Walk.{extent_of_lem}
+use Rattle.job.proofs.Walk.{extent_of_lem}
 use Rattle.join.specs.Rows.{Holds}
 use Rattle.join.specs.Join.{sound, state-join, may_join}
 use Rattle.shortest.specs.Needed.{least, needed}

@@ -1,5 +1,5 @@
 -- What the needed extent is: some permitted line has it, none has less, and so a measure is too small for every permitted line just where twice the measure, in half units, is less.
-use Rattle.std.specs.Prelude.{◌≡◌, refl, Bool, true, false, cond, List, [], ◌∷◌, map, ◌⊎◌, ◌↔◌, ℕ, zero, suc, ◌+◌, ◌-◌, ◌*◌, ◌≤◌, ◌<◌, min, length}
+use Rattle.std.specs.Prelude.{◌≡◌, refl, Bool, true, false, cond, List, ◌∷◌, map, ◌⊎◌, ◌↔◌, ℕ, zero, suc, ◌+◌, ◌-◌, ◌*◌, ◌≤◌, ◌<◌, min, length}
 use Rattle.std.proofs.Common.{sym, ap, ◌∙◌, subst, inl, inr}
 use Rattle.std.proofs.lemmas.Bool.{false≢true}
 use native.Mathlib.Omega.{arith}
@@ -12,9 +12,9 @@ use Rattle.door.specs.Passed.{Passed, passed}
 use Rattle.job.specs.declared.Answer.TheVariants.{Refused}
 use Rattle.job.specs.Line.{extent_of, can_set, permitted, tries}
 use Rattle.job.specs.Promise.{Break, Chain, Stuck}
-use Rattle.job.specs.Filled.{can_set_lem, set_can}
+use Rattle.job.proofs.Filled.{can_set_lem, set_can}
 use Rattle.job.specs.Outcome.{outcome}
-use Rattle.job.specs.Demands.{stuck-exactly}
+use Rattle.job.proofs.Demands.{stuck-exactly}
 use Rattle.shortest.specs.Needed.{least, needed}
 
 -- The least over the numbers from a on that pass a test.

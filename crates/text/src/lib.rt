@@ -6,7 +6,6 @@
 pub mod print;
 
 ghost use Rattle.std.specs.Prelude.{◌≡◌, ◌≤◌, length, drop};
-ghost use Rattle.basics.specs.Seen.{was};
 ghost use Rattle.text.specs.Determined.{Opened};
 ghost use Rattle.text.specs.Text.{number as number_in, more as moreIn, alone as aloneIn, word as word_in};
 

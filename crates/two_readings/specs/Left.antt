@@ -40,7 +40,7 @@ use Rattle.door.specs.Walk.{jukugo-runs}
 use Rattle.job.specs.Line.{part, cuts, word_of}
 use Rattle.job.specs.Laws.{both}
 use Rattle.job.specs.Words.{is_j_lem}
-use Rattle.job.specs.Apart.{apart-is}
+use Rattle.job.proofs.Apart.{apart-is}
 use Rattle.join.specs.Rows.{runs_of, run_of, first_at, run_at, run_width, row_by, left_row_by, ends_behind}
 use Rattle.word_rows.specs.Runs.{both_only, runs_only, Runs, run-reads, HasRuns, own_word}
 use Rattle.word_rows.specs.Word.{word_row_lem, flagged, WordReady, Judged}

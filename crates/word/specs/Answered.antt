@@ -1,7 +1,7 @@
 -- Level one's answer to a word with a left reading or without: the first of numbers 7 to 10 that holds of it, with the element's place, or the word. "9 and 10 likewise [hold for
 -- left characters as for right ones, right first]"; 7 and 8 speak of base characters alone.
-use Rattle.std.specs.Prelude.{◌≡◌, refl, Bool, true, false, cond, not, ◌&&◌, ◌||◌, List, ℕ, ◌≤◌, length}
-use Rattle.std.proofs.Common.{sym, ◌∙◌, subst, arith}
+use Rattle.std.specs.Prelude.{◌≡◌, refl, Bool, true, false, cond, ◌&&◌, ◌||◌, List, ℕ, length}
+use Rattle.std.proofs.Common.{sym, subst, arith}
 use Rattle.basics.specs.Lists.{sum, any}
 use Rattle.class.specs.Class.{western, kana_like}
 use Rattle.refusal.specs.declared.Refusal.TheVariants.{BlankInside, JukugoBase, Mixed, WesternOver}

@@ -1,6 +1,6 @@
 -- Words with a reading on either side, worked by hand from document 02 (R-5): em 10, base 10 wide, ruby and left characters 5 wide, kana-like, both ratios 1:2:1 but where another stands.
 -- One claim about all: their characters stand, by document 02's places and by the writers alike, where the hand put them.
-use Rattle.std.specs.Prelude.{◌≡◌, refl, List, [], ◌∷◌, map, ℕ, length, replicate}
+use Rattle.std.specs.Prelude.{◌≡◌, refl, List, [], ◌∷◌, map, ℕ, replicate}
 use Rattle.basics.specs.Lists.{sum}
 use Rattle.spread.specs.Ratio.{Ratios, one_two_one, usual}
 use Rattle.word.specs.declared.Form.{Form}

@@ -1,6 +1,6 @@
 -- The base of a J: 8 is given where "a J base character [is] not kana-like or not one em wide", so of a J that is set every base character is one em wide, and its
 -- block is two em half units for each.
-use Rattle.std.specs.Prelude.{◌≡◌, Bool, true, false, not, ◌&&◌, List, [], ◌∷◌, ℕ, ◌+◌, ◌*◌, eqb, length}
+use Rattle.std.specs.Prelude.{◌≡◌, Bool, true, false, not, ◌&&◌, List, [], ◌∷◌, ℕ, ◌*◌, eqb, length}
 use Rattle.std.proofs.Common.{sym, mul-zero, mul-suc, arith, eqb-true}
 use Rattle.std.proofs.lemmas.Bool.{false≢true, not-false}
 use Rattle.basics.specs.Lists.{sum, any, other, All}

@@ -11,7 +11,8 @@ use Rattle.spread.specs.declared.Way.{Way}
 use Rattle.spread.specs.declared.Way.TheVariants.{Solid}
 use Rattle.spread.specs.Worded.{solid, shorter, along}
 use Rattle.spread.specs.Gap.{gaps, starts}
-use Rattle.spread.specs.Laws.{worded-starts, solid-starts, longer-starts, no_difference, starts-moved, as_today-all}
+use Rattle.spread.specs.Laws.{solid-starts, longer-starts, starts-moved}
+use Rattle.spread.proofs.Laws.{worded-starts, no_difference, as_today-all}
 use Rattle.spread.specs.Ratio.{one_two_one}
 use Rattle.spread.specs.Today as today
 use Rattle.spread.specs.Ratio.{Ratios}

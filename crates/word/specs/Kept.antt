@@ -1,8 +1,8 @@
 -- What level one promises of every word to those above, with a left reading or without: lengths, limits, and which string is the longest. What is said of a reading is said
 -- once, of either side.
-use Rattle.std.specs.Prelude.{◌≡◌, Bool, true, false, cond, ◌||◌, List, [], ◌∷◌, map, ◌⊎◌, ℕ, ◌+◌, ◌-◌, ◌*◌, ◌≤◌, ◌<◌, max, leb, ltb, length, get_or}
+use Rattle.std.specs.Prelude.{◌≡◌, Bool, true, false, cond, ◌||◌, List, [], map, ◌⊎◌, ℕ, ◌+◌, ◌-◌, ◌*◌, ◌≤◌, ◌<◌, max, leb, ltb, length, get_or}
 use Rattle.std.proofs.Math.Path.{refl, sym}
-use Rattle.std.proofs.Common.{ap, ◌∙◌, subst, true≢false, inl, inr, zero-le, leb-true, leb-false}
+use Rattle.std.proofs.Common.{ap, ◌∙◌, true≢false, inl, inr, zero-le, leb-true, leb-false}
 use Rattle.std.proofs.lemmas.Bool.{false≢true}
 use Rattle.std.proofs.Math.Nat.{le_trans}
 use native.Mathlib.Omega.{arith}
@@ -12,9 +12,8 @@ use Rattle.spread.specs.declared.Way.{Way}
 use Rattle.spread.specs.declared.Way.TheVariants.{Solid}
 use Rattle.spread.specs.declared.Gaps.{Gaps}
 use Rattle.spread.specs.Gap.{gaps}
-use Rattle.spread.specs.Laws.{Sums, sums, within-one}
-use Rattle.spread.specs.Ratio.{Ratios}
-use Rattle.word.specs.declared.Script.{Script}
+use Rattle.spread.specs.Laws.{Sums, within-one}
+use Rattle.spread.proofs.Laws.{sums}
 use Rattle.word.specs.declared.Script.TheVariants.{Kana}
 use Rattle.word.specs.declared.Form.{Form}
 use Rattle.word.specs.declared.Form.TheVariants as form

@@ -1,7 +1,7 @@
 -- A J cut by a line end (document 01, "Level one"): "A J cut by a line end is two words: a part of one character is set as M, a part of more as J."
 -- A part of a J that is set is set, and a part of one character is centred; a J of one character that is not cut is no part.
-use Rattle.std.specs.Prelude.{◌≡◌, refl, Bool, true, false, cond, not, ◌&&◌, ◌||◌, List, [], ◌∷◌, ◌++◌, map, ℕ, zero, suc, ◌+◌, ◌-◌, ◌≤◌, ◌<◌, eqb, ltb, length, take, drop}
-use Rattle.std.proofs.Common.{sym, ap, ◌∙◌, true≢false, map-id, append-nil, zero-add, add-zero, arith, length-drop, length-take-le}
+use Rattle.std.specs.Prelude.{◌≡◌, refl, Bool, true, false, cond, not, ◌&&◌, List, [], ◌∷◌, ◌++◌, map, ℕ, zero, suc, ◌+◌, ◌-◌, ◌≤◌, ◌<◌, eqb, ltb, length, take, drop}
+use Rattle.std.proofs.Common.{sym, ap, ◌∙◌, true≢false, map-id, append-nil, zero-add, arith, length-drop, length-take-le}
 use borrow.Author.Tests.{lt-leb, le-leb, lt-ltb, le-ltb, ltb-true, ltb-false, eqb-true, not-false}
 use Rattle.std.proofs.Math.Seq.{take_all}
 use Rattle.basics.specs.Lists.{sum, any, other, All}
@@ -13,10 +13,11 @@ use Rattle.word.specs.declared.Word.{Word}
 use Rattle.word.specs.declared.Answer.TheVariants.{Set}
 use Rattle.word.specs.Given.{Given}
 use Rattle.spread.specs.Worded.{solid, shorter, along}
-use Rattle.spread.specs.Laws.{Even, even_one}
+use Rattle.spread.specs.Laws.{Even}
+use Rattle.spread.proofs.Laws.{even_one}
 use Rattle.spread.specs.Ratio.{Ratios}
 use Rattle.word.specs.declared.Script.{Script}
-use Rattle.word.specs.declared.Script.TheVariants.{Kana, Western}
+use Rattle.word.specs.declared.Script.TheVariants.{Kana}
 use Rattle.word.specs.Alone.{Places, by_way, mono, group, jukugo, places, script, ruby_way, base_way, over_own}
 use Rattle.word.specs.Word.{word_of}
 use Rattle.word.specs.Answer.{blank_inside, jukugo_base, mixed, mixed_in, answer}

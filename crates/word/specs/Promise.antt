@@ -12,7 +12,8 @@ use Rattle.spread.specs.declared.Way.{Way}
 use Rattle.spread.specs.declared.Way.TheVariants.{Solid}
 use Rattle.spread.specs.declared.Gaps.{Gaps}
 use Rattle.spread.specs.Gap.{gaps}
-use Rattle.spread.specs.Laws.{Sums, sums, Even, all-space, even_ends, within-one}
+use Rattle.spread.specs.Laws.{Sums, Even, within-one}
+use Rattle.spread.proofs.Laws.{sums, all-space, even_ends}
 use Rattle.spread.specs.Ratio.{Ratios}
 use Rattle.word.specs.declared.Script.{Script}
 use Rattle.word.specs.declared.Script.TheVariants.{Kana}

@@ -1,8 +1,8 @@
 -- The numbers of a word with two readings are document 02's places (`Both`), character by character; and with a left reading of no width the base and the right reading
 -- are those of the word with one reading.
-use Rattle.std.specs.Prelude.{◌≡◌, Bool, true, false, cond, ◌&&◌, ◌||◌, List, [], ◌∷◌, map, ℕ, ◌+◌, ◌-◌, ◌*◌, ◌≤◌, ◌<◌, max, length}
+use Rattle.std.specs.Prelude.{◌≡◌, Bool, true, false, cond, ◌&&◌, ◌||◌, List, [], ◌∷◌, map, ℕ, ◌-◌, ◌*◌, ◌≤◌, ◌<◌, max, length}
 use Rattle.std.proofs.Math.Path.{refl}
-use Rattle.std.proofs.Common.{sym, ap, ap₂, ◌∙◌, true≢false, add-zero, arith, leb-true, leb-false, le-leb}
+use Rattle.std.proofs.Common.{ap, ◌∙◌, true≢false, add-zero, arith, leb-true, leb-false, le-leb}
 use Rattle.std.proofs.lemmas.Bool.{false≢true, lt-leb}
 use Rattle.std.proofs.Math.Nat.{zero-add}
 use Rattle.std.proofs.Math.Dec.{leb}
@@ -12,15 +12,15 @@ use Rattle.spread.specs.declared.Way.{Way}
 use Rattle.spread.specs.declared.Way.TheVariants.{Solid}
 use Rattle.spread.specs.declared.Ratio.{Ratio}
 use Rattle.spread.specs.Worded.{solid, shorter, along}
-use Rattle.spread.specs.Gap.{gaps, starts}
-use Rattle.spread.specs.Laws.{worded-starts, longer-starts, no_difference, starts-moved}
+use Rattle.spread.specs.Gap.{gaps}
+use Rattle.spread.specs.Laws.{longer-starts}
+use Rattle.spread.proofs.Laws.{worded-starts, no_difference}
 use Rattle.spread.specs.Ratio.{Ratios}
 use Rattle.word.specs.declared.Script.{Script}
 use Rattle.word.specs.declared.Script.TheVariants.{Kana}
-use Rattle.word.specs.declared.Reading.{Reading}
 use Rattle.word.specs.declared.Word.{Word}
 use Rattle.word.specs.Alone.{Places, by_way, group, ruby_way, base_way, split, any_longer, over_own}
-use Rattle.word.specs.Word.{by_runs, run_starts}
+use Rattle.word.specs.Word.{by_runs}
 use Rattle.word.specs.Joined.{group-is, over_own_lem}
 use Rattle.word.specs.Both.{Both, longest, monos, other, groups, jukugos}
 use Rattle.word.specs.Sides.{str_of, reading_over, sided, monos_word, groups_word, jukugos_word, block_starts, reading_starts}

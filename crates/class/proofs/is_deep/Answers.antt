@@ -1,0 +1,10 @@
+-- The set has the classes on which ruby may lie, read off the table. What is asked of a class can be read back from it.
+use Rattle.class.specs.declared.Mark.TheVariants.{Deep}
+use Rattle.class.specs.Marks.{read_back}
+use Rattle.class.proofs.is_deep.Goals as goal
+
+pub marked_in-requires : goal.marked_in-requires
+marked_in-requires c = c.table.ensures
+
+pub returns : goal.returns
+returns c = cc (read_back Deep c.args.class)

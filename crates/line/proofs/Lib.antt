@@ -1,0 +1,6 @@
+pub mod Extent
+pub mod Pairs
+pub mod Theorems
+pub mod Bound
+pub mod Exchange
+pub mod Onward
