@@ -1,9 +1,10 @@
 // Many sheets in one run: before each sheet a line `sheet LENGTH`, then its bytes; for each sheet a line `answer LENGTH` and the bytes of its answer. This crate reads and writes these frames
 // for the programs `settings`, `accounts` and `converts`, from any reader and to any writer, and fills a room from a reader for the programs of one sheet too. It may rely on `text` for the
-// line's form. No contract can say what standard input has, so beside the room that was filled the functions promise that they end and do nothing undefined, and nothing more.
+// line's form. No contract can say what standard input has, so beside the room that was filled the functions promise that they end and do nothing undefined, and nothing more. An error is
+// always the reader's or the writer's own, handed up.
 #![tactic(auto)]
 
-ghost use Rattle.std.specs.Prelude.{◌≤◌, length, IfOk};
+ghost use Rattle.std.specs.Prelude.{◌≡◌, ◌≤◌, length, IfOk};
 ghost use Rattle.std.specs.Io.{ReadsAtMost};
 
 use std::io;
@@ -16,9 +17,10 @@ pub enum Frame {
     End,
 }
 
-// Reads until `room` is full or the input ends; how many bytes stand at its front.
+// Reads until `room` is full or the input ends; how many bytes stand at its front. After an error the room has any bytes.
 pub fn fill<R: Read>(from: &mut R, room: &mut [u8]) -> io::Result<usize>
-    ensures { ReadsAtMost result room.new }
+    ensures count { ReadsAtMost result room.new }
+    ensures room { length room.new ≡ length room.old }
 {
     let mut done = 0;
     while done < room.len() {
@@ -47,6 +49,7 @@ fn read_line<R: Read>(from: &mut R) -> io::Result<[u8; 32]> {
     Ok(line)
 }
 
+// The next line as a frame. A line of another form, and the end of the input, are the end.
 pub fn next_frame<R: Read>(from: &mut R) -> io::Result<Frame> {
     let line = read_line(from)?;
     let text::Place::At(p) = text::read_word(&line, 0, b"sheet ") else {

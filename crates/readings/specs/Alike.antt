@@ -1,7 +1,7 @@
 -- "What the word alone decides, its neighbours never alter": two words that are given alike in what their form and their left reading read of them stand alike, and their records,
 -- by which a line knows them, are one.
-use Rattle.std.specs.Prelude.{◌≡◌, refl, Bool, true, false, cond, List, [], ℕ}
-use Rattle.std.proofs.Common.{sym, ap, ap₂, ◌∙◌, subst, true≢false}
+use Rattle.std.specs.Prelude.{◌≡◌, refl, Bool, true, false, cond, []}
+use Rattle.std.proofs.Common.{ap, ◌∙◌}
 use Rattle.word.specs.declared.Form.{Form}
 use Rattle.word.specs.declared.Form.TheVariants as form
 use Rattle.word.specs.declared.Script.TheVariants.{Kana}

@@ -1,8 +1,8 @@
 -- A part of a J with its left reading (R-5): "every other J is cut as in document 01", so a part of one character is M with a mono left reading, and a part of more is J with
 -- its left runs; and of a J with a mono left reading each character is such a part. A part of a J that is set is set, and ready to be.
-use Rattle.std.specs.Prelude.{◌≡◌, Bool, cond, ◌&&◌, ◌||◌, List, [], ◌∷◌, ℕ, zero, suc, ◌+◌, ◌*◌, ◌≤◌, ◌<◌, eqb, length, take, drop}
+use Rattle.std.specs.Prelude.{◌≡◌, Bool, cond, List, [], ℕ, zero, suc, ◌+◌, ◌≤◌, ◌<◌, eqb, length, take, drop}
 use Rattle.std.proofs.Math.Path.{refl, sym}
-use Rattle.std.proofs.Common.{ap, ◌∙◌, subst, true≢false, arith, eq-eqb, length-take, length-take-le}
+use Rattle.std.proofs.Common.{◌∙◌, true≢false, arith, eq-eqb, length-take, length-take-le}
 use Rattle.std.proofs.Math.Bool.{true, false, not}
 use Rattle.std.proofs.lemmas.Bool.{false≢true}
 use Rattle.std.proofs.Math.Nat.{le_trans}
@@ -10,21 +10,20 @@ use Rattle.std.proofs.Math.ListN.{length-drop}
 use Rattle.basics.specs.Lists.{sum, any, other, All}
 use Rattle.basics.specs.Laws.{or_none, all_take, all_drop, sum-part, sum-split}
 use Rattle.class.specs.Class.{kana_like}
-use Rattle.word.specs.declared.Form.{Form}
 use Rattle.word.specs.declared.Form.TheVariants as form
 use Rattle.word.specs.declared.Left.{Left}
 use Rattle.word.specs.declared.Left.TheVariants as left
 use Rattle.word.specs.declared.Answer.TheVariants.{Set}
 use Rattle.word.specs.declared.Word.{Word}
-use Rattle.word.specs.Given.{Given, has_ruby, is_j}
+use Rattle.word.specs.Given.{Given, has_ruby}
 use Rattle.word.specs.Sized.{Sized}
 use Rattle.word.specs.Answer.{blank_inside, jukugo_base, mixed, mixed_in}
 use Rattle.word.specs.Promise as promise
-use Rattle.word.specs.Part.{within, part, form_of_part, any-within, mixed-within, runs-some, part-sized, part-set}
+use Rattle.word.specs.Part.{within, part, form_of_part, any-within, mixed-within, runs-some, part-sized}
 use Rattle.word.specs.Both.{Gloss, has_left, takes, apart, is_group, is_jukugo}
 use Rattle.word.specs.Sides.{word_of}
 use Rattle.word.specs.Kept.{LeftSized}
-use Rattle.word.specs.Answered.{mixed_both, western_both, answer_both, passed, set}
+use Rattle.word.specs.Answered.{mixed_both, answer_both, passed, set}
 use Rattle.readings.specs.Standing.{Ready}
 
 -- the left reading of the n base characters of a J from the i-th on, with their left runs: on one character it is mono

@@ -1,6 +1,6 @@
 -- Where the characters of a word stand, with a left reading or without: those of its base and of either reading are strings, each from its first character's start to its last
 -- one's end, and none of its characters reaches a later one. What is said of a reading is said once, of either side.
-use Rattle.std.specs.Prelude.{◌≡◌, refl, Bool, true, false, cond, not, ◌&&◌, ◌||◌, List, [], ◌∷◌, map, ℕ, zero, suc, ◌+◌, ◌-◌, ◌*◌, ◌≤◌, ◌<◌, leb, length, get_or}
+use Rattle.std.specs.Prelude.{◌≡◌, refl, Bool, true, false, cond, not, ◌&&◌, ◌||◌, List, [], ◌∷◌, map, ℕ, zero, suc, ◌+◌, ◌-◌, ◌*◌, ◌<◌, leb, length}
 use Rattle.std.proofs.Common.{sym, ap₂, ◌∙◌, subst, true≢false, zero-add, arith, length-append}
 use Rattle.std.proofs.Math.Path.{ap}
 use Rattle.std.proofs.lemmas.Bool.{false≢true}
@@ -31,7 +31,7 @@ use Rattle.word.specs.Word.{over_each, run_starts}
 use Rattle.word.specs.Word as one
 use Rattle.word.specs.Joined.{base_alone_lem, ruby_alone_lem}
 use Rattle.word.specs.Joined as joined
-use Rattle.word.specs.Spans.{Spans, Some, flat, flat-split, split-some, length-split, starts_span, each-spans}
+use Rattle.word.specs.Spans.{Spans, flat, flat-split, split-some, length-split, starts_span, each-spans}
 use Rattle.word.specs.Rising.{Rises, Lies, rises, lies, starts-follow, runs-follow}
 use Rattle.word.specs.Both.{Both, Gloss, has_left, takes, apart, is_group, is_jukugo, uncut, groups, jukugos, two, places}
 use Rattle.word.specs.Sides.{str_of, reading_over, sided, groups_word, jukugos_word, word_of, word_two, two_by, jukugos_by, block_starts, reading_starts}

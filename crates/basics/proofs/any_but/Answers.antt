@@ -1,10 +1,9 @@
 -- What is left to test decides the whole. A number that is not `v` ends the search; past the last there is none.
 use mathlib.Core.Path.{refl, sym, ap}
 use mathlib.Core.Bool.{not}
-use Prim.Native.Nat.{◌-◌}
 use native.Mathlib.Omega.{arith}
 use borrow.Author.Tests.{ne_eqb, eq-eqb}
-use Rattle.basics.specs.Lists.{any, other}
+use Rattle.basics.specs.Lists.{other}
 use Rattle.basics.specs.Laws.{any_pass, any-stop, any-end}
 use Rattle.basics.proofs.any_but.Goals as goal
 

@@ -1,8 +1,7 @@
 -- The sum so far and the sum of what is left make the sum of all. At the end nothing is left.
 use mathlib.Core.Path.{ap}
-use Prim.Native.Nat.{◌-◌}
 use native.Mathlib.Omega.{arith}
-use lib.ListN.{length, drop, drop_of_length-le}
+use lib.ListN.{drop_of_length-le}
 use Rattle.basics.specs.Lists.{sum}
 use Rattle.basics.specs.Laws.{sum_step}
 use Rattle.basics.proofs.sum_of.Goals as goal

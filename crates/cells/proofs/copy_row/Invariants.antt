@@ -1,3 +1,4 @@
+-- One number more with each turn.
 use Prim.Native.Nat.{◌-◌, ◌≤◌}
 use lib.ListN.{length}
 use Rattle.cells.specs.Put.{Copied}

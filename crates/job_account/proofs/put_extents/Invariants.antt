@@ -1,3 +1,4 @@
+-- The extents copied and those left to copy make up the whole.
 use Prim.Native.Nat.{◌-◌}
 use Rattle.job_account.specs.Walk.{Copying}
 use Rattle.job_account.proofs.put_extents.Given as goal

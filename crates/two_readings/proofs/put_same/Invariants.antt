@@ -1,3 +1,4 @@
+-- One left row more with each turn, and the rows as they were. Past the last character all have it.
 use Prim.Native.Nat.{◌-◌, ◌≤◌}
 use Rattle.two_readings.specs.Written.{LeftFilled}
 use Rattle.two_readings.proofs.put_same.Given as goal

@@ -1,3 +1,4 @@
+-- What is to be written at the end is, at each step, what stands there and the rest of the word from the next place on. A step takes one byte off the rest.
 use mathlib.Core.Path.{◌≡◌}
 use Prim.Native.Nat.{◌≤◌, ◌-◌, ◌+◌}
 use lib.ListN.{length, drop}
