@@ -1,7 +1,7 @@
 """The commands on one sheet: a job sheet from a file or from standard input, its answer on standard output.
 
 Status 0: set; 1: refused; 2: could not be run, and then there is a line on standard error and no answer.
-The programs themselves have no status and no arguments (docs/DECISIONS.md), so that is done here.
+The programs themselves have no arguments, and no status but for a read or a write that fails (docs/DECISIONS.md), so that is done here.
 """
 
 import os

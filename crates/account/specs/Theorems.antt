@@ -1,5 +1,6 @@
 -- What is proved of the account of a line. (The reviewer's question: show that every reading stands clear of its neighbours, and say why each gap
 -- is as wide as it is. The first half is `keeps` of line; this is the second.)
+-- The theorems are in `proofs/Theorems.antt`.
 use Rattle.std.specs.Prelude.{◌≡◌, List, ℕ}
 use Rattle.line.specs.declared.Element.{Element}
 use Rattle.account.specs.declared.Reason.TheVariants.{Free}

@@ -1,6 +1,6 @@
 // Why each gap of a line is as wide as it is. An element stands no nearer the line's start because some rule of clearance (document
 // 01, level two) already holds with equality; the account of an element names the gap before its block, that rule, the other element
-// and the permitted depth (specs/Reasons.antt). specs/Theorems.antt has what is proved of it: the named rule would be broken one half
+// and the permitted depth (specs/Reasons.antt). proofs/Theorems.antt has what is proved of it: the named rule would be broken one half
 // unit nearer, and in a line that is set every element has such a reason. With readings on both sides (R-5 of document 02) a reason names
 // the side of the ruby that it speaks of. It relies on line for the elements, the rules and the setting.
 #![tactic(auto)]

@@ -1,4 +1,5 @@
--- How a contract names what lies behind a parameter that is lent: in a `requires` it is `now x`; in an `ensures` `was x` is what it led to at entry, and `now x.exit` what it leads to at exit.
+-- How a contract names what lies behind a parameter that is lent: by `x.now` of a `&`, and by `x.old` and `x.new` of a `&mut`, what it leads to at entry and at exit. Words that take a `&` itself are over
+-- `Ref` in a `requires` and over `Seen` in an `ensures`, where `was x` is what it led to.
 use Rattle.std.specs.Prelude.{List, ℕ}
 use Rattle.std.specs.Borrow.{Bor}
 use denote.Triple.Both.{Both}

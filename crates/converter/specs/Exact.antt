@@ -1,5 +1,6 @@
 -- What the converter's answer says (document 02, R-6). It is one of four (`convert_is`): the reading's refusal, 17 with the first line at fault, the job's own refusal, or the other sheet; and the
 -- other sheet goes back to the same bytes (`there_and_back`) and has the same job, so the same answer (`same_answer`).
+-- The theorems are in `proofs/Exact.antt`.
 use Rattle.std.specs.Prelude.{List, ◌≡◌, ℕ}
 use Rattle.std.proofs.Math.Option.{none, some}
 use Rattle.refusal.specs.declared.Refusal.{Refusal}

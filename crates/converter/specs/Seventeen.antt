@@ -1,5 +1,6 @@
 -- Refusal 17 exactly (document 02, R-6): `refused 17 L` is written exactly of a sound sheet that form one can't hold, and L is its first line at fault. The reading gives 13 and 2 alone, the refusal
 -- list gives 17 to no job, and a sheet begins with another letter.
+-- The theorem is in `proofs/Seventeen.antt`.
 use Rattle.std.specs.Prelude.{◌++◌, ◌≡◌, ℕ}
 use Rattle.std.proofs.Math.Path.{refl}
 use Rattle.text.specs.Print.{bytes, decimal}

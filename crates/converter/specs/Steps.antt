@@ -1,4 +1,5 @@
 -- What is written, by what the code finds: the line at fault, the job's own refusal, or that it has none.
+-- The steps are in `proofs/Steps.antt`.
 use Rattle.std.specs.Prelude.{Bool, true, false, cond, List, ◌≡◌, ℕ, eqb}
 use Rattle.std.proofs.Math.Option.{Option, none, some}
 use Rattle.std.proofs.Math.Path.{refl}

@@ -1,7 +1,7 @@
 // Many sheets in one run: before each sheet a line `sheet LENGTH`, then its bytes; for each sheet a line `answer LENGTH` and the bytes of its answer. This crate reads and writes these frames
 // for the programs `settings`, `accounts` and `converts`, from any reader and to any writer, and fills a room from a reader for the programs of one sheet too. It may rely on `text` for the
-// line's form. No contract can say what standard input has, so beside the room that was filled the functions promise that they end and do nothing undefined, and nothing more. An error is
-// always the reader's or the writer's own, handed up.
+// line's form. No contract says what standard input has, so beside the room that was filled the functions promise that they end and do nothing undefined, and nothing more. An error is
+// the reader's or the writer's, handed up.
 #![tactic(auto)]
 
 ghost use Rattle.std.specs.Prelude.{◌≡◌, ◌≤◌, length, IfOk};
@@ -34,7 +34,9 @@ pub fn fill<R: Read>(from: &mut R, room: &mut [u8]) -> io::Result<usize>
 }
 
 // The next line's bytes up to LF, at most 32.
-fn read_line<R: Read>(from: &mut R) -> io::Result<[u8; 32]> {
+fn read_line<R: Read>(from: &mut R) -> io::Result<[u8; 32]>
+    ensures { IfOk result (λ line. 32 ≡ length line) }
+{
     let mut line = [0u8; 32];
     let mut one = [0u8; 1];
     let mut i: usize = 0;

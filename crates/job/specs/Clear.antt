@@ -1,5 +1,5 @@
 -- "Show that every reading stands clear of its neighbours": what that means of a line of a job, by the positions of its characters in the result lists, their
--- widths, and nothing else. `Characters` has the theorem: it holds of every line that is set.
+-- widths, and nothing else. `proofs/Characters.antt` has the theorem: it holds of every line that is set.
 use Rattle.std.specs.Prelude.{◌≡◌, List, ◌⊎◌, ℕ, suc, ◌+◌, ◌*◌, ◌≤◌, ◌<◌, length, get_or}
 use Rattle.word.specs.declared.Form.TheVariants.{P}
 use Rattle.line.specs.declared.Side.{Side}

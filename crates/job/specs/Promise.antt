@@ -1,5 +1,5 @@
 -- What the demands say of a job, in their own terms: no search and no loop. `Placed` speaks of the line's origins as the engine finds them (`origins`); `lines-stand`
--- says that they stand as demand 3 has it, and there is only one such setting. `Demands` has the theorems.
+-- says that they stand as demand 3 has it, and there is only one such setting. `proofs/Demands.antt` has the theorems.
 use Rattle.std.specs.Prelude.{◌≡◌, true, false, List, [], ◌∷◌, ◌⊎◌, ℕ, ◌+◌, ◌≤◌, ◌<◌, length, get_or}
 use Rattle.word.specs.declared.Form.TheVariants.{P}
 use Rattle.word.specs.declared.Left.TheVariants as left

@@ -1,5 +1,5 @@
 -- The refusal list as document 01 prints it ("Refusal list"): what the table says of each number and place, and the order, as a relation between any two.
--- `Demands` shows that a job gets the first by this order of those that the table gives it, and none exactly when the table gives it none.
+-- `proofs/Demands.antt` shows that a job gets the first by this order of those that the table gives it, and none exactly when the table gives it none.
 use Rattle.std.specs.Prelude.{◌≡◌, Bool, true, cond, List, [], ◌∷◌, ◌⊎◌, ℕ, suc, ◌+◌, ◌<◌, eqb, get_or}
 use Rattle.basics.specs.Lists.{any}
 use Rattle.refusal.specs.declared.Refusal.{Refusal}

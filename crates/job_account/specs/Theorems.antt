@@ -1,5 +1,5 @@
 -- The account of every line of a job that passes the door, and so of every accepted job: for each piece of the line the gap before it, and the first rule that
--- holds it there. What is proved of a line's account (specs/Theorems of account) holds of it, with nothing left to be supposed.
+-- holds it there. What is proved of a line's account (proofs/Theorems of account) holds of it, with nothing left to be supposed.
 use Rattle.std.specs.Prelude.{◌≡◌, List, ℕ, suc, ◌+◌, ◌≤◌, ◌<◌, length, get_or}
 use Rattle.std.proofs.Common.{sym, subst, arith}
 use Rattle.readings.specs.Standing.{between}

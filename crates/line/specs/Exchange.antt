@@ -1,6 +1,6 @@
 -- "What one correction may disturb" (document 02, R-9): one element of a line is exchanged for another (`correction`), or any part of it for another part
--- (`exchange`). What stands before it stays where it was, and from the second element after it on all move by one and the same amount. The theorems go by the
--- rules alone and speak of any two least settings. `Onward` has the argument; `sharp` of Cases shows that the first element after it may move by another amount.
+-- (`exchange`). What stands before it stays where it was, and from the second element after it on all move by one and the same amount. The theorems, in `proofs/Exchange.antt`, go by the
+-- rules alone and speak of any two least settings. `proofs/Onward.antt` has the argument; `sharp` of Cases shows that the first element after it may move by another amount.
 use Rattle.std.specs.Prelude.{◌≡◌, List, ◌++◌, ℕ, ◌+◌, ◌≤◌, ◌<◌, length}
 use Rattle.line.specs.declared.Element.{Element}
 use Rattle.line.specs.declared.Side.{Side}

@@ -79,7 +79,7 @@ pub record Apart (es : List Element) (xs : List ℕ) : Type 0 where
 
 -- 4. "Nothing starts before the line's start or ends after the measure." The measure is in units. Its first half holds of every setting:
 -- origins are natural numbers, and block and rubies start at or after their element's. Nor are settings lost by it: a string of each element
--- starts at its origin (`Flush`, below), so a setting that keeps rule 4 has its origins at or after the line's start (`natural` of Theorems).
+-- starts at its origin (`Flush`, below), so a setting that keeps rule 4 has its origins at or after the line's start (`natural` of proofs/Theorems).
 pub record Fit (measure : ℕ) (es : List Element) (xs : List ℕ) : Type 0 where
   pub blocks : (i : ℕ) → i < length es → Within (2 * measure) (block_at es xs i)
   pub rubies : (s : Side) (i : ℕ) → i < length es → HasRuby s (el es i) → Within (2 * measure) (ruby_at s es xs i)

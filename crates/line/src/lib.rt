@@ -1,6 +1,6 @@
 // Level two of document 01: a line of elements, each already set within itself, and the least setting of it by the four rules of
 // clearance, with a reading on either side of a word (R-5 of document 02). specs/Rules.antt has the rules, specs/Setting.antt the
-// setting, specs/Theorems.antt and Exchange.antt what is proved of it. It knows nothing of words, classes or jobs: an element comes
+// setting, proofs/Theorems.antt and Exchange.antt what is proved of it. It knows nothing of words, classes or jobs: an element comes
 // with its own lengths and the depths to which ruby may lie on it. It relies on basics. All positions are half units.
 #![tactic(auto)]
 
@@ -129,7 +129,7 @@ fn least_origin(st: State, e: Element) -> u32
     basics::larger(right, asked_by(st, e, st.left, e.left))
 }
 
-// e set after st. What stands and e's own length have to fit a number together; of a job they are far from it (specs/Bounded of job).
+// e set after st. What stands and e's own length have to fit a number together; of a job they are far from it (proofs/Bounded of job).
 pub fn place(st: State, e: Element) -> Placed
     requires { furthest st + total e ≤ 4294967295 }
     ensures { result ≡ placed st e }

@@ -1,5 +1,6 @@
 -- What the reading of a sheet says of its bytes, without following the reader, for both forms: it is sound exactly of bytes that keep a form, 2 is given exactly where a count over its maximum is
 -- the first fault, and 13 exactly of all other bytes. Printing and reading undo each other.
+-- The theorems are in `proofs/Exact.antt`; here are their words, a law or two on which others rest, and the worked examples as they are printed.
 use Rattle.std.specs.Prelude.{List, [], ◌∷◌, ◌≡◌, refl, ℕ, replicate}
 use Rattle.std.proofs.Common.{◌∙◌, ap, ap₂}
 use Rattle.rows.specs.Table.{column}

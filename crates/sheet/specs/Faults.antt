@@ -1,4 +1,5 @@
 -- "The first fault met, 13 or a count over its maximum (2)": the reading of a sheet gives no other number.
+-- The theorem is in `proofs/Faults.antt`.
 use Rattle.std.specs.Prelude.{Bool, ◌||◌, eqb}
 use Rattle.refusal.specs.Refusal.{number_of}
 use Rattle.refusal.specs.declared.Refusal.{Refusal}

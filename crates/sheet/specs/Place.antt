@@ -1,4 +1,5 @@
 -- "13: job sheet text breaks its form; line from 1; 0 if over 65,535 bytes": the line is determined, and bytes that break the form are neither a sheet nor begin with a count over its maximum.
+-- The theorems are in `proofs/Place.antt`.
 use Rattle.std.specs.Prelude.{List, ◌≡◌, ℕ, ◌≤◌}
 use Rattle.std.proofs.Common.{arith}
 use Rattle.basics.specs.Lists.{All}

@@ -1,5 +1,6 @@
 -- Every reading of a sheet is one of three (`sheet-is`): its form is broken, a count is over its maximum, or the bytes are the text of numbers in form. And such a text is read as its numbers
 -- (`sheet-reads`, `over_reads`, `breaks-reads`). Said once for both forms: the first line tells the form, and the sections between `set` and `elem` are a chain.
+-- `sheet-is` and `breaks-reads` are in `proofs/Came.antt`.
 use Rattle.std.specs.Prelude.{Bool, cond, ◌≡◌, refl, ℕ, suc, ◌+◌, ◌≤◌, ◌<◌, eqb, ltb, drop}
 use Rattle.std.proofs.Math.Bool.{true, false}
 use mathlib.Core.List.{List, [], ◌∷◌, ◌++◌, append-nil}

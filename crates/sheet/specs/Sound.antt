@@ -1,5 +1,6 @@
 -- A sound sheet: its counts are those of the lines that were read, each within its maximum, and every line has all its numbers. So it is said once for both forms: a sound sheet is the text of numbers
 -- in form, and what is read of it are these.
+-- That a sound sheet is so is shown in `proofs/Sound.antt`.
 use Rattle.std.specs.Prelude.{List, ◌∷◌, ◌++◌, ◌≡◌, ℕ, suc, ◌≤◌, length}
 use Rattle.std.proofs.Common.{◌∙◌, ap, sym, arith, length-append}
 use Rattle.basics.specs.Lists.{All}

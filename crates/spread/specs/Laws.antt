@@ -1,5 +1,6 @@
 -- Laws of the gap rule and of the starts: they are the sentences of `Worded`, all space sums to 2D, 1:2:1 is today's rule, a string ends where
 -- its space and widths say, and moving its start moves each character alike.
+-- Those that rest on the sentences of `Worded` are in `proofs/Laws.antt`.
 use Rattle.std.specs.Prelude.{◌≡◌, refl, Bool, true, false, cond, List, map, ℕ, zero, suc, ◌+◌, ◌-◌, ◌*◌, ◌/◌, ◌≤◌, ◌<◌, min, eqb, length, take, get_or}
 use Rattle.std.proofs.Common.{ap, ◌∙◌, sym, zero-le, zero-add, le_refl, le_of_mul-le-mul_right, div-mul-le_self, zero-mul, mul-zero, mul-one, mul-add, add-mul, mul_assoc, mul_comm, mul-le-mul, mul-le-mul_left, mul-div_cancel, arith, eq-eqb, ne_eqb, take_all}
 use Rattle.std.proofs.lemmas.Simd.{map-map}

@@ -1,4 +1,4 @@
--- What a word with a left reading is laid from, as a contract sees it, its lists behind references: `..Now` as a `requires` sees it, `..Was` as an `ensures` does, at entry.
+-- What a word with a left reading is laid from, as a contract sees it, its lists behind references: `.._now` as a `requires` sees it, `.._was` as an `ensures` does, at entry.
 use Rattle.std.specs.Prelude.{List, [], ℕ}
 use Rattle.basics.specs.Seen.{was, Ref, Seen}
 use Rattle.spread.specs.Ratio.{usual}

@@ -10,7 +10,7 @@ use Rattle.door.specs.Job.{Job, given}
 use Rattle.door.specs.Entries.{part_of, length-entries}
 use Rattle.word_rows.specs.Runs.{words_only}
 
--- of a base only these lists matter; `..Now` as a `requires` sees them, `..Was` as an `ensures` does, at entry
+-- of a base only these lists matter; `.._now` as a `requires` sees them, `.._was` as an `ensures` does, at entry
 abbrev pub bases_only : ℕ → List ℕ → List ℕ → List ℕ → List ℕ → Job
 bases_only em class width before after = words_only usual em class width before after [] [] [] []
 
