@@ -13,8 +13,8 @@ use Rattle.line.specs.declared.Side.TheVariants.{Right, Left}
 use Rattle.line.specs.Rules.{el, org, Least, Sounds}
 use Rattle.line.specs.Setting.{settle}
 use Rattle.line.specs.Exchange.{Stayed, Moved}
-use Rattle.line.specs.Exchange as line_specs
-use Rattle.line.proofs.Exchange as line
+use Rattle.line.specs.Exchange as line
+use Rattle.line.proofs.Exchange as line_proofs
 use Rattle.door.specs.declared.Piece.{Piece}
 use Rattle.door.specs.Job.{Job, base_count, entries, given, gloss_of}
 use Rattle.door.specs.Entries.{length-entries}
@@ -241,9 +241,9 @@ module _ (n m m' : ℕ) (l l' : Line) (set : IsSet l) (set' : IsSet l') (x : Par
   is' : es' ≡ take n es ++ (take m' (drop n es') ++ drop (n + m) es)
   is' = three-parts es' n m' ∙ ap₂ (λ a c. a ++ (take m' (drop n es') ++ c)) same-front same_rest
 
-  exchanged : line_specs.Exchanged (take n es) (take m (drop n es)) (take m' (drop n es')) (drop (n + m) es) (origins_of l) (origins_of l')
+  exchanged : line.Exchanged (take n es) (take m (drop n es)) (take m' (drop n es')) (drop (n + m) es) (origins_of l) (origins_of l')
   exchanged =
-      line.exchange l.job.measure l'.job.measure (take n es) (take m (drop n es)) (take m' (drop n es')) (drop (n + m) es) (origins_of l) (origins_of l')
+      line_proofs.exchange l.job.measure l'.job.measure (take n es) (take m (drop n es)) (take m' (drop n es')) (drop (n + m) es) (origins_of l) (origins_of l')
       (subst Sounds (three-parts es n m) (sound l set)) (subst Sounds is' (sound l' set'))
       (subst (λ es. Least l.job.measure es (origins_of l)) (three-parts es n m) (stands l set)) (subst (λ es. Least l'.job.measure es (origins_of l')) is' (stands l' set'))
 

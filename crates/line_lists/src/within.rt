@@ -1,4 +1,4 @@
-// Whether an element is set within itself: `Sound` of specs/Rules.antt, test by test, and no longer than a word of a job.
+// Whether an element is set within itself: `Sound` of line (specs/Rules.antt), test by test, and no longer than a word of a job.
 ghost use Rattle.std.specs.Prelude.{◌≤◌, ◌≡◌, cond, T};
 ghost use Rattle.line.specs.Rules.{Inside, Around, Beside, Shape, Fits, Flush};
 ghost use Rattle.line.specs.Setting.{total};

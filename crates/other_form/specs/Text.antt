@@ -1,5 +1,5 @@
 -- The text of a sheet in its parts, form one beside form two where form one can hold it (document 02, R-6): the same lines in the same order, but for the first line, the seven numbers, the `left`
--- line and the letters. So the bytes of one sheet, part by part, are the other sheet (`OneParts`, `TwoParts`).
+-- line and the letters. So the bytes of one sheet, part by part, are the other sheet (`one-parts`, `two-parts` of `Known`).
 use Rattle.std.specs.Prelude.{List, [], ◌∷◌, ◌++◌, ◌≡◌, refl, ℕ, length}
 use Rattle.std.proofs.Common.{append_assoc, append-nil, ◌∙◌, ap, sym}
 use Rattle.text.specs.Print.{bytes}
