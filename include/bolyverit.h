@@ -16,16 +16,16 @@
  *     the two ratios too;
  *   - nothing else writes these lists while the call runs. Calls on different lists may run at the same time: there is no
  *     state between calls, no heap and no file;
- *   - 560 kilobytes of stack are free: the functions keep their tables there, 133,696 bytes of them in bv_set_job (14,880 for a small
- *     job and 118,816 for a large one, of which a call uses one), 118,816 in bv_account_job, 479,300 in bv_set_sheet and 487,492 in
+ *   - 560 kilobytes of stack are free: the functions keep their tables there, 115,200 bytes of them in bv_set_job (12,800 for a small
+ *     job and 102,400 for a large one, of which a call uses one), 102,400 in bv_account_job, 462,884 in bv_set_sheet and 471,076 in
  *     bv_account_sheet; the rest is for the calls themselves.
  * Nothing else is asked: any numbers in the lists and the ratios, any profile and any lengths are answered.
  *
  * What is proved, for every call that keeps the above. Of bv_set_job: the answer and the four result lists are those of the
- * definition `outcome` (crates/job/specs/Outcome.antt), refusals included. Of bv_set_sheet: the bytes written are `answerText` of
+ * definition `outcome` (crates/job/specs/Outcome.antt), refusals included. Of bv_set_sheet: the bytes written are `answer_text` of
  * the sheet's bytes (crates/setter/specs/Answer.antt). Of bv_account_job: the answer and the three lists are those of `telling`
  * (crates/job_account/specs/Outcome.antt), whose reasons are tight (crates/job_account/specs/Theorems.antt). Of bv_account_sheet:
- * the bytes written are `accountOfSheet` of the sheet's bytes (crates/account_sheet/specs/Answer.antt). Of all: the call ends,
+ * the bytes written are `account_of_sheet` of the sheet's bytes (crates/account_sheet/specs/Answer.antt). Of all: the call ends,
  * reads and writes nothing outside its lists, and no sum in it wraps.
  */
 #ifndef BOLYVERIT_H

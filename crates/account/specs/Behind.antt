@@ -1,6 +1,5 @@
 -- Who walks a line names earlier elements only, whatever stands there: the element just before, and those whose rubies reach furthest.
-use Rattle.std.specs.Prelude.{Bool, true, false, cond, eqb, leb}
-use Prim.Native.Nat.{ℕ, zero, suc, ◌+◌, ◌<◌}
+use Rattle.std.specs.Prelude.{Bool, true, false, cond, Option, Some, None, eqb, leb, ℕ, zero, suc, ◌+◌, ◌<◌}
 use Rattle.std.proofs.Common.{arith}
 use Rattle.line.specs.declared.Element.{Element}
 use Rattle.line.specs.declared.Reading.{Reading}
@@ -10,16 +9,15 @@ use Rattle.line.specs.Rules.{ruby, block_of}
 use Rattle.account.specs.declared.Reason.{Reason}
 use Rattle.account.specs.declared.Reason.TheVariants.{Start, Block, Under, Over, Ruby, Edge, Free}
 use Rattle.account.specs.declared.Far.{Far}
-use Rattle.account.specs.declared.Far.TheVariants.{Nothing, Ends}
 use Rattle.account.specs.declared.Before.{Before}
 use Rattle.account.specs.Claims.{Earlier}
 use Rattle.account.specs.Reasons.{drawn, touches, under, over, starts, by_side, beside}
 use Rattle.account.specs.Step.{touched_at, touched, ruby_after, beside_last, reason_after, longer, further, passed, nothing}
 
 -- the ruby that reaches furthest is that of an element before number i
-abbrev pub Of : ℕ → Far → Type 0
-Of i Nothing = Unit {0}
-Of i (Ends k end) = k < i
+abbrev pub Of : ℕ → Option Far → Type 0
+Of i None = Unit {0}
+Of i (Some f) = f.whose < i
 
 pub record Behind (i : ℕ) (b : Before) : Type 0 where
   pub right : Of i b.right
@@ -35,12 +33,12 @@ either i false r q h k = k
 by_side_lem : (i : ℕ) (t : Side → Bool) (r : Side → Reason) (rest : Reason) → ((s : Side) → Earlier i (r s)) → Earlier i rest → Earlier i (by_side t r rest)
 by_side_lem i t r rest f h = either i (t Right) (r Right) _ (f Right) (either i (t Left) (r Left) rest (f Left) h)
 
-by-far : (i : ℕ) (s : Side) (f : Far) (r : Reading) (x : ℕ) (rest : Reason) → Of i f → Earlier i rest → Earlier i (touched s f r x rest)
+by-far : (i : ℕ) (s : Side) (f : Option Far) (r : Reading) (x : ℕ) (rest : Reason) → Of i f → Earlier i rest → Earlier i (touched s f r x rest)
 by-far i s f r x rest o h = either i r.there _ rest (go f o) h
   where
-    go : (f : Far) → Of i f → Earlier i (touched_at s f (drawn r x).start rest)
-    go Nothing o = h
-    go (Ends k end) o = either i (eqb end (drawn r x).start) (Ruby s k) rest o h
+    go : (f : Option Far) → Of i f → Earlier i (touched_at s f (drawn r x).start rest)
+    go None o = h
+    go (Some f) o = either i (eqb f.end (drawn r x).start) (Ruby s f.whose) rest o h
 
 module _ (i : ℕ) (b : Before) (e : Element) (x : ℕ) (behind : Behind i b) where
   by_ruby_lem : Earlier i (ruby_after b e x)
@@ -65,18 +63,18 @@ module _ (i : ℕ) (b : Before) (e : Element) (x : ℕ) (behind : Behind i b) wh
   unfolding reason_after
   reason-behind = either i (eqb (block_of e x).start 0) Start _ tt (by_last (ruby_after b e x) by_ruby_lem)
 
-of-next : (i : ℕ) (f : Far) (r : Reading) (x : ℕ) → Of i f → Of (i + 1) (further i f r x)
+of-next : (i : ℕ) (f : Option Far) (r : Reading) (x : ℕ) → Of i f → Of (i + 1) (further i f r x)
 of-next i f r x o = go r.there f o
   where
-    nearer : (t : Bool) (k end upto : ℕ) → k < i → Of (i + 1) (cond t (Ends i upto) (Ends k end))
-    nearer true k end upto h = omega arith
-    nearer false k end upto h = omega arith
+    nearer : (t : Bool) (f : Far) (upto : ℕ) → f.whose < i → Of (i + 1) (cond t (Some (record { whose = i; end = upto })) (Some f))
+    nearer true f upto h = omega arith
+    nearer false f upto h = omega arith
 
-    go : (t : Bool) (f : Far) → Of i f → Of (i + 1) (cond t (longer i f (drawn r x).end) f)
-    go true Nothing o = omega arith
-    go true (Ends k end) o = nearer (leb end (drawn r x).end) k end (drawn r x).end o
-    go false Nothing o = tt
-    go false (Ends k end) o = omega arith
+    go : (t : Bool) (f : Option Far) → Of i f → Of (i + 1) (cond t (longer i f (drawn r x).end) f)
+    go true None o = omega arith
+    go true (Some f) o = nearer (leb f.end (drawn r x).end) f (drawn r x).end o
+    go false None o = tt
+    go false (Some f) o = omega arith
 
 pub behind-next : (i : ℕ) (b : Before) (e : Element) (x : ℕ) → Behind i b → Behind (i + 1) (passed i b e x)
 behind-next i b e x h = record { right = of-next i b.right e.right x h.right; left = of-next i b.left e.left x h.left }

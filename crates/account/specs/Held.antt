@@ -1,7 +1,6 @@
 -- In a line that is set something holds each element: its origin is the largest of a few lower bounds, four for each side, and so one of them is met.
 use Rattle.std.specs.Prelude.{◌≡◌, refl, Bool, true, false, cond, List, ◌⊎◌, ℕ, zero, suc, ◌+◌, ◌-◌, ◌≤◌, ◌<◌, max, length, T}
-use Rattle.std.proofs.Common.{sym, ◌∙◌, inl, inr}
-use native.Mathlib.Omega.{arith}
+use Rattle.std.proofs.Common.{sym, ◌∙◌, inl, inr, arith}
 use Rattle.std.proofs.Math.Decide.{dec_lt}
 use Rattle.line.specs.declared.Element.{Element}
 use Rattle.line.specs.declared.Side.{Side}

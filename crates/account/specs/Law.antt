@@ -1,10 +1,7 @@
 -- The account of one step is that of the line: where no ruby of a side before an element ends past the start of its ruby there, the one that it touches is
 -- the one that reaches furthest.
-use Rattle.std.specs.Prelude.{◌≡◌, Bool, true, false, ◌&&◌, List, length, T, eqb, leb}
-use Rattle.std.proofs.Math.Path.{refl, ap}
-use Rattle.std.proofs.Common.{◌∙◌, arith, ne_eqb, leb-true, leb-false, eqb-true}
-use Rattle.std.proofs.Math.Bool.{cond}
-use Prim.Native.Nat.{ℕ, zero, suc, ◌≤◌, ◌<◌}
+use Rattle.std.specs.Prelude.{◌≡◌, Bool, true, false, ◌&&◌, List, Option, Some, None, length, T, eqb, leb, refl, cond, ℕ, zero, suc, ◌≤◌, ◌<◌}
+use Rattle.std.proofs.Common.{◌∙◌, arith, ne_eqb, leb-true, leb-false, eqb-true, ap}
 use Rattle.std.proofs.lemmas.Bool.{eqb-false}
 use Rattle.line.specs.declared.Element.{Element}
 use Rattle.line.specs.declared.Reading.{Reading}
@@ -15,49 +12,51 @@ use Rattle.line.proofs.Pairs.{rubies-order}
 use Rattle.account.specs.declared.Reason.{Reason}
 use Rattle.account.specs.declared.Reason.TheVariants.{Start, Ruby, Edge, Free}
 use Rattle.account.specs.declared.Far.{Far}
-use Rattle.account.specs.declared.Far.TheVariants.{Nothing, Ends}
 use Rattle.account.specs.declared.Before.{Before}
 use Rattle.account.specs.Reasons.{drawn, meets, starts, by_side, neighbour, rubies, rubies_of, by_ruby, reason, back, account_of}
 use Rattle.account.specs.Step.{far, touched_at, touched_on, ruby_after, beside_last, reason_after, end_before, account_after, longer, further, passed, standing}
 
 -- the furthest ruby ends at or before z
-abbrev Below : ℕ → Far → Type 0
-Below z Nothing = Unit {0}
-Below z (Ends k end) = end ≤ z
+abbrev Below : ℕ → Option Far → Type 0
+Below z None = Unit {0}
+Below z (Some f) = f.end ≤ z
 
 -- one element more, with the number k and the reading p at y, before ruby that starts at z
 module _ (s : Side) (z : ℕ) (rest : Reason) (k : ℕ) (p : Reading) (y : ℕ) where
   abbrev u : ℕ
   u = (drawn p y).end
 
-  below_more : (f : Far) → Below z f → (T p.there → u ≤ z) → Below z (further k f p y)
+  abbrev one : Option Far
+  one = Some (record { whose = k; end = u })
+
+  below_more : (f : Option Far) → Below z f → (T p.there → u ≤ z) → Below z (further k f p y)
   below_more f b h = go p.there h
     where
-      pick : (c : Bool) (j end : ℕ) → u ≤ z → end ≤ z → Below z (cond c (Ends k u) (Ends j end))
-      pick true j end h l = h
-      pick false j end h l = l
+      pick : (c : Bool) (g : Far) → u ≤ z → g.end ≤ z → Below z (cond c one (Some g))
+      pick true g h l = h
+      pick false g h l = l
 
-      last : (f : Far) → Below z f → u ≤ z → Below z (longer k f u)
-      last Nothing b h = h
-      last (Ends j end) b h = pick (leb end u) j end h b
+      last : (f : Option Far) → Below z f → u ≤ z → Below z (longer k f u)
+      last None b h = h
+      last (Some g) b h = pick (leb g.end u) g h b
 
       go : (q : Bool) → (T q → u ≤ z) → Below z (cond q (longer k f u) f)
       go false h = b
       go true h = last f b (h tt)
 
-  touched-more : (f : Far) → Below z f → (T p.there → u ≤ z) → touched_at s (further k f p y) z rest ≡ cond (meets p y z) (Ruby s k) (touched_at s f z rest)
+  touched-more : (f : Option Far) → Below z f → (T p.there → u ≤ z) → touched_at s (further k f p y) z rest ≡ cond (meets p y z) (Ruby s k) (touched_at s f z rest)
   touched-more f b h = go p.there h
     where
-      pick : (c d : Bool) (j end : ℕ) → u ≤ z → end ≤ z → leb end u ≡ c → eqb u z ≡ d →
-          touched_at s (cond c (Ends k u) (Ends j end)) z rest ≡ cond d (Ruby s k) (touched_at s (Ends j end) z rest)
-      pick true true j end h l q m = rw m
-      pick true false j end h l q m = rw (m, ne_eqb end z (λ w. eqb-false u z m (omega (arith, leb-true end u q))))
-      pick false false j end h l q m = refl
-      pick false true j end h l q m = absurd (omega (arith, leb-false end u q, eqb-true u z m))
+      pick : (c d : Bool) (g : Far) → u ≤ z → g.end ≤ z → leb g.end u ≡ c → eqb u z ≡ d →
+          touched_at s (cond c one (Some g)) z rest ≡ cond d (Ruby s k) (touched_at s (Some g) z rest)
+      pick true true g h l q m = rw m
+      pick true false g h l q m = rw (m, ne_eqb g.end z (λ w. eqb-false u z m (omega (arith, leb-true g.end u q))))
+      pick false false g h l q m = refl
+      pick false true g h l q m = absurd (omega (arith, leb-false g.end u q, eqb-true u z m))
 
-      last : (f : Far) → Below z f → u ≤ z → touched_at s (longer k f u) z rest ≡ cond (eqb u z) (Ruby s k) (touched_at s f z rest)
-      last Nothing b h = refl
-      last (Ends j end) b h = pick (leb end u) (eqb u z) j end h b refl refl
+      last : (f : Option Far) → Below z f → u ≤ z → touched_at s (longer k f u) z rest ≡ cond (eqb u z) (Ruby s k) (touched_at s f z rest)
+      last None b h = refl
+      last (Some g) b h = pick (leb g.end u) (eqb u z) g h b refl refl
 
       go : (q : Bool) → (T q → u ≤ z) → touched_at s (cond q (longer k f u) f) z rest ≡ cond (q && eqb u z) (Ruby s k) (touched_at s f z rest)
       go false h = refl
@@ -68,7 +67,7 @@ far-passed : (s : Side) (i : ℕ) (b : Before) (e : Element) (x : ℕ) → far s
 far-passed Right i b e x = refl
 far-passed Left i b e x = refl
 
-far_none : (s : Side) (es : List Element) (xs : List ℕ) → far s (standing es xs 0) ≡ Nothing
+far_none : (s : Side) (es : List Element) (xs : List ℕ) → far s (standing es xs 0) ≡ None
 unfolding standing
 far_none Right es xs = refl
 far_none Left es xs = refl

@@ -35,9 +35,6 @@ meets q y z = q.there && eqb (drawn q y).end z
 abbrev pub starts : Reading → ℕ → Bool
 starts r x = r.there && eqb (drawn r x).start 0
 
-abbrev pub edged : Side → Reading → ℕ → Reason → Reason
-edged s r x rest = cond (starts r x) (Edge s) rest
-
 -- the right side's reason where its test holds, or else the left side's, or else the rest
 abbrev pub by_side : (Side → Bool) → (Side → Reason) → Reason → Reason
 by_side t r rest = cond (t Right) (r Right) (cond (t Left) (r Left) rest)

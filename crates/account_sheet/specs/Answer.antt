@@ -1,11 +1,10 @@
 -- The account of a sheet, from its bytes alone, and what the lent tables and lists are afterwards.
-use Rattle.std.specs.Prelude.{cond, List, [], ◌++◌, ◌≡◌, ℕ, ◌≤◌, eqb}
+use Rattle.std.specs.Prelude.{cond, List, [], ◌++◌, ◌≡◌, ℕ, ◌≤◌, eqb, Ok, Err, Result}
+use Rattle.sheet.specs.declared.Counts.{Counts}
 use Rattle.std.proofs.Math.Option.{Option, none, some}
 use Rattle.text.specs.Print.{Wrote}
 use Rattle.refusal.specs.declared.Refusal.{Refusal}
 use Rattle.refusal.specs.Refusal.{number_of, place_of}
-use Rattle.sheet.specs.declared.Reading.{Reading}
-use Rattle.sheet.specs.declared.Reading.TheVariants.{Sound, Refused}
 use Rattle.sheet.specs.Sheet.{Sheet, reading, Tables, Into}
 use Rattle.door.specs.Job.{Job}
 use Rattle.job.specs.Refusals.{fault}
@@ -37,10 +36,10 @@ unfolding telling_text fault
 job_account job m = telling_text job (fault job 1024 2048 2048 m)
 
 -- "The other checks follow a sound reading." The program's lists have the maximum lengths.
-unfoldable pub account_by : Sheet → Reading → List ℕ
+unfoldable pub account_by : Sheet → Result Counts Refusal → List ℕ
 unfolding job_account sheet_job refusal_text
-account_by t (Refused r) = refusal_text r
-account_by t (Sound n) = job_account (sheet_job t) 1024
+account_by t (Err r) = refusal_text r
+account_by t (Ok n) = job_account (sheet_job t) 1024
 
 -- the whole account of a sheet
 unfoldable pub account_of_sheet : List ℕ → List ℕ
@@ -61,10 +60,10 @@ abbrev pub leaves : Job → Lists → Lists
 leaves job was = let o = telling job was.rows was.told was.wide in lists o.rows o.told o.extents
 
 -- and as a sheet leaves them: moved only where the reading is sound
-unfoldable pub lists_by : Sheet → Reading → Lists → Lists
+unfoldable pub lists_by : Sheet → Result Counts Refusal → Lists → Lists
 unfolding sheet_job telling
-lists_by t (Refused r) was = was
-lists_by t (Sound n) was = leaves (sheet_job t) was
+lists_by t (Err r) was = was
+lists_by t (Ok n) was = leaves (sheet_job t) was
 
 -- A job is told: its lists are those of its account, and its text stands at the front of `out`.
 pub record Told (job : Job) (was : Lists) (out : List ℕ) (r : ℕ) (now : Lists) (newOut : List ℕ) : Type 0 where

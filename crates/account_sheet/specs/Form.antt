@@ -1,6 +1,6 @@
 -- What the account of a sheet is, said of its bytes, as for the setting: `refused 13 L` exactly of bytes that break the form on line L, `refused 2 P` exactly of those in which a count over its
 -- maximum is the first fault, and `refused 12 P` of none.
-use Rattle.std.specs.Prelude.{cond, List, [], ◌++◌, ◌↔◌, ◌≡◌, ℕ, ◌≤◌, eqb, get_or}
+use Rattle.std.specs.Prelude.{cond, List, [], ◌++◌, ◌↔◌, ◌≡◌, ℕ, ◌≤◌, eqb, get_or, Ok, Err, Result}
 use Rattle.std.proofs.Math.Option.{Option, none, some}
 use Rattle.std.proofs.Math.Path.{refl, ap}
 use Rattle.std.proofs.Common.{arith}
@@ -9,8 +9,6 @@ use Rattle.text.specs.Print.{bytes, decimal}
 use Rattle.refusal.specs.declared.Refusal.{Refusal}
 use Rattle.refusal.specs.Refusal.{number_of, place_of}
 use Rattle.sheet.specs.declared.Counts.{Counts}
-use Rattle.sheet.specs.declared.Reading.{Reading}
-use Rattle.sheet.specs.declared.Reading.TheVariants.{Sound, Refused}
 use Rattle.sheet.specs.Sheet.{reading}
 use Rattle.sheet.specs.Form.{Over}
 use Rattle.sheet.specs.Breaks.{Breaks}
@@ -35,22 +33,22 @@ unfolding declined_text
 declined-number job r n p small e = refused-begins r (cond (eqb (number_of r) 11) (needs_text (needed job (place_of r)) job.measure) []) n p small e
 
 module _ (s : List ℕ) where
-  job-gives : (n p : ℕ) → n ≤ most → (c : Counts) → (reading s).end ≡ Sound c → (f : Option Refusal) → fault (sheet_job (reading s)) 1024 2048 2048 1024 ≡ f →
+  job-gives : (n p : ℕ) → n ≤ most → (c : Counts) → (reading s).end ≡ Ok c → (f : Option Refusal) → fault (sheet_job (reading s)) 1024 2048 2048 1024 ≡ f →
       telling_text (sheet_job (reading s)) f ≡ line_two (bytes "refused") n p → Given s n p
   unfolding telling_text
   job-gives n p small c is none g e = absurd (account-other (sheet_job (reading s)) n p e)
   job-gives n p small c is (some r) g e = by-job c r (declined-number (sheet_job (reading s)) r n p small e) is (given-first (sheet_job (reading s)) 1024 2048 2048 1024 r g)
 
-  sheet-gives : (n p : ℕ) → n ≤ most → (x : Reading) → (reading s).end ≡ x → account_by (reading s) x ≡ line_two (bytes "refused") n p → Given s n p
+  sheet-gives : (n p : ℕ) → n ≤ most → (x : Result Counts Refusal) → (reading s).end ≡ x → account_by (reading s) x ≡ line_two (bytes "refused") n p → Given s n p
   unfolding account_by job_account
-  sheet-gives n p small (Refused r) is e = let x = refused-is r n p small e in by-sheet r x.0 x.1 is
-  sheet-gives n p small (Sound c) is e = job-gives n p small c is (fault (sheet_job (reading s)) 1024 2048 2048 1024) refl e
+  sheet-gives n p small (Err r) is e = let x = refused-is r n p small e in by-sheet r x.0 x.1 is
+  sheet-gives n p small (Ok c) is e = job-gives n p small c is (fault (sheet_job (reading s)) 1024 2048 2048 1024) refl e
 
   gives : (n p : ℕ) → n ≤ most → account_of_sheet s ≡ line_two (bytes "refused") n p → Given s n p
   unfolding account_of_sheet
   gives n p small e = sheet-gives n p small (reading s).end refl e
 
-  read : (r : Refusal) → (reading s).end ≡ Refused r → account_of_sheet s ≡ refusal_text r
+  read : (r : Refusal) → (reading s).end ≡ Err r → account_of_sheet s ≡ refusal_text r
   unfolding account_of_sheet
   read r e = ap (account_by (reading s)) e
 

@@ -19,6 +19,7 @@ use Rattle.job.specs.Order.{lines-turn}
 use Rattle.cells.specs.Sound.{Sound}
 use Rattle.join.specs.Rows.{Holds}
 use Rattle.join.specs.Join.{sound}
+use Rattle.cells.specs.Rows.{Rows}
 use Rattle.engine.specs.Filled.{Stopped}
 use Rattle.result.specs.Text.{refusal_text}
 use Rattle.shortest.specs.Needed.{needed}
@@ -28,7 +29,7 @@ use Rattle.account_text.specs.Text.{needs_text}
 use Rattle.account_sheet.specs.Answer.{refused_text, declined_text}
 
 -- what is asked for to write a refusal: room, and of a line that is declined a table of n rows that tells what it needs
-pub record Declined (t : List ℕ) (n measure : ℕ) (r : Refusal) (out : List ℕ) : Type 0 where
+pub record Declined (t : Rows) (n measure : ℕ) (r : Refusal) (out : List ℕ) : Type 0 where
   pub line : number_of r ≡ 11 → ((Sound t n) × (place_of r < n)) × (measure < 2 ^ 31)
   pub room : 66 ≤ length out
 
@@ -38,7 +39,7 @@ unfolding by_paper
 eleven r e = of_number r 11 e
 
 -- a job is refused
-module _ {job : Job} {was wasFar t found far : List ℕ} {q : Refusal} (stopped : Stopped job 1024 2048 2048 1024 was wasFar t found far q) where
+module _ {job : Job} {was wasFar : List ℕ} {t : Rows} {found far : List ℕ} {q : Refusal} (stopped : Stopped job 1024 2048 2048 1024 was wasFar t found far q) where
   -- a line of it is declined
   module _ (h : number_of q ≡ 11) where
     turn : (own_faults job 1024 2048 2048 1024 ≡ []) × (head? (lines_faults job) ≡ some (NoBreak (place_of q)))

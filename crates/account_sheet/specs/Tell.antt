@@ -12,6 +12,7 @@ use Rattle.door.specs.Job.{Job, base_count, element_count}
 use Rattle.job.specs.Line.{ends}
 use Rattle.job.specs.Promise.{Filled}
 use Rattle.job.proofs.Declined.{filled}
+use Rattle.cells.specs.Rows.{Rows}
 use Rattle.engine.specs.Fault as fault
 use Rattle.engine.specs.Filled.{Stopped, Full, no-fault}
 use Rattle.result.specs.Text.{refusal_text}
@@ -48,7 +49,7 @@ module _ (why : Refusal) (needs measure : ℕ) where
       go false = omega (arith, length-append (refusal_text why) [], refusal_short why)
 
 -- The lists of n lines, as a table and the lines' ends and extents tell them; entries that are not used stay.
-pub record Listed (t : List ℕ) (n : ℕ) (found far : List ℕ) (was now : Lists) : Type 0 where
+pub record Listed (t : Rows) (n : ℕ) (found far : List ℕ) (was now : Lists) : Type 0 where
   pub lines : (now.rows ≡ sets was.rows 0 (rows_by t first 0 (take n found))) × (now.told ≡ sets was.told 0 (counts_by t first 0 (take n found)))
   pub extent : now.wide ≡ sets was.wide 0 (take n far)
 
@@ -100,7 +101,7 @@ module _ (job : Job) (rows told wide : List ℕ) (is : 1024 ≡ room rows told w
       }
 
   -- it is refused
-  module _ {was wasFar t found far : List ℕ} {q : Refusal} (stopped : Stopped job 1024 2048 2048 1024 was wasFar t found far q) where
+  module _ {was wasFar : List ℕ} {t : Rows} {found far : List ℕ} {q : Refusal} (stopped : Stopped job 1024 2048 2048 1024 was wasFar t found far q) where
     refused_text_lem : job_account job 1024 ≡ declined_text job q
     unfolding job_account telling_text
     refused_text_lem = rw stopped.first
@@ -113,7 +114,7 @@ module _ (job : Job) (rows told wide : List ℕ) (is : 1024 ≡ room rows told w
     told-refused wrote = tells (outcome.refused job rows told wide 1024 is stopped) refused_text_lem declined-most wrote
 
   -- it is accepted, and its n lines are told
-  module _ (was wasFar t found far : List ℕ) (n : ℕ) (full : Full job 1024 2048 2048 1024 was wasFar t found far n) (rows2 told2 wide2 : List ℕ)
+  module _ (was wasFar : List ℕ) (t : Rows) (found far : List ℕ) (n : ℕ) (full : Full job 1024 2048 2048 1024 was wasFar t found far n) (rows2 told2 wide2 : List ℕ)
       (listed : Listed t n found far (lists rows told wide) (lists rows2 told2 wide2)) where
     kept : LinesTold job rows told wide rows2 told2 wide2
     kept = outcome.lines-told job rows told wide 1024 is was wasFar t found far n full rows2 told2 wide2 listed.lines listed.extent

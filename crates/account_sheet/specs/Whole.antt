@@ -1,12 +1,10 @@
 -- From the reading to the account: a sheet that breaks its form is refused, and the tables of a sound one hold its job.
-use Rattle.std.specs.Prelude.{List, ◌≡◌, ℕ, ◌/◌, ◌≤◌, min, length}
+use Rattle.std.specs.Prelude.{List, ◌≡◌, ℕ, ◌/◌, ◌≤◌, min, length, Ok, Err, Result}
 use Rattle.std.proofs.Common.{sym, ap, subst, ◌∙◌, arith, length-take-le}
 use Rattle.std.proofs.Math.Seq.{length-sets}
 use Rattle.text.specs.Print.{Wrote}
 use Rattle.refusal.specs.declared.Refusal.{Refusal}
 use Rattle.sheet.specs.declared.Counts.{Counts}
-use Rattle.sheet.specs.declared.Reading.{Reading}
-use Rattle.sheet.specs.declared.Reading.TheVariants.{Sound, Refused}
 use Rattle.sheet.specs.Sheet.{reading, Tables, Into}
 use Rattle.result.specs.Text.{refusal_text}
 use Rattle.result.specs.Short.{refusal_short}
@@ -23,7 +21,7 @@ fits {s} {out = out} {out' = out'} {r = r} a l =
     (within, sym (length-take-le r out' within))
 
 -- a sheet that is refused
-pub answered-refused : {s : List ℕ} {was t : Tables} {a : Reading} → Into s was a t → {before : Lists} {out out' : List ℕ} {r : ℕ} {why : Refusal} → a ≡ Refused why → Wrote out 0 (refusal_text why) r out' →
+pub answered-refused : {s : List ℕ} {was t : Tables} {a : Result Counts Refusal} → Into s was a t → {before : Lists} {out out' : List ℕ} {r : ℕ} {why : Refusal} → a ≡ Err why → Wrote out 0 (refusal_text why) r out' →
     Answered s was before out r t before out'
 unfolding account_of_sheet account_by lists_by
 answered-refused {s} into {before} {out} {out'} {r} {why} e wrote =
@@ -43,7 +41,7 @@ most rows told wide f g h = go (length rows) (length told) (length wide) f g h
     go a b c f g h = omega arith
 
 -- a sheet that keeps its form
-pub answered-sound : {s : List ℕ} {was t : Tables} {a : Reading} {n : Counts} → Into s was a t → a ≡ Sound n → Lent t →
+pub answered-sound : {s : List ℕ} {was t : Tables} {a : Result Counts Refusal} {n : Counts} → Into s was a t → a ≡ Ok n → Lent t →
     {before now : Lists} {out out' : List ℕ} {r : ℕ} → 1024 ≡ room before.rows before.told before.wide →
     Told (tables_job n t) before out r now out' → Answered s was before out r t now out'
 unfolding account_of_sheet account_by lists_by

@@ -14,11 +14,10 @@ ghost use Rattle.account_sheet.specs.Answer.{lists, Answered, refused_text};
 ghost use Rattle.account_sheet.specs.Needs.{Declined};
 ghost use Rattle.account_sheet.specs.Tell.{Listed, clear_text, ClearReady};
 
-// A refusal by its number and place; of a line that is too long also the extent that it needs, by the n rows of the job's table, and the measure. The table is lent as an array here and
-// below, so that nothing is asked of its length.
+// A refusal by its number and place; of a line that is too long also the extent that it needs, by the n rows of the job's table, and the measure.
 fn write_declined(
     why: refusal::Refusal,
-    t: &[u32; engine::TABLE],
+    t: &cells::Table,
     n: usize,
     measure: u32,
     out: &mut [u8],
@@ -27,16 +26,16 @@ fn write_declined(
     ensures { Wrote out.old 0 (refused_text why (needed_of t.now n (place_of why)) measure) result out.new }
 {
     let at = result::write_refusal(why, out);
-    if refusal::number(why) != 11 {
+    if why.number() != 11 {
         return at;
     }
-    let needed = shortest::needed_extent(t, n, refusal::place(why) as usize);
+    let needed = shortest::needed_extent(t, n, why.place() as usize);
     account_text::put_needs(out, at, needed, measure)
 }
 
 // The account's lists of n lines, which end where the front of `ends` says and have the extents at the front of `found`.
 fn put_lists(
-    t: &[u32; engine::TABLE],
+    t: &cells::Table,
     n: usize,
     ends: &[u32; limits::MOST_BASES],
     found: &[u32; limits::MOST_BASES],
@@ -74,7 +73,7 @@ fn write_clear(
     account_text::write_account(n, elements, readings, rows, told, extents, out)
 }
 
-// The account of a sheet. The answer is how many bytes of `out` its text has.
+/// The account of a sheet. The answer is how many bytes of `out` its text has.
 pub fn account_sheet(
     s: &[u8],
     set: &mut [u32; limits::SET],
@@ -93,20 +92,24 @@ pub fn account_sheet(
     ensures fits { Fits result out.new }
 {
     match sheet::read_sheet(s, set, base, ruby, left, elem, runs, lruns) {
-        sheet::Reading::Refused(why) => result::write_refusal(why, out),
-        sheet::Reading::Sound(n) => {
+        Err(why) => result::write_refusal(why, out),
+        Ok(n) => {
             // Slices from here on: a list's length is known once a slice is made of it.
             let rows: &mut [u32] = rows;
             let told: &mut [u32] = told;
             let extents: &mut [u32] = extents;
-            let mut t = [0; engine::TABLE];
+            let mut list = [cells::NO_CELL; limits::MOST_BASES];
             let mut ends = [0; limits::MOST_BASES];
             let mut found = [0; limits::MOST_BASES];
             match sheet_job::fill_tables(
-                &mut t, &mut ends, &mut found, n, set, base, ruby, left, elem, runs, lruns,
+                &mut list, &mut ends, &mut found, n, set, base, ruby, left, elem, runs, lruns,
             ) {
-                filling::Lines::Refused(why) => { write_declined(why, &t, n.bases, set[1], out) }
-                filling::Lines::Filled(k) => {
+                Err(why) => {
+                    let t = sheet_job::table(set, &list);
+                    write_declined(why, &t, n.bases, set[1], out)
+                }
+                Ok(k) => {
+                    let t = sheet_job::table(set, &list);
                     put_lists(&t, k, &ends, &found, rows, told, extents);
                     write_clear(k, n.elements, elem, rows, told, extents, out)
                 }

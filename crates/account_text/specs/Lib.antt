@@ -5,3 +5,4 @@ pub mod Rows
 pub mod Lists
 pub mod Job
 pub mod Short
+pub mod Parts

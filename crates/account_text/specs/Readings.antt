@@ -83,3 +83,5 @@ measure m = said (bytes " measure ") (2 * m)
 pub needs-left : {t : List ℕ} {from : ℕ} (n m : ℕ) → from + length (needs_text n m) ≤ length t → Left t from (needs_text n m) t from (needs n ++ (measure m ++ (10 ∷ [])))
 unfolding needs_text
 needs-left n m h = left-first h
+
+pub ruleset reading_steps = (readings-none, readings-more, readings-few)

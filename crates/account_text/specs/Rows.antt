@@ -106,3 +106,5 @@ module _ {out : List ℕ} {from q e : ℕ} {rows : List ℕ} (head : List ℕ) (
     rest-ready =
         let l = left-next head (rows_text (segment rows q e)) head-left w in
         record { ordered = ready.ordered; within = ready.within; small = ready.small; room = omega (arith, l.room, l.long, l.next) }
+
+pub ruleset row_steps = (going_first, row-ready, going_next, going_end)

@@ -1,14 +1,21 @@
 -- Laws of `Lists`: of sums, of searches and tests, of counts, and of a list that is written from the front.
 use Rattle.std.specs.Prelude.{◌≡◌, refl, Bool, true, false, ◌||◌, List, [], ◌∷◌, ◌++◌, map, ℕ, zero, suc, ◌+◌, ◌-◌, ◌≤◌, ◌<◌, eqb, length, take, drop, get_or, set}
-use Rattle.std.proofs.Common.{ap, ap₂, ◌∙◌, sym, subst, true≢false, append_assoc, add-one, zero-add, add-zero, add-suc, suc-add, add_assoc, le_of_suc-le-suc, not-suc-le-zero, arith, eqb-true, drop_of_length-le, take-append-drop, length-append, length-take, length-drop, drop-cons, take-suc-set, take_at, length-take-le}
+use Rattle.std.proofs.Common.{ap, ap₂, ◌∙◌, sym, subst, true≢false, append_assoc, add-one, add-zero, add-suc, suc-add, le_of_suc-le-suc, not-suc-le-zero, arith, eqb-true, drop_of_length-le, length-append, length-take, length-drop, drop-cons, take-suc-set, take_at, length-take-le, zero-add, add_assoc, take-append-drop}
 use Rattle.std.proofs.Math.Nat.{add-sub_cancel_left}
 use Rattle.std.proofs.Math.Decide.{dec_lt}
 use Rattle.std.proofs.lemmas.Bool.{not-false}
 use Rattle.std.proofs.lemmas.List.Edits.{sets}
 use Rattle.std.proofs.Math.Seq.{append_snoc}
+use Rattle.std.specs.List.{sum as library}
+use Rattle.std.proofs.lemmas.List.Sums.{sum_by-cons}
 use Rattle.basics.specs.Lists.{sum, count, any, other, All}
 
 -- Sums.
+
+-- the library's word for them
+pub library_sum : (xs : List ℕ) → library xs ≡ sum xs
+library_sum [] = refl
+library_sum (x ∷ xs) = sum_by-cons (λ x. x) x xs ∙ ap (λ (n : ℕ). x + n) (library_sum xs)
 
 pub sum_step : (xs : List ℕ) (i : ℕ) → i < length xs → sum (drop i xs) ≡ get_or xs i 0 + sum (drop (i + 1) xs)
 sum_step xs i h = rw (add-one, drop-cons xs i 0)
@@ -141,3 +148,5 @@ sets_append was (x ∷ xs) ys a = sets_append (set was a x) xs ys (suc a) ∙ ap
   where
     step : (a n : ℕ) → suc a + n ≡ a + suc n
     step a n = omega arith
+
+pub ruleset sum_steps = (sum_step, drop_of_length-le)

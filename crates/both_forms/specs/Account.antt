@@ -1,9 +1,8 @@
 -- The account of a sheet is that of its conversion (`same-account`): it is told of the job alone, and the two forms of the same numbers have the same job.
-use Rattle.std.specs.Prelude.{List, ◌≡◌, refl, ℕ}
+use Rattle.std.specs.Prelude.{List, ◌≡◌, refl, ℕ, Ok}
 use Rattle.std.proofs.Math.Option.{none}
 use Rattle.elements.specs.declared.SheetForm.TheVariants.{One, Two}
 use Rattle.sheet.specs.declared.Counts.{Counts}
-use Rattle.sheet.specs.declared.Reading.TheVariants.{Sound}
 use Rattle.sheet.specs.Sheet.{reading}
 use Rattle.sheet.specs.Form.{Written, sheet_of, written_of}
 use Rattle.other_form.specs.Other.{Holds}
@@ -17,6 +16,6 @@ unfolding account_by sheet_job sheet_of
 same-told r = refl
 
 -- a sound sheet that form one can hold and whose job is accepted: what the account program writes of the two is the same
-pub same-account : (s : List ℕ) (c : Counts) → (reading s).end ≡ Sound c → Holds (written_of (reading s)) → given (reading s) ≡ none → account_of_sheet (convert_text s) ≡ account_of_sheet s
+pub same-account : (s : List ℕ) (c : Counts) → (reading s).end ≡ Ok c → Holds (written_of (reading s)) → given (reading s) ≡ none → account_of_sheet (convert_text s) ≡ account_of_sheet s
 unfolding account_of_sheet
 same-account s c sound holds ok = same_numbers s c sound holds ok (List ℕ) (λ t. account_by t t.end) same-told

@@ -1,6 +1,6 @@
--- The head of a table and its rows, and a line by rows: it begins at a base character s with what the row says of its element from here on, goes on at the next element, and ends at c, where
+-- A line by the rows of a table: it begins at a base character s with what the row says of its element from here on, goes on at the next element, and ends at c, where
 -- that cuts a J with the part of it up to c.
-use Rattle.std.specs.Prelude.{◌≡◌, Bool, true, false, cond, ◌&&◌, ◌||◌, List, [], ◌∷◌, ℕ, zero, suc, ◌+◌, ◌-◌, ◌*◌, ◌≤◌, ◌<◌, min, eqb, leb, ltb, length, get_or}
+use Rattle.std.specs.Prelude.{◌≡◌, Bool, true, false, cond, ◌&&◌, ◌||◌, List, [], ◌∷◌, ℕ, zero, suc, ◌+◌, ◌-◌, ◌*◌, ◌≤◌, ◌<◌, min, eqb, leb, ltb, length}
 use Rattle.spread.specs.declared.Way.{Way}
 use Rattle.spread.specs.declared.Way.TheVariants.{Solid, Spread, Limited}
 use Rattle.spread.specs.Ratio.{Ratios, Housed}
@@ -20,55 +20,11 @@ use Rattle.cells.specs.declared.Cell.{Cell}
 use Rattle.cells.specs.declared.LeftRow.{LeftRow}
 use Rattle.cells.specs.declared.Share.{Share}
 use Rattle.cells.specs.declared.Step.{Step}
+use Rattle.cells.specs.Rows.{Rows, row_in}
 
--- how many numbers a table of n rows has: eight at its head, and nineteen a row; and how many the left rows of n base characters have
-abbrev pub size : ℕ → ℕ
-size n = 8 + 19 * n
-
-abbrev pub left_size : ℕ → ℕ
-left_size n = 8 * n
-
--- what stands at its head: the house ratios, and em
-pub record Head : Type 0 where
-  pub ratios : Ratios
-  pub em : ℕ
-
-abbrev pub ratios_at : List ℕ → Ratios
-ratios_at t =
-    record {
-      ruby = record { a = get_or t 0 0; m = get_or t 1 0; c = get_or t 2 0 };
-      base = record { a = get_or t 3 0; m = get_or t 4 0; c = get_or t 5 0 };
-    }
-
-abbrev pub em_at : List ℕ → ℕ
-em_at t = get_or t 6 0
-
-abbrev pub head_at : List ℕ → Head
-head_at t = record { ratios = ratios_at t; em = em_at t }
-
--- and where the left readings begin, behind the rows; 0 where there are none
-abbrev pub lefts_at : List ℕ → ℕ
-lefts_at t = get_or t 7 0
-
-abbrev pub no_left : LeftRow
-no_left = record { from = 0; upto = 0; within = 0; runs = false; first = 0; many = 0; own = 0; more = false }
-
-abbrev pub left_row_at : List ℕ → ℕ → LeftRow
-left_row_at t at =
-    record {
-      from = get_or t at 0;
-      upto = get_or t (at + 1) 0;
-      within = get_or t (at + 2) 0;
-      runs = eqb (get_or t (at + 3) 0) 1;
-      first = get_or t (at + 4) 0;
-      many = get_or t (at + 5) 0;
-      own = get_or t (at + 6) 0;
-      more = eqb (get_or t (at + 7) 0) 1;
-    }
-
--- the left row of base character i, where the table has one
-unfoldable pub left_at : List ℕ → ℕ → LeftRow
-left_at t i = let at = lefts_at t + left_size i in cond (eqb (lefts_at t) 0) no_left (cond (ltb (length t) (at + 8)) no_left (left_row_at t at))
+-- row i
+abbrev pub cell_at : Rows → ℕ → Cell
+cell_at t i = row_in t.rows i
 
 -- a left reading is there where it has characters
 abbrev pub left_reading : LeftRow → Reading
@@ -95,46 +51,6 @@ beside c l =
       ownleft = l.own;
       more = l.more;
     }
-
--- row i, without its left reading and with it
-abbrev pub row_at : List ℕ → ℕ → Cell
-row_at t i =
-    let at = size i in
-    record {
-      bases = get_or t at 0;
-      cut = eqb (get_or t (at + 1) 0) 1;
-      ends = eqb (get_or t (at + 2) 0) 1;
-      word =
-          record {
-            front = get_or t (at + 3) 0;
-            len = get_or t (at + 4) 0;
-            inbase = get_or t (at + 5) 0;
-            right =
-                record {
-                  there = eqb (get_or t (at + 6) 0) 1;
-                  from = get_or t (at + 7) 0;
-                  upto = get_or t (at + 8) 0;
-                  within = get_or t (at + 9) 0;
-                  runs = eqb (get_or t (at + 10) 0) 1;
-                };
-            left = none;
-          };
-      before = get_or t (at + 11) 0;
-      after = get_or t (at + 12) 0;
-      ruby = get_or t (at + 13) 0;
-      rubies = get_or t (at + 14) 0;
-      left = 0;
-      lefts = 0;
-      own = get_or t (at + 15) 0;
-      wide = get_or t (at + 16) 0;
-      over = get_or t (at + 17) 0;
-      western = eqb (get_or t (at + 18) 0) 1;
-      ownleft = 0;
-      more = false;
-    }
-
-abbrev pub cell_at : List ℕ → ℕ → Cell
-cell_at t i = beside (row_at t i) (left_at t i)
 
 -- what a row says of the characters of one side: the first, how many, and the width of its own run
 abbrev pub share_of : Side → Cell → Share
@@ -169,23 +85,23 @@ abbrev pub over_with : ℕ → Cell → ℕ
 over_with em z = z.over + cond (ltb em z.own) 1 0
 
 -- the base characters i up to c of a J, by the rows of the first and the last of them: with a left reading, and without
-unfoldable pub both : List ℕ → ℕ → ℕ → Word
+unfoldable pub both : Rows → ℕ → ℕ → Word
 unfolding both_by
 both t i c =
     let a = cell_at t i in
     let z = cell_at t (c - 1) in
-    both_by (ratios_at t) (em_at t) (c - i) (record { width = a.own; count = a.rubies }) (record { width = a.ownleft; count = a.lefts }) z.own z.ownleft
+    both_by t.ratios t.em (c - i) (record { width = a.own; count = a.rubies }) (record { width = a.ownleft; count = a.lefts }) z.own z.ownleft
 
-unfoldable pub part : List ℕ → ℕ → ℕ → Word
+unfoldable pub part : Rows → ℕ → ℕ → Word
 unfolding part_by both
 part t i c =
     let a = cell_at t i in
     let z = cell_at t (c - 1) in
     cond (ltb 0 a.lefts) (both t i c)
-    (part_by (ratios_at t) (em_at t) (c - i) (z.wide + z.own - a.wide) (z.ruby + z.rubies - a.ruby) (eqb a.over (over_with (em_at t) z)) a.own z.own a.western)
+    (part_by t.ratios t.em (c - i) (z.wide + z.own - a.wide) (z.ruby + z.rubies - a.ruby) (eqb a.over (over_with t.em z)) a.own z.own a.western)
 
 -- the word of the piece from i up to c, its element's end or a break within it: no other element than a J is ever cut
-unfoldable pub word_at : List ℕ → ℕ → ℕ → Word
+unfoldable pub word_at : Rows → ℕ → ℕ → Word
 unfolding part
 word_at t i c = cond (cell_at t i).cut (part t i c) (cell_at t i).word
 
@@ -196,7 +112,7 @@ seen v = record { there = v.there; from = v.from; upto = v.upto }
 abbrev pub element_of : Word → ℕ → ℕ → Element
 element_of w before after = record { front = w.front; len = w.len; right = seen w.right; left = seen w.left; before = before; after = after }
 
-abbrev pub piece : List ℕ → ℕ → ℕ → Element
+abbrev pub piece : Rows → ℕ → ℕ → Element
 piece t i c = element_of (word_at t i c) (cell_at t i).before (cell_at t i).after
 
 -- one piece more
@@ -208,32 +124,32 @@ abbrev pub step_of : Word → ℕ → ℕ → State → Step
 step_of w before after st = let e = element_of w before after in record { word = w; at = origin st e; st = next st e }
 
 -- the piece from i up to c after the line so far
-abbrev pub step_at : List ℕ → State → ℕ → ℕ → Step
+abbrev pub step_at : Rows → State → ℕ → ℕ → Step
 step_at t st i c = step_of (word_at t i c) (cell_at t i).before (cell_at t i).after st
 
 -- the piece from i ends with its element, or where the line does
-abbrev pub stop : List ℕ → ℕ → ℕ → ℕ
+abbrev pub stop : Rows → ℕ → ℕ → ℕ
 stop t i c = min c (i + (cell_at t i).bases)
 
 -- from i on up to c, at most k pieces
-unfoldable pub walk : List ℕ → ℕ → State → ℕ → ℕ → State
+unfoldable pub walk : Rows → ℕ → State → ℕ → ℕ → State
 unfolding word_at
 walk t zero st i c = st
 walk t (suc k) st i c = cond (ltb i c) (walk t k (next st (piece t i (stop t i c))) (i + (cell_at t i).bases) c) st
 
-abbrev pub rest : List ℕ → State → ℕ → ℕ → State
+abbrev pub rest : Rows → State → ℕ → ℕ → State
 rest t st i c = walk t (c - i) st i c
 
 -- the line from s up to c
-abbrev pub state_at : List ℕ → ℕ → ℕ → State
+abbrev pub state_at : Rows → ℕ → ℕ → State
 state_at t s c = rest t start s c
 
 -- a line may end before base character c of n: at the job's end, or by the row of the one before it
-abbrev pub may_end : List ℕ → ℕ → ℕ → Bool
+abbrev pub may_end : Rows → ℕ → ℕ → Bool
 may_end t n c = let a = cell_at t (c - 1) in eqb c n || cond (eqb a.bases 1) a.ends a.cut
 
 -- the line from s up to c ends within the limit, in half units
-abbrev pub holds : ℕ → List ℕ → ℕ → ℕ → Bool
+abbrev pub holds : ℕ → Rows → ℕ → ℕ → Bool
 holds limit t s c = leb (furthest (state_at t s c)) limit
 
 -- the last of the k numbers behind s that passes a test, or d
@@ -241,22 +157,22 @@ unfoldable pub last_of : (ℕ → Bool) → ℕ → ℕ → ℕ → ℕ
 last_of p d s zero = d
 last_of p d s (suc k) = cond (p (s + suc k)) (s + suc k) (last_of p d s k)
 
-abbrev pub breaks : ℕ → List ℕ → ℕ → ℕ → ℕ → Bool
+abbrev pub breaks : ℕ → Rows → ℕ → ℕ → ℕ → Bool
 breaks limit t n s c = may_end t n c && holds limit t s c
 
 -- where the line from s ends, of n base characters: the furthest permitted break whose line can be set, or 0
-unfoldable pub end_of : ℕ → List ℕ → ℕ → ℕ → ℕ
+unfoldable pub end_of : ℕ → Rows → ℕ → ℕ → ℕ
 unfolding last_of walk
 end_of limit t n s = last_of (breaks limit t n s) 0 s (n - s)
 
 -- the ends of at most k lines from s on
-unfoldable pub ends_from : ℕ → List ℕ → ℕ → ℕ → ℕ → List ℕ
+unfoldable pub ends_from : ℕ → Rows → ℕ → ℕ → ℕ → List ℕ
 unfolding end_of
 ends_from limit t n zero s = []
 ends_from limit t n (suc k) s = let e = end_of limit t n s in cond (eqb e 0) [] (e ∷ ends_from limit t n k e)
 
 -- the ends of all lines of a table of n rows
-unfoldable pub lines_of : ℕ → List ℕ → ℕ → List ℕ
+unfoldable pub lines_of : ℕ → Rows → ℕ → List ℕ
 unfolding ends_from
 lines_of limit t n = ends_from limit t n n 0
 
@@ -270,12 +186,12 @@ pub record Ran (a z : Cell) : Type 0 where
   pub few_left : a.lefts ≤ 4096
   pub narrow_left : a.ownleft ≤ 262144
 
-pub record Cuts (t : List ℕ) (i c : ℕ) : Type 0 where
-  pub small : em_at t ≤ 4096
-  pub house : Housed (ratios_at t)
+pub record Cuts (t : Rows) (i c : ℕ) : Type 0 where
+  pub small : t.em ≤ 4096
+  pub house : Housed t.ratios
   pub ahead : i < c
   pub few : c ≤ i + 32
-  pub held : size c ≤ length t
+  pub held : c ≤ length t.rows
   pub ran : Ran (cell_at t i) (cell_at t (c - 1))
 
 -- a piece that has ruby: a word, or a part of a J
@@ -297,8 +213,8 @@ pub record Flat (a : Cell) : Type 0 where
   pub after : a.after ≡ 0
 
 -- What a line asks for, to be taken on by the piece from i up to c.
-pub record Advances (t : List ℕ) (st : State) (i c : ℕ) : Type 0 where
-  pub held : size (i + 1) ≤ length t
+pub record Advances (t : Rows) (st : State) (i c : ℕ) : Type 0 where
+  pub held : i < length t.rows
   pub cuts : (cell_at t i).cut ≡ true → Cuts t i c
   pub plain : has_ruby (cell_at t i) ≡ false → Plain (cell_at t i)
   pub flat : has_ruby (cell_at t i) ≡ true → Flat (cell_at t i)

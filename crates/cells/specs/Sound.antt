@@ -1,9 +1,9 @@
 -- A sound table: the rows of an element go on to its end, a line sees no more than level one may make, and a J can be cut.
-use Rattle.std.specs.Prelude.{◌≡◌, Bool, cond, not, ◌&&◌, ◌||◌, List, ℕ, ◌+◌, ◌-◌, ◌*◌, ◌≤◌, ◌<◌, max, eqb, leb, ltb, length}
+use Rattle.std.specs.Prelude.{◌≡◌, Bool, cond, ◌||◌, ℕ, ◌+◌, ◌-◌, ◌*◌, ◌≤◌, ◌<◌, max, eqb, leb, ltb, length}
 use Rattle.std.proofs.Math.Path.{refl}
 use Rattle.std.proofs.Common.{sym, ap, ap₂, ◌∙◌, subst, true≢false, zero-le, mul-le-mul, arith, le-leb, lt-ltb, le-ltb, eq-eqb, ne_eqb, eqb-true}
 use Rattle.std.proofs.Math.Bool.{true, false}
-use Rattle.std.proofs.lemmas.Bool.{false≢true, lt-leb}
+use Rattle.std.proofs.lemmas.Bool.{lt-leb}
 use Rattle.std.proofs.Math.Decide.{dec_lt}
 use Rattle.spread.specs.declared.Way.{Way}
 use Rattle.spread.specs.declared.Way.TheVariants.{Solid, Spread}
@@ -21,8 +21,8 @@ use Rattle.word.specs.Sides.{reading_over, sided, monos_word}
 use Rattle.line.specs.declared.State.{State}
 use Rattle.line.specs.Setting.{furthest, total}
 use Rattle.cells.specs.declared.Cell.{Cell}
-use Rattle.cells.specs.Cells.{size, ratios_at, em_at, lefts_at, row_at, beside, cell_at, each_over, ruby_way, part_by, both_by, over_with, both, part, word_at, element_of, piece, step_of, step_at, Ran, Cuts, has_ruby, Plain, Flat, Advances}
-use Rattle.cells.specs.Put.{no_left_lem}
+use Rattle.cells.specs.Rows.{Rows}
+use Rattle.cells.specs.Cells.{cell_at, each_over, ruby_way, part_by, both_by, over_with, both, part, word_at, element_of, piece, step_of, step_at, Ran, Cuts, has_ruby, Plain, Flat, Advances}
 
 -- the row behind a, in the same element
 pub record Follows (a b : Cell) : Type 0 where
@@ -30,7 +30,7 @@ pub record Follows (a b : Cell) : Type 0 where
   pub cut : a.cut ≡ b.cut
   pub ends : a.ends ≡ b.ends
 
-pub record Row (t : List ℕ) (n i : ℕ) : Type 0 where
+pub record Row (t : Rows) (n i : ℕ) : Type 0 where
   pub some : 0 < (cell_at t i).bases
   pub few : (cell_at t i).bases ≤ 32
   pub inside : i + (cell_at t i).bases ≤ n
@@ -40,13 +40,13 @@ pub record Row (t : List ℕ) (n i : ℕ) : Type 0 where
   pub follows : 1 < (cell_at t i).bases → Follows (cell_at t i) (cell_at t (i + 1))
   pub runs : (cell_at t i).cut ≡ true → (c : ℕ) → i < c → c ≤ i + (cell_at t i).bases → Ran (cell_at t i) (cell_at t (c - 1))
 
-pub record Sound (t : List ℕ) (n : ℕ) : Type 0 where
-  pub small : em_at t ≤ 4096
-  pub house : Housed (ratios_at t)
+pub record Sound (t : Rows) (n : ℕ) : Type 0 where
+  pub small : t.em ≤ 4096
+  pub house : Housed t.ratios
   pub few : n ≤ 1024
-  pub long : size n ≤ length t
+  pub long : n ≤ length t.rows
   pub row : (i : ℕ) → i < n → Row t n i
-  pub wide : (i : ℕ) → i < n → (cell_at t i).cut ≡ true → 0 < em_at t
+  pub wide : (i : ℕ) → i < n → (cell_at t i).cut ≡ true → 0 < t.em
 
 -- how long a line sees a word, whatever the depths
 abbrev length_of : Word → ℕ
@@ -125,12 +125,12 @@ pub record Lone (a : Cell) : Type 0 where
   pub some : 0 < a.rubies
   pub few : a.rubies ≤ 4096
 
-pub lone : (t : List ℕ) (i c : ℕ) → Cuts t i c → c - i ≡ 1 → Lone (cell_at t i)
+pub lone : (t : Rows) (i c : ℕ) → Cuts t i c → c - i ≡ 1 → Lone (cell_at t i)
 lone t i c h e =
     let r : Ran (cell_at t i) (cell_at t i) = subst (λ (k : ℕ). Ran (cell_at t i) (cell_at t k)) (omega arith) h.ran in
     record { own = omega (arith, r.narrow); some = omega (arith, r.more); few = omega (arith, r.ends) }
 
-pub part-total : (t : List ℕ) (i c : ℕ) → Cuts t i c → length_of (part t i c) ≤ 524288
+pub part-total : (t : Rows) (i c : ℕ) → Cuts t i c → length_of (part t i c) ≤ 524288
 unfolding part both
 part-total t i c h = go (ltb 0 (cell_at t i).lefts)
   where
@@ -140,22 +140,22 @@ part-total t i c h = go (ltb 0 (cell_at t i).lefts)
     z : Cell
     z = cell_at t (c - 1)
 
-    block : em_at t * (c - i) ≤ 131072
-    block = mul-le-mul {n₁ = em_at t} {m₁ = c - i} {n₂ = 4096} {m₂ = 32} h.small (omega (arith, h.few))
+    block : t.em * (c - i) ≤ 131072
+    block = mul-le-mul {n₁ = t.em} {m₁ = c - i} {n₂ = 4096} {m₂ = 32} h.small (omega (arith, h.few))
 
     go : (x : Bool) →
         length_of (cond x (both t i c)
-        (part_by (ratios_at t) (em_at t) (c - i) (z.wide + z.own - a.wide) (z.ruby + z.rubies - a.ruby) (eqb a.over (over_with (em_at t) z)) a.own z.own a.western)) ≤ 524288
+        (part_by t.ratios t.em (c - i) (z.wide + z.own - a.wide) (z.ruby + z.rubies - a.ruby) (eqb a.over (over_with t.em z)) a.own z.own a.western)) ≤ 524288
     go true =
-        both_by-total (ratios_at t) (em_at t) (c - i) (record { width = a.own; count = a.rubies }) (record { width = a.ownleft; count = a.lefts }) z.own z.ownleft
+        both_by-total t.ratios t.em (c - i) (record { width = a.own; count = a.rubies }) (record { width = a.ownleft; count = a.lefts }) z.own z.ownleft
         block (λ e. (lone t i c h e).own) h.ran.narrow_left
     go false =
-        by_total (ratios_at t) (em_at t) (c - i) (z.wide + z.own - a.wide) (z.ruby + z.rubies - a.ruby) (eqb a.over (over_with (em_at t) z)) a.own z.own a.western
+        by_total t.ratios t.em (c - i) (z.wide + z.own - a.wide) (z.ruby + z.rubies - a.ruby) (eqb a.over (over_with t.em z)) a.own z.own a.western
         block (omega (arith, h.ran.narrow))
 
 -- Every line of a sound table can be taken on by the piece at its end.
 
-module _ (t : List ℕ) (n : ℕ) (sound : Sound t n) (i c : ℕ) (l : i < c) (u : c ≤ i + (cell_at t i).bases) (h : i < n) where
+module _ (t : Rows) (n : ℕ) (sound : Sound t n) (i c : ℕ) (l : i < c) (u : c ≤ i + (cell_at t i).bases) (h : i < n) where
   pub cuts : (cell_at t i).cut ≡ true → Cuts t i c
   cuts j =
       let r = sound.row i h in
@@ -182,24 +182,20 @@ module _ (t : List ℕ) (n : ℕ) (sound : Sound t n) (i c : ℕ) (l : i < c) (u
       }
 
 -- the word of a row that is cut, and of one that is not
-pub cut_word : (t : List ℕ) (i c : ℕ) → (cell_at t i).cut ≡ true → word_at t i c ≡ part t i c
+pub cut_word : (t : Rows) (i c : ℕ) → (cell_at t i).cut ≡ true → word_at t i c ≡ part t i c
 unfolding word_at
 cut_word t i c e = rw e
 
-pub whole_word : (t : List ℕ) (i c : ℕ) → (cell_at t i).cut ≡ false → word_at t i c ≡ (cell_at t i).word
+pub whole_word : (t : Rows) (i c : ℕ) → (cell_at t i).cut ≡ false → word_at t i c ≡ (cell_at t i).word
 unfolding word_at
 whole_word t i c e = rw e
 
--- in a job without left readings a row has its whole word
-pub row_word : (t : List ℕ) (i : ℕ) → lefts_at t ≡ 0 → (cell_at t i).word ≡ (row_at t i).word
-row_word t i e = ap (λ l. (beside (row_at t i) l).word) (no_left_lem t i e)
-
 -- a step fits a number
-pub fits : (t : List ℕ) (st : State) (i c : ℕ) → Advances t st i c → furthest st + total (piece t i c) ≤ 4294967295
+pub fits : (t : Rows) (st : State) (i c : ℕ) → Advances t st i c → furthest st + total (piece t i c) ≤ 4294967295
 fits t st i c a = omega (arith, a.short, a.near)
 
 -- a piece that has ruby, on which none lies
-module _ (t : List ℕ) (st : State) (i c : ℕ) (a : Advances t st i c) (ruby : has_ruby (cell_at t i) ≡ true) where
+module _ (t : Rows) (st : State) (i c : ℕ) (a : Advances t st i c) (ruby : has_ruby (cell_at t i) ≡ true) where
   pub flat-fits : furthest st + total (element_of (word_at t i c) 0 0) ≤ 4294967295
   flat-fits = fits t st i c a
 
@@ -212,16 +208,8 @@ module _ (t : List ℕ) (st : State) (i c : ℕ) (a : Advances t st i c) (ruby :
   pub row_step : (cell_at t i).cut ≡ false → step_of (cell_at t i).word 0 0 st ≡ step_at t st i c
   row_step e = ap (λ w. step_of w 0 0 st) (sym (whole_word t i c e)) ∙ flat_step
 
--- where a row has its whole word
-pub in_row : (t : List ℕ) (i : ℕ) → (not (cell_at t i).cut && eqb (lefts_at t) 0) ≡ true → ((cell_at t i).cut ≡ false) × (lefts_at t ≡ 0)
-in_row t i e = go (cell_at t i).cut e
-  where
-    go : (x : Bool) → (not x && eqb (lefts_at t) 0) ≡ true → (x ≡ false) × (lefts_at t ≡ 0)
-    go true e = absurd (false≢true e)
-    go false e = (refl, eqb-true (lefts_at t) 0 e)
-
 -- and one that has none
-module _ (t : List ℕ) (st : State) (i c : ℕ) (a : Advances t st i c) (ruby : has_ruby (cell_at t i) ≡ false) where
+module _ (t : Rows) (st : State) (i c : ℕ) (a : Advances t st i c) (ruby : has_ruby (cell_at t i) ≡ false) where
   uncut : (cell_at t i).cut ≡ false
   uncut = go (cell_at t i).cut ruby
     where
@@ -269,7 +257,7 @@ both_long h em n r l last lastLeft = go (eqb n 1)
     go true = omega arith
     go false = omega arith
 
-pub part-long : (t : List ℕ) (i c : ℕ) → 2 * (em_at t * (c - i)) ≤ (part t i c).len
+pub part-long : (t : Rows) (i c : ℕ) → 2 * (t.em * (c - i)) ≤ (part t i c).len
 unfolding part both
 part-long t i c = go (ltb 0 (cell_at t i).lefts)
   where
@@ -280,37 +268,37 @@ part-long t i c = go (ltb 0 (cell_at t i).lefts)
     z = cell_at t (c - 1)
 
     go : (x : Bool) →
-        2 * (em_at t * (c - i)) ≤ (cond x (both t i c)
-        (part_by (ratios_at t) (em_at t) (c - i) (z.wide + z.own - a.wide) (z.ruby + z.rubies - a.ruby) (eqb a.over (over_with (em_at t) z)) a.own z.own a.western)).len
-    go true = both_long (ratios_at t) (em_at t) (c - i) (record { width = a.own; count = a.rubies }) (record { width = a.ownleft; count = a.lefts }) z.own z.ownleft
+        2 * (t.em * (c - i)) ≤ (cond x (both t i c)
+        (part_by t.ratios t.em (c - i) (z.wide + z.own - a.wide) (z.ruby + z.rubies - a.ruby) (eqb a.over (over_with t.em z)) a.own z.own a.western)).len
+    go true = both_long t.ratios t.em (c - i) (record { width = a.own; count = a.rubies }) (record { width = a.ownleft; count = a.lefts }) z.own z.ownleft
     go false =
-        by-long (ratios_at t) (em_at t) (c - i) (z.wide + z.own - a.wide) (z.ruby + z.rubies - a.ruby) (eqb a.over (over_with (em_at t) z)) a.own z.own a.western
+        by-long t.ratios t.em (c - i) (z.wide + z.own - a.wide) (z.ruby + z.rubies - a.ruby) (eqb a.over (over_with t.em z)) a.own z.own a.western
 
--- A part with a left reading, of one character and of more; and one without.
+-- A part without a left reading.
 
-pub both_one : (t : List ℕ) (i c : ℕ) → c - i ≡ 1 →
+pub both_one : (t : Rows) (i c : ℕ) → c - i ≡ 1 →
     let a = cell_at t i in
-    both t i c ≡ monos_word (ratios_at t) (em_at t) (record { width = em_at t * (c - i); count = c - i }) (record { width = a.own; count = a.rubies }) (record { width = a.ownleft; count = a.lefts })
+    both t i c ≡ monos_word t.ratios t.em (record { width = t.em * (c - i); count = c - i }) (record { width = a.own; count = a.rubies }) (record { width = a.ownleft; count = a.lefts })
 unfolding both both_by
 both_one t i c h = rw (eq-eqb (c - i) 1 h)
 
-pub both-more : (t : List ℕ) (i c : ℕ) → (c - i ≡ 1 → ⊥) →
+pub both-more : (t : Rows) (i c : ℕ) → (c - i ≡ 1 → ⊥) →
     let a = cell_at t i in
     let z = cell_at t (c - 1) in
-    let b = em_at t * (c - i) in
-    both t i c ≡ each_over b (between (em_at t) b a.own z.own) (between (em_at t) b a.ownleft z.ownleft)
+    let b = t.em * (c - i) in
+    both t i c ≡ each_over b (between t.em b a.own z.own) (between t.em b a.ownleft z.ownleft)
 unfolding both both_by
 both-more t i c h = rw (ne_eqb (c - i) 1 h)
 
-pub part-both : (t : List ℕ) (i c : ℕ) → 0 < (cell_at t i).lefts → part t i c ≡ both t i c
+pub part-both : (t : Rows) (i c : ℕ) → 0 < (cell_at t i).lefts → part t i c ≡ both t i c
 unfolding part
 part-both t i c h = rw (lt-ltb 0 (cell_at t i).lefts h)
 
-pub part-one : (t : List ℕ) (i c : ℕ) → (cell_at t i).lefts ≡ 0 →
+pub part-one : (t : Rows) (i c : ℕ) → (cell_at t i).lefts ≡ 0 →
     let a = cell_at t i in
     let z = cell_at t (c - 1) in
     part t i c
-    ≡ part_by (ratios_at t) (em_at t) (c - i) (z.wide + z.own - a.wide) (z.ruby + z.rubies - a.ruby) (eqb a.over (over_with (em_at t) z)) a.own z.own a.western
+    ≡ part_by t.ratios t.em (c - i) (z.wide + z.own - a.wide) (z.ruby + z.rubies - a.ruby) (eqb a.over (over_with t.em z)) a.own z.own a.western
 unfolding part
 part-one t i c h = rw (le-ltb 0 (cell_at t i).lefts (omega arith))
 
@@ -335,9 +323,9 @@ by_bare h em n r m same first last western = go (eqb n 1) same
     go false true = refl
     go false false = way-bare (ruby_way western) Spread h em (em * n) n r m
 
-pub part-bare : (t : List ℕ) (i c : ℕ) → (cell_at t i).lefts ≡ 0 → (part t i c).left.there ≡ false
+pub part-bare : (t : Rows) (i c : ℕ) → (cell_at t i).lefts ≡ 0 → (part t i c).left.there ≡ false
 part-bare t i c h =
     let a = cell_at t i in
     let z = cell_at t (c - 1) in
     ap (λ w. w.left.there) (part-one t i c h)
-    ∙ by_bare (ratios_at t) (em_at t) (c - i) (z.wide + z.own - a.wide) (z.ruby + z.rubies - a.ruby) (eqb a.over (over_with (em_at t) z)) a.own z.own a.western
+    ∙ by_bare t.ratios t.em (c - i) (z.wide + z.own - a.wide) (z.ruby + z.rubies - a.ruby) (eqb a.over (over_with t.em z)) a.own z.own a.western

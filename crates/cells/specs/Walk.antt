@@ -1,5 +1,5 @@
 -- Laws of rows and lines: the rows of an element, one piece more, and the last number that passes a test.
-use Rattle.std.specs.Prelude.{◌≡◌, Bool, true, false, ◌||◌, List, eqb, ltb}
+use Rattle.std.specs.Prelude.{◌≡◌, Bool, true, false, ◌||◌, eqb, ltb}
 use Rattle.std.proofs.Math.Path.{refl, ap}
 use Rattle.std.proofs.Common.{sym, ◌∙◌, subst, add-zero, lt-ltb, le-ltb, eq-eqb, ne_eqb}
 use Rattle.std.proofs.Math.Bool.{cond}
@@ -11,14 +11,15 @@ use Rattle.line.specs.Setting.{furthest}
 use Rattle.line.proofs.Bound.{put_bound}
 use Rattle.line.proofs.Extent.{put-grows}
 use Rattle.cells.specs.declared.Cell.{Cell}
+use Rattle.cells.specs.Rows.{Rows}
 use Rattle.cells.specs.Cells.{cell_at, piece, next, stop, walk, rest, may_end, last_of}
 use Rattle.cells.specs.Sound.{Sound, piece-total}
 
 -- where a piece ends: with its element, or before
-pub stop-whole : (t : List ℕ) (i c : ℕ) → i + (cell_at t i).bases ≤ c → stop t i c ≡ i + (cell_at t i).bases
+pub stop-whole : (t : Rows) (i c : ℕ) → i + (cell_at t i).bases ≤ c → stop t i c ≡ i + (cell_at t i).bases
 stop-whole t i c h = omega arith
 
-pub stop-within : (t : List ℕ) (i c : ℕ) → c ≤ i + (cell_at t i).bases → stop t i c ≡ c
+pub stop-within : (t : Rows) (i c : ℕ) → c ≤ i + (cell_at t i).bases → stop t i c ≡ c
 stop-within t i c h = omega arith
 
 -- the j-th row behind a, in the same element
@@ -27,7 +28,7 @@ pub record Along (a : Cell) (j : ℕ) (b : Cell) : Type 0 where
   pub cut : a.cut ≡ b.cut
   pub ends : a.ends ≡ b.ends
 
-module _ (t : List ℕ) (n : ℕ) (sound : Sound t n) where
+module _ (t : Rows) (n : ℕ) (sound : Sound t n) where
   pub along : (i : ℕ) → i < n → (j : ℕ) → j < (cell_at t i).bases → Along (cell_at t i) j (cell_at t (i + j))
   along i h zero l = subst (λ (k : ℕ). Along (cell_at t i) 0 (cell_at t k)) (sym (add-zero i)) (record { bases = omega arith; cut = refl; ends = refl })
   along i h (suc j) l =
@@ -85,7 +86,7 @@ module _ (t : List ℕ) (n : ℕ) (sound : Sound t n) where
   next-near st i c l u h f = omega (arith, put_bound st (piece t i c), piece-total t n sound i c l u h)
 
 -- no piece more
-pub rest-none : (t : List ℕ) (st : State) (i c : ℕ) → c ≤ i → rest t st i c ≡ st
+pub rest-none : (t : Rows) (st : State) (i c : ℕ) → c ≤ i → rest t st i c ≡ st
 unfolding walk
 rest-none t st i c h = rw (none i c h)
   where
@@ -93,7 +94,7 @@ rest-none t st i c h = rw (none i c h)
     none i c h = omega arith
 
 -- a longer line reaches at least as far
-pub grows : (t : List ℕ) (k : ℕ) (st : State) (i c : ℕ) → furthest st ≤ furthest (walk t k st i c)
+pub grows : (t : Rows) (k : ℕ) (st : State) (i c : ℕ) → furthest st ≤ furthest (walk t k st i c)
 unfolding walk
 grows t zero st i c = omega arith
 grows t (suc k) st i c =

@@ -3,7 +3,7 @@
 // document 01 says is proved where it is handed out (specs/Class.antt; proofs/table). Beside it stands what a job's profile permits
 // (`depths_by`, R-8), and nothing above knows of profiles. All functions here are total: any u32 is asked as it is. It relies on no
 // other crate.
-#![tactic(auto)]
+#![tactic(auto, using(crate::proofs::Steps::class_steps))]
 
 ghost use Rattle.std.specs.Prelude.{◌≡◌, cond, ◌&&◌, ◌*◌, min, eqb};
 ghost use Rattle.class.specs.Class.{accepted, western, kana_like, blank_before, blank_after, blank_whole, kind_of, deepest, depths_on, kana, may_lie, depths_by};
@@ -11,18 +11,19 @@ ghost use Rattle.class.specs.Entry.{entry_of, lies_before, lies_after, is_whole}
 ghost use Rattle.class.specs.Laws.{tabled, is_kana, is_western};
 ghost use Rattle.class.specs.Marks.{marked, says, is_deep, is_shallow, set_of, has_at};
 
-#[derive(Clone, Copy)]
+/// The kinds of character (document 01, the class table).
+#[derive(Clone, Copy, Debug, PartialEq, Eq)]
 pub enum Kind {
     KanaLike,
     Western,
-    // The Western word space, class 26: accepted, yet neither of the two.
+    /// The Western word space, class 26: accepted, yet neither of the two.
     Space,
-    // What no job may have.
+    /// What no job may have.
     Outside,
 }
 
 // The sides on which a class may carry a blank; Whole where the whole width is blank.
-#[derive(Clone, Copy)]
+#[derive(Clone, Copy, Debug, PartialEq, Eq)]
 enum Sides {
     Before,
     After,
@@ -33,7 +34,7 @@ enum Sides {
 
 // An entry of the table, in document 01's words: accepted, kind, blank sides and depth. `quarters` is the most that ruby may lie on
 // the blank, in quarter ems. A byte to a field, since a constant table is laid out anew wherever it is read.
-#[derive(Clone, Copy)]
+#[derive(Clone, Copy, Debug, PartialEq, Eq)]
 struct Entry {
     accepted: bool,
     kind: Kind,
@@ -150,63 +151,35 @@ fn table() -> [Entry; 31]
 fn means_kana(k: Kind) -> bool
     ensures { result ≡ is_kana k }
 {
-    match k {
-        Kind::KanaLike => true,
-        Kind::Western => false,
-        Kind::Space => false,
-        Kind::Outside => false,
-    }
+    k == Kind::KanaLike
 }
 
 fn means_western(k: Kind) -> bool
     ensures { result ≡ is_western k }
 {
-    match k {
-        Kind::KanaLike => false,
-        Kind::Western => true,
-        Kind::Space => false,
-        Kind::Outside => false,
-    }
+    k == Kind::Western
 }
 
 fn lies_before(s: Sides) -> bool
     ensures { result ≡ lies_before s }
 {
-    match s {
-        Sides::Before => true,
-        Sides::After => false,
-        Sides::Both => true,
-        Sides::Neither => false,
-        Sides::Whole => false,
-    }
+    matches!(s, Sides::Before | Sides::Both)
 }
 
 fn lies_after(s: Sides) -> bool
     ensures { result ≡ lies_after s }
 {
-    match s {
-        Sides::Before => false,
-        Sides::After => true,
-        Sides::Both => true,
-        Sides::Neither => false,
-        Sides::Whole => false,
-    }
+    matches!(s, Sides::After | Sides::Both)
 }
 
 fn is_whole(s: Sides) -> bool
     ensures { result ≡ is_whole s }
 {
-    match s {
-        Sides::Before => false,
-        Sides::After => false,
-        Sides::Both => false,
-        Sides::Neither => false,
-        Sides::Whole => true,
-    }
+    matches!(s, Sides::Whole)
 }
 
 // What is asked of a class, of its entry.
-#[derive(Clone, Copy)]
+#[derive(Clone, Copy, Debug, PartialEq, Eq)]
 enum Mark {
     Accepted,
     Kana,
@@ -220,6 +193,7 @@ enum Mark {
     Shallow,
 }
 
+// A mark is a value, so that each set that is read off the table is a number once compiled; a closure handed in would be called in the loop.
 fn marks(e: Entry, which: Mark) -> bool
     ensures { result ≡ marked which e }
 {
@@ -254,12 +228,9 @@ fn marked_in(table: [Entry; 31], which: Mark) -> u32
 {
     let mut set: u32 = 0;
     let mut place: u32 = 1;
-    let mut class: u32 = 0;
-    while class < 31 {
-        let e = table[class as usize];
-        set = set + worth(marks(e, which), place);
-        place = place * 2;
-        class += 1;
+    for class in 0..31 {
+        set += worth(marks(table[class], which), place);
+        place *= 2;
     }
     set
 }
@@ -268,32 +239,31 @@ fn marked_in(table: [Entry; 31], which: Mark) -> u32
 fn has(set: u32, class: u32) -> bool
     ensures { result ≡ has_at set class }
 {
-    if class < 31 {
-        (set >> class) % 2 == 1
-    } else {
-        false
-    }
+    class < 31 && (set >> class) % 2 == 1
 }
 
+/// Whether a job may have the class.
 pub fn is_accepted(class: u32) -> bool
     ensures { result ≡ accepted class }
 {
     has(marked_in(table(), Mark::Accepted), class)
 }
 
+/// Whether it is kana-like.
 pub fn is_kana(class: u32) -> bool
     ensures { result ≡ kana_like class }
 {
     has(marked_in(table(), Mark::Kana), class)
 }
 
+/// Whether it is Western.
 pub fn is_western(class: u32) -> bool
     ensures { result ≡ western class }
 {
     has(marked_in(table(), Mark::Western), class)
 }
 
-// What is accepted and neither of the two is the word space.
+/// What is accepted and neither of the two is the word space: read off the table, one question after the other.
 pub fn kind_of(class: u32) -> Kind
     ensures { result ≡ kind_of class }
 {
@@ -310,13 +280,14 @@ pub fn kind_of(class: u32) -> Kind
     }
 }
 
-// May there be a blank before, or after?
+/// May there be a blank before?
 pub fn may_have_before(class: u32) -> bool
     ensures { result ≡ blank_before class }
 {
     has(marked_in(table(), Mark::Before), class)
 }
 
+/// May there be one after?
 pub fn may_have_after(class: u32) -> bool
     ensures { result ≡ blank_after class }
 {
@@ -374,8 +345,8 @@ const HIRAGANA: u32 = 15;
 
 const KATAKANA: u32 = 16;
 
-// How deep the ruby before a P character may lie on it, past its start, and the ruby after it, before its end; in half units.
-#[derive(Clone, Copy)]
+/// How deep the ruby before a P character may lie on it, past its start, and the ruby after it, before its end; in half units.
+#[derive(Clone, Copy, Debug, PartialEq, Eq)]
 pub struct Depths {
     pub before: u32,
     pub after: u32,
@@ -416,26 +387,17 @@ fn depths_on(first: bool, class: u32, width: u32, before: u32, after: u32, em: u
 fn lies_on_kana(profile: u32, class: u32) -> bool
     ensures { result ≡ (eqb profile 1 && kana class) }
 {
-    if profile == OLDER {
-        if class == HIRAGANA {
-            return true;
-        }
-        return class == KATAKANA;
-    }
-    false
+    profile == OLDER && matches!(class, HIRAGANA | KATAKANA)
 }
 
-// Whether ruby may lie on a P character at all: where it may not, nobody need read its blanks.
+/// Whether ruby may lie on a P character at all: where it may not, nobody need read its blanks.
 pub fn takes_ruby(profile: u32, class: u32) -> bool
     ensures { result ≡ may_lie profile class }
 {
-    if lies_on_kana(profile, class) {
-        return true;
-    }
-    is_deep(class)
+    lies_on_kana(profile, class) || is_deep(class)
 }
 
-// How deep ruby may lie on a P character by the job's profile.
+/// How deep ruby may lie on a P character by the job's profile.
 pub fn depths_by(
     profile: u32,
     first: bool,

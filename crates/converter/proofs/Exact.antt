@@ -1,6 +1,6 @@
 -- What the converter's answer says (document 02, R-6). It is one of four (`convert_is`): the reading's refusal, 17 with the first line at fault, the job's own refusal, or the other sheet; and the
 -- other sheet goes back to the same bytes (`there_and_back`) and has the same job, so the same answer (`same_answer`).
-use Rattle.std.specs.Prelude.{Bool, true, false, cond, List, ◌≡◌, refl, ℕ, ◌<◌, eqb, length}
+use Rattle.std.specs.Prelude.{Bool, true, false, cond, List, ◌≡◌, refl, ℕ, ◌<◌, eqb, length, Ok, Err, Result}
 use Rattle.std.proofs.Math.Option.{Option, none, some}
 use Rattle.std.proofs.Common.{◌∙◌, sym, subst, arith, eqb-true, ne_eqb}
 use Rattle.std.proofs.Math.Path.{ap}
@@ -9,8 +9,6 @@ use Rattle.refusal.specs.declared.Refusal.{Refusal}
 use Rattle.refusal.specs.declared.Refusal.TheVariants.{OtherForm}
 use Rattle.elements.specs.declared.SheetForm.TheVariants.{One, Two}
 use Rattle.sheet.specs.declared.Counts.{Counts}
-use Rattle.sheet.specs.declared.Reading.{Reading}
-use Rattle.sheet.specs.declared.Reading.TheVariants.{Sound, Refused}
 use Rattle.sheet.specs.Sheet.{Sheet, reading}
 use Rattle.sheet.specs.Form.{Written, InForm, sheet_of, written_of}
 use Rattle.sheet.specs.Exact.{SoundAs}
@@ -45,34 +43,34 @@ module _ (s : List ℕ) where
   abbrev r : Written
   r = written_of (reading s)
 
-  seven : (n : Counts) → (reading s).end ≡ Sound n → length r.house ≡ 7
+  seven : (n : Counts) → (reading s).end ≡ Ok n → length r.house ≡ 7
   seven n e = house-seven (reading s).form r (known e).form.shown
 
   -- a sheet that breaks its form, or has a count over its maximum, gets that refusal
-  pub by-reading : (why : Refusal) → (reading s).end ≡ Refused why → convert_text s ≡ refusal_text why
+  pub by-reading : (why : Refusal) → (reading s).end ≡ Err why → convert_text s ≡ refusal_text why
   unfolding convert_text convert_by
   by-reading why e = ap (convert_by s) e
 
-  by_line : (n : Counts) → (reading s).end ≡ Sound n → convert_text s ≡ cond (eqb (fault_line r) 0) (judged s (given (reading s))) (refusal_text (OtherForm (fault_line r)))
+  by_line : (n : Counts) → (reading s).end ≡ Ok n → convert_text s ≡ cond (eqb (fault_line r) 0) (judged s (given (reading s))) (refusal_text (OtherForm (fault_line r)))
   unfolding convert_text convert_by
   by_line n e = ap (convert_by s) e
 
   -- "17, a form two sheet that form one can't hold, .. place the first line at fault"
-  pub by-fault : (l : ℕ) (c : Counts) → (reading s).end ≡ Sound c → FirstFault r l → convert_text s ≡ refusal_text (OtherForm l)
+  pub by-fault : (l : ℕ) (c : Counts) → (reading s).end ≡ Ok c → FirstFault r l → convert_text s ≡ refusal_text (OtherForm l)
   by-fault l c e f =
       let p = (first-exactly r (seven c e) l).1 f in
       by_line c e ∙ rw (p.0, ne_eqb l 0 (λ z. omega (arith, p.1)))
 
-  held : (c : Counts) → (reading s).end ≡ Sound c → Holds r → convert_text s ≡ judged s (given (reading s))
+  held : (c : Counts) → (reading s).end ≡ Ok c → Holds r → convert_text s ≡ judged s (given (reading s))
   held c e h = by_line c e ∙ rw ((holds-exactly r (seven c e)).1 h)
 
   -- "other jobs get their refusal"
-  pub by-job : (c : Counts) (why : Refusal) → (reading s).end ≡ Sound c → Holds r → given (reading s) ≡ some why → convert_text s ≡ refusal_text why
+  pub by-job : (c : Counts) (why : Refusal) → (reading s).end ≡ Ok c → Holds r → given (reading s) ≡ some why → convert_text s ≡ refusal_text why
   unfolding judged
   by-job c why e h g = held c e h ∙ ap (judged s) g
 
   -- a job that is accepted gets the other sheet
-  pub by-other : (c : Counts) → (reading s).end ≡ Sound c → Holds r → given (reading s) ≡ none → convert_text s ≡ other_text s
+  pub by-other : (c : Counts) → (reading s).end ≡ Ok c → Holds r → given (reading s) ≡ none → convert_text s ≡ other_text s
   unfolding judged
   by-other c e h g = held c e h ∙ ap (judged s) g
 
@@ -82,25 +80,25 @@ convert_is s = go (reading s).end refl
     r : Written
     r = written_of (reading s)
 
-    job : (c : Counts) → (reading s).end ≡ Sound c → Holds r → (g : Option Refusal) → given (reading s) ≡ g → ConvertIs s (convert_text s)
+    job : (c : Counts) → (reading s).end ≡ Ok c → Holds r → (g : Option Refusal) → given (reading s) ≡ g → ConvertIs s (convert_text s)
     job c e h none g = subst (ConvertIs s) (sym (by-other s c e h g)) (written c e h g)
     job c e h (some why) g = subst (ConvertIs s) (sym (by-job s c why e h g)) (declined c why e h g)
 
     positive : (n : ℕ) → (n ≡ 0 → ⊥) → 0 < n
     positive n h = omega arith
 
-    line : (c : Counts) → (reading s).end ≡ Sound c → (b : Bool) → eqb (fault_line r) 0 ≡ b → ConvertIs s (convert_text s)
+    line : (c : Counts) → (reading s).end ≡ Ok c → (b : Bool) → eqb (fault_line r) 0 ≡ b → ConvertIs s (convert_text s)
     line c e true z = job c e ((holds-exactly r (seven s c e)).0 (eqb-true (fault_line r) 0 z)) (given (reading s)) refl
     line c e false z =
         let f = (first-exactly r (seven s c e) (fault_line r)).0 (refl, positive (fault_line r) (eqb-false (fault_line r) 0 z)) in
         subst (ConvertIs s) (sym (by-fault s (fault_line r) c e f)) (unheld c (fault_line r) e f)
 
-    go : (x : Reading) → (reading s).end ≡ x → ConvertIs s (convert_text s)
-    go (Refused why) e = subst (ConvertIs s) (sym (by-reading s why e)) (unread why e)
-    go (Sound c) e = line c e (eqb (fault_line r) 0) refl
+    go : (x : Result Counts Refusal) → (reading s).end ≡ x → ConvertIs s (convert_text s)
+    go (Err why) e = subst (ConvertIs s) (sym (by-reading s why e)) (unread why e)
+    go (Ok c) e = line c e (eqb (fault_line r) 0) refl
 
 -- "A converter takes every form one sheet whose job is accepted to form two and back to the same bytes"; "Form two goes back only if ..", and forth again to the same bytes
-module _ (s : List ℕ) (c : Counts) (sound : (reading s).end ≡ Sound c) (holds : Holds (written_of (reading s))) (ok : given (reading s) ≡ none) where
+module _ (s : List ℕ) (c : Counts) (sound : (reading s).end ≡ Ok c) (holds : Holds (written_of (reading s))) (ok : given (reading s) ≡ none) where
   goes : Goes s c
   goes = record { sound = sound; holds = holds; short = other-short s c sound holds ok }
 
@@ -132,5 +130,5 @@ module _ (s : List ℕ) (c : Counts) (sound : (reading s).end ≡ Sound c) (hold
       ap convert_text is ∙ by-other (other_text s) o.counts o.sound h g ∙ there_and_back goes
 
 -- a form one sheet: that its job is accepted is all that is asked
-pub one-back : (s : List ℕ) (c : Counts) → (reading s).end ≡ Sound c → (reading s).form ≡ One → given (reading s) ≡ none → convert_text (convert_text s) ≡ s
+pub one-back : (s : List ℕ) (c : Counts) → (reading s).end ≡ Ok c → (reading s).form ≡ One → given (reading s) ≡ none → convert_text (convert_text s) ≡ s
 one-back s c e one ok = converted_back s c e (one_holds (written_of (reading s)) (subst (λ f. InForm f (written_of (reading s))) one (known e).form)) ok

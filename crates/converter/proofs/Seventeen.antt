@@ -1,6 +1,6 @@
 -- Refusal 17 exactly (document 02, R-6): `refused 17 L` is written exactly of a sound sheet that form one can't hold, and L is its first line at fault. The reading gives 13 and 2 alone, the refusal
 -- list gives 17 to no job, and a sheet begins with another letter.
-use Rattle.std.specs.Prelude.{true, List, ◌++◌, ◌↔◌, ◌≡◌, ℕ, ◌≤◌, ◌<◌, length}
+use Rattle.std.specs.Prelude.{true, List, ◌++◌, ◌↔◌, ◌≡◌, ℕ, ◌≤◌, ◌<◌, length, Ok, Err}
 use Rattle.std.proofs.lemmas.Bool.{false≢true}
 use Rattle.std.proofs.Math.Option.{some}
 use Rattle.std.proofs.Math.Path.{refl, ap}
@@ -14,7 +14,6 @@ use Rattle.refusal.specs.Refusal.{number_of, place_of, by_paper, of_number}
 use Rattle.elements.specs.declared.SheetForm.{SheetForm}
 use Rattle.elements.specs.declared.SheetForm.TheVariants.{One, Two}
 use Rattle.sheet.specs.declared.Counts.{Counts}
-use Rattle.sheet.specs.declared.Reading.TheVariants.{Sound, Refused}
 use Rattle.sheet.specs.Sheet.{reading}
 use Rattle.sheet.specs.Form.{Written, written_of}
 use Rattle.sheet.specs.Faults.{ours}
@@ -56,17 +55,17 @@ module _ (s : List ℕ) where
       go One i = omega (arith, ap (λ l. get_or l 0 0) (sym (other-one s i ∙ text-two r h.house h.left) ∙ e))
       go Two i = omega (arith, ap (λ l. get_or l 0 0) (sym (other-two s i ∙ text-one r) ∙ e))
 
-  not-read : (why : Refusal) → (reading s).end ≡ Refused why → number_of why ≡ 17 → ⊥
+  not-read : (why : Refusal) → (reading s).end ≡ Err why → number_of why ≡ 17 → ⊥
   not-read why e n = false≢true (subst (λ q. ours q ≡ true) (is-other why n) (thirteen_or_two s why e))
 
   not-job : (why : Refusal) → given (reading s) ≡ some why → number_of why ≡ 17 → ⊥
   unfolding given
   not-job why g n = (subst (First (sheet_job (reading s)) 1024 2048 2048 1024) (is-other why n) (given-first (sheet_job (reading s)) 1024 2048 2048 1024 why g)).holds
 
-  pub seventeen_exactly : (l : ℕ) → (convert_text s ≡ bytes "refused 17 " ++ (decimal l ++ bytes "\n")) ↔ ((c : Counts) × ((reading s).end ≡ Sound c) × FirstFault r l)
+  pub seventeen_exactly : (l : ℕ) → (convert_text s ≡ bytes "refused 17 " ++ (decimal l ++ bytes "\n")) ↔ ((c : Counts) × ((reading s).end ≡ Ok c) × FirstFault r l)
   seventeen_exactly l = (λ e. go (convert_text s) (convert_is s) (e ∙ line_seventeen l), λ p. by-fault s l p.0 p.1 p.2 ∙ text_of l ∙ sym (line_seventeen l))
     where
-      go : (t : List ℕ) → ConvertIs s t → t ≡ line_two (bytes "refused") 17 l → (c : Counts) × ((reading s).end ≡ Sound c) × FirstFault r l
+      go : (t : List ℕ) → ConvertIs s t → t ≡ line_two (bytes "refused") 17 l → (c : Counts) × ((reading s).end ≡ Ok c) × FirstFault r l
       go t (unread why i) e = absurd (not-read why i (refused-is why 17 l (omega arith) e).0)
       go t (unheld c k i f) e =
           let w = (known i).form in

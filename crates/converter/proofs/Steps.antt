@@ -1,5 +1,5 @@
 -- What is written, by what the code finds: the line at fault, the job's own refusal, or that it has none.
-use Rattle.std.specs.Prelude.{Bool, true, false, cond, List, ◌≡◌, ℕ, eqb, length}
+use Rattle.std.specs.Prelude.{Bool, true, false, cond, List, ◌≡◌, ℕ, eqb, length, Result, Ok, Err, ⊤}
 use Rattle.std.proofs.Math.Option.{Option, none, some}
 use Rattle.std.proofs.Math.Path.{refl, ap}
 use Rattle.std.proofs.Common.{◌∙◌, ap₂, sym, subst, arith}
@@ -7,11 +7,8 @@ use Rattle.text.specs.Print.{Wrote}
 use Rattle.refusal.specs.declared.Refusal.{Refusal}
 use Rattle.refusal.specs.declared.Refusal.TheVariants.{OtherForm}
 use Rattle.sheet.specs.declared.Counts.{Counts}
-use Rattle.sheet.specs.declared.Reading.TheVariants.{Sound}
 use Rattle.sheet.specs.Sheet.{reading, Tables}
 use Rattle.sheet.specs.Form.{written_of}
-use Rattle.door.specs.declared.Checked.{Checked}
-use Rattle.door.specs.declared.Checked.TheVariants.{Passed, Refused}
 use Rattle.job.specs.Refusals.{fault}
 use Rattle.result.specs.Text.{refusal_text}
 use Rattle.sheet_job.specs.Tables.{tables_job, TablesLong}
@@ -30,14 +27,14 @@ written-by : (s : List ℕ) (line : ℕ) (g : Option Refusal) → cond (eqb line
 unfolding judged
 written-by s line g = go (eqb line 0) g
   where
-    go : (b : Bool) (g : Option Refusal) → cond b (judged s g) (refusal_text (OtherForm line)) ≡ written s (cond b (own g) (Refused (OtherForm line)))
+    go : (b : Bool) (g : Option Refusal) → cond b (judged s g) (refusal_text (OtherForm line)) ≡ written s (cond b (own g) (Err (OtherForm line)))
     go true none = refl
     go true (some r) = refl
     go false g = refl
 
 -- A sound sheet in its tables.
 module _ {s : List ℕ} {n : Counts} {t : Tables} (q : TablesHold s n t) where
-  sound : (reading s).end ≡ Sound n
+  sound : (reading s).end ≡ Ok n
   sound = sym q.into.answer
 
   nine : length q.was.set ≡ 9
@@ -57,7 +54,7 @@ module _ {s : List ℕ} {n : Counts} {t : Tables} (q : TablesHold s n t) where
   unfolding given
   given_is = ap (λ job. fault job 1024 2048 2048 1024) (same-job q.into refl q.lent)
 
-  module _ {c : Checked} (e : c ≡ verdict (line_by n t.set t.elem) (fault (tables_job n t) 1024 2048 2048 1024)) where
+  module _ {c : Result ⊤ Refusal} (e : c ≡ verdict (line_by n t.set t.elem) (fault (tables_job n t) 1024 2048 2048 1024)) where
     told : c ≡ verdict (fault_line (written_of (reading s))) (given (reading s))
     told = e ∙ ap₂ verdict line-is given_is
 
@@ -65,10 +62,10 @@ module _ {s : List ℕ} {n : Counts} {t : Tables} (q : TablesHold s n t) where
     unfolding convert_text convert_by
     convert_is = ap (convert_by s) sound ∙ written-by s (fault_line (written_of (reading s))) (given (reading s)) ∙ ap (written s) (sym told)
 
-    pub wrote_verdict : {d : Checked} {out out' : List ℕ} {k : ℕ} → c ≡ d → Wrote out 0 (written s d) k out' → Wrote out 0 (convert_text s) k out'
+    pub wrote_verdict : {d : Result ⊤ Refusal} {out out' : List ℕ} {k : ℕ} → c ≡ d → Wrote out 0 (written s d) k out' → Wrote out 0 (convert_text s) k out'
     wrote_verdict {d} {out} {out'} {k} is w = subst (λ xs. Wrote out 0 xs k out') (sym (convert_is ∙ ap (written s) is)) w
 
-    pub other-ready : {out : List ℕ} → c ≡ Passed → length out ≡ 65535 → OtherReady s n out
+    pub other-ready : {out : List ℕ} → c ≡ Ok tt → length out ≡ 65535 → OtherReady s n out
     other-ready {out} is room =
         let free = passed (fault_line (written_of (reading s))) (given (reading s)) (sym told ∙ is) in
         let holds = (holds-exactly (written_of (reading s)) (house-seven (reading s).form (written_of (reading s)) (known sound).form.shown)).0 free.0 in

@@ -1,5 +1,5 @@
 -- A sheet whose job is accepted is converted within 65,535 bytes: form one to form two by the job's limits (`Modest`), form two to form one since that is shorter.
-use Rattle.std.specs.Prelude.{List, ◌++◌, ◌≡◌, refl, ℕ, ◌≤◌, min, length}
+use Rattle.std.specs.Prelude.{List, ◌++◌, ◌≡◌, refl, ℕ, ◌≤◌, min, length, Ok}
 use Rattle.std.proofs.Math.Option.{none}
 use Rattle.std.proofs.Common.{◌∙◌, ap, subst, arith}
 use Rattle.rows.specs.Table.{column, length-column}
@@ -7,7 +7,6 @@ use Rattle.elements.specs.declared.SheetForm.{SheetForm}
 use Rattle.elements.specs.declared.SheetForm.TheVariants.{One, Two}
 use Rattle.elements.specs.Print.{rows_of, rows-many}
 use Rattle.sheet.specs.declared.Counts.{Counts}
-use Rattle.sheet.specs.declared.Reading.TheVariants.{Sound}
 use Rattle.sheet.specs.Sheet.{Sheet, reading}
 use Rattle.sheet.specs.Form.{Written, InForm, sheet_of, written_of}
 use Rattle.door.specs.Job.{Job, base_count, ruby_count, element_count}
@@ -64,7 +63,7 @@ pub given-passed : (t : Sheet) → given t ≡ none → Passed (sheet_job t)
 unfolding given
 given-passed t e = passed-by (sheet_job t) 1024 2048 2048 1024 e
 
-one-short : (s : List ℕ) (n : Counts) → (reading s).end ≡ Sound n → given (reading s) ≡ none → (reading s).form ≡ One → length (other_text s) ≤ 65535
+one-short : (s : List ℕ) (n : Counts) → (reading s).end ≡ Ok n → given (reading s) ≡ none → (reading s).form ≡ One → length (other_text s) ≤ 65535
 one-short s n e ok one =
     let r = written_of (reading s) in
     let k = known e in
@@ -72,7 +71,7 @@ one-short s n e ok one =
     let p = subst (λ t. Passed (sheet_job t)) k.is (given-passed (reading s) ok) in
     omega (arith, ap length (other-one s one), two-short r f (modest (sheet_job (sheet_of (reading s).form r)) r (job-has (reading s).form r) p f))
 
-pub other-short : (s : List ℕ) (n : Counts) → (reading s).end ≡ Sound n → Holds (written_of (reading s)) → given (reading s) ≡ none → length (other_text s) ≤ 65535
+pub other-short : (s : List ℕ) (n : Counts) → (reading s).end ≡ Ok n → Holds (written_of (reading s)) → given (reading s) ≡ none → length (other_text s) ≤ 65535
 other-short s n e h ok = go (reading s).form refl
   where
     go : (f : SheetForm) → (reading s).form ≡ f → length (other_text s) ≤ 65535

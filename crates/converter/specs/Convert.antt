@@ -1,18 +1,14 @@
 -- What the converter writes of a sheet (document 02, R-6), from its bytes alone: the other sheet whole, or `refused N P`. "17 .. given by the converter only, after 13"; "other jobs get their
 -- refusal".
-use Rattle.std.specs.Prelude.{cond, List, ℕ, ◌≤◌, eqb}
+use Rattle.std.specs.Prelude.{cond, List, ℕ, ◌≤◌, eqb, Ok, Err, Result}
 use Rattle.std.proofs.Math.Option.{Option, none, some}
 use Rattle.text.specs.Print.{Wrote}
 use Rattle.refusal.specs.declared.Refusal.{Refusal}
 use Rattle.refusal.specs.declared.Refusal.TheVariants.{OtherForm}
 use Rattle.sheet.specs.declared.Counts.{Counts}
-use Rattle.sheet.specs.declared.Reading.{Reading}
-use Rattle.sheet.specs.declared.Reading.TheVariants.{Sound, Refused}
 use Rattle.sheet.specs.Sheet.{Sheet, reading, Tables, Into}
 use Rattle.sheet.specs.Form.{written_of}
-use Rattle.door.specs.declared.Checked.{Checked}
-use Rattle.door.specs.declared.Checked.TheVariants as door
-use Rattle.door.specs.declared.Checked.TheVariants.{Passed}
+use Rattle.std.specs.Prelude.{Result, Ok, Err, ⊤}
 use Rattle.job.specs.Refusals.{fault}
 use Rattle.result.specs.Text.{refusal_text}
 use Rattle.sheet_job.specs.Tables.{sheet_job, Lent}
@@ -30,10 +26,10 @@ judged s none = other_text s
 judged s (some r) = refusal_text r
 
 -- 13, and the 2 of a count line, come first; then 17, with the first line at fault; then the job's own
-unfoldable pub convert_by : List ℕ → Reading → List ℕ
+unfoldable pub convert_by : List ℕ → Result Counts Refusal → List ℕ
 unfolding judged given fault_line refusal_text
-convert_by s (Refused r) = refusal_text r
-convert_by s (Sound n) =
+convert_by s (Err r) = refusal_text r
+convert_by s (Ok n) =
     let line = fault_line (written_of (reading s)) in
     cond (eqb line 0) (judged s (given (reading s))) (refusal_text (OtherForm line))
 
@@ -42,17 +38,17 @@ unfolding convert_by reading
 convert_text s = convert_by s (reading s).end
 
 -- the same by what the code finds: the line at fault, 0 if there is none, and the job's own refusal
-abbrev pub own : Option Refusal → Checked
-own none = Passed
-own (some r) = door.Refused r
+abbrev pub own : Option Refusal → Result ⊤ Refusal
+own none = Ok tt
+own (some r) = Err r
 
-abbrev pub verdict : ℕ → Option Refusal → Checked
-verdict line g = cond (eqb line 0) (own g) (door.Refused (OtherForm line))
+abbrev pub verdict : ℕ → Option Refusal → Result ⊤ Refusal
+verdict line g = cond (eqb line 0) (own g) (Err (OtherForm line))
 
 -- A sound sheet in its tables.
 pub record TablesHold (s : List ℕ) (n : Counts) (t : Tables) : Type 0 where
   pub was : Tables
-  pub into : Into s was (Sound n) t
+  pub into : Into s was (Ok n) t
   pub lent : Lent t
 
 -- A sheet is converted: the tables hold what was read, and `out` begins with what is written.

@@ -23,19 +23,18 @@ fn judge(
     elem: &[u32],
     runs: &[u32],
     lruns: &[u32],
-) -> door::Checked
+) -> Result<(), refusal::Refusal>
     requires { FaultReady n set.now elem.now × TablesLong n (tables_now set base ruby left elem runs lruns) }
     ensures { let job = tables_job n (tables_was set base ruby left elem runs lruns) in result ≡ verdict (line_by n set.now elem.now) (fault job 1024 2048 2048 1024) }
 {
-    let line = other_form::fault_line(n, set, elem);
-    if line != 0 {
-        return door::Checked::Refused(refusal::Refusal::OtherForm(line));
+    if let Some(line) = other_form::fault_line(n, set, elem) {
+        return Err(refusal::Refusal::OtherForm(line));
     }
-    let mut t = [0; engine::TABLE];
+    let mut rows = [cells::NO_CELL; limits::MOST_BASES];
     let mut ends = [0; limits::MOST_BASES];
     let mut extents = [0; limits::MOST_BASES];
-    match sheet_job::fill_tables(
-        &mut t,
+    sheet_job::fill_tables(
+        &mut rows,
         &mut ends,
         &mut extents,
         n,
@@ -46,13 +45,11 @@ fn judge(
         elem,
         runs,
         lruns,
-    ) {
-        filling::Lines::Refused(why) => door::Checked::Refused(why),
-        filling::Lines::Filled(_) => door::Checked::Passed,
-    }
+    )?;
+    Ok(())
 }
 
-// Converts a sheet. The answer is how many bytes of `out` are written: the other sheet, or `refused N P`.
+/// Converts a sheet. The answer is how many bytes of `out` are written: the other sheet, or `refused N P`.
 pub fn convert(
     s: &[u8],
     set: &mut [u32; limits::SET],
@@ -68,10 +65,10 @@ pub fn convert(
     ensures fits { Fits result out.new }
 {
     match sheet::read_sheet(s, set, base, ruby, left, elem, runs, lruns) {
-        sheet::Reading::Refused(why) => result::write_refusal(why, out),
-        sheet::Reading::Sound(n) => match judge(n, set, base, ruby, left, elem, runs, lruns) {
-            door::Checked::Refused(why) => result::write_refusal(why, out),
-            door::Checked::Passed => other_form::write_other(s, n, out),
+        Err(why) => result::write_refusal(why, out),
+        Ok(n) => match judge(n, set, base, ruby, left, elem, runs, lruns) {
+            Err(why) => result::write_refusal(why, out),
+            Ok(()) => other_form::write_other(s, n, out),
         },
     }
 }

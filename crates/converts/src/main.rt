@@ -2,13 +2,10 @@
 // where no frame follows. Since every program ends, it takes a million sheets at most.
 #![tactic(auto)]
 
-use frames::Frame;
 use std::io;
 
 fn main(rt: HostRuntime) -> io::Result<()> {
-    let mut input = rt.stdin();
-    let mut output = rt.stdout();
-    let mut text = [0; 65536];
+    let mut room = [0; 65536];
     let mut set = [0; limits::SET];
     let mut base = [0; limits::BASE_TABLE];
     let mut ruby = [0; limits::RUBY_TABLE];
@@ -17,26 +14,11 @@ fn main(rt: HostRuntime) -> io::Result<()> {
     let mut runs = [0; limits::RUNS];
     let mut lruns = [0; limits::RUNS];
     let mut out = [0; limits::SHEET];
-    let mut rest: u32 = 1000000;
-    while 0 < rest {
-        let frame = frames::next_frame(&mut input)?;
-        let Frame::Sheet(n) = frame else {
-            return Ok(());
-        };
-        let m = frames::read_sheet(&mut input, n, &mut text)?;
+    frames::answer_all(&mut rt.stdin(), &mut rt.stdout(), &mut room, |sheet, to| {
         let k = converter::convert(
-            &text[..m],
-            &mut set,
-            &mut base,
-            &mut ruby,
-            &mut left,
-            &mut elem,
-            &mut runs,
-            &mut lruns,
+            sheet, &mut set, &mut base, &mut ruby, &mut left, &mut elem, &mut runs, &mut lruns,
             &mut out,
         );
-        frames::write_answer(&mut output, k, &out)?;
-        rest -= 1;
-    }
-    Ok(())
+        frames::write_answer(to, k, &out)
+    })
 }

@@ -1,5 +1,5 @@
 -- The counts of one element (5) as the door finds them, its left reading after its right one; and level one's own rows (7 to 10) as its answer gives them.
-use Rattle.std.specs.Prelude.{◌≡◌, refl, Bool, true, false, cond, ◌||◌, List, [], ◌∷◌, ◌++◌, ℕ, ◌+◌, ◌≤◌, eqb, ltb, length}
+use Rattle.std.specs.Prelude.{◌≡◌, refl, Bool, true, false, cond, ◌||◌, List, [], ◌∷◌, ◌++◌, ℕ, ◌+◌, ◌≤◌, eqb, ltb, length, Option, Some, None, Result, Ok, Err}
 use Rattle.std.proofs.Common.{sym, ◌∙◌, arith, ltb-false}
 use Rattle.std.proofs.lemmas.Bool.{false≢true}
 use Rattle.basics.specs.Lists.{sum, any}
@@ -20,13 +20,9 @@ use Rattle.word.specs.Sides.{word_of}
 use Rattle.word.specs.Sized.{Sized}
 use Rattle.door.specs.declared.Taken.{Taken}
 use Rattle.door.specs.declared.Piece.{Piece}
-use Rattle.door.specs.declared.Counted.{Counted}
-use Rattle.door.specs.declared.Counted.TheVariants.{Is, Out}
-use Rattle.door.specs.declared.Step.{Step}
-use Rattle.door.specs.declared.Step.TheVariants.{Next, Stop}
 use Rattle.door.specs.Job.{Job, entries, known, known_left, form_of, left_of, left_by_runs, left_by_count, takes_base, takes_ruby, takes_runs, takes_left, takes_left_runs, given}
-use Rattle.door.specs.declared.Runs.TheVariants.{Sum, Wrong}
 use Rattle.door.specs.Refusals.{◌when◌, outside, counts_out, left_out}
+use Rattle.door.specs.Verdict.{unless_refused}
 use Rattle.door.specs.Values.{runs_from, runs-wrong, runs-sum}
 
 -- An element without a left reading, by its kind and counts, those before it having taken `at`.
@@ -47,15 +43,15 @@ alone form bases rubies at =
       more = false;
     }
 
-abbrev pub right_as : Form → ℕ → ℕ → List ℕ → Taken → Counted
+abbrev pub right_as : Form → ℕ → ℕ → List ℕ → Taken → Option Piece
 right_as form base ruby runs at =
     let n = takes_base form base in
     let es = entries runs at.run n in
     let m = takes_ruby form ruby (sum es) in
-    cond (counts_out form n m es) Out (Is (alone form n m at))
+    cond (counts_out form n m es) None (Some (alone form n m at))
 
-unfoldable pub right_by : ℕ → ℕ → ℕ → List ℕ → Taken → Counted
-right_by kind base ruby runs at = cond (known kind) (right_as (form_of kind) base ruby runs at) Out
+unfoldable pub right_by : ℕ → ℕ → ℕ → List ℕ → Taken → Option Piece
+right_by kind base ruby runs at = cond (known kind) (right_as (form_of kind) base ruby runs at) None
 
 -- And with its left reading, by the kind and counts of that.
 
@@ -75,14 +71,14 @@ with_left p gloss lefts =
       more = p.more;
     }
 
-abbrev pub glossed_as : Piece → Left → ℕ → List ℕ → Counted
+abbrev pub glossed_as : Piece → Left → ℕ → List ℕ → Option Piece
 glossed_as p gloss left runs =
     let es = entries runs p.leftrun p.bases in
     let m = takes_left p.form gloss left (sum es) in
-    cond (left_out p.form gloss m es) Out (Is (with_left p gloss m))
+    cond (left_out p.form gloss m es) None (Some (with_left p gloss m))
 
-unfoldable pub glossed_by : Piece → ℕ → ℕ → List ℕ → Counted
-glossed_by p kind left runs = cond (known_left kind) (glossed_as p (left_of kind) left runs) Out
+unfoldable pub glossed_by : Piece → ℕ → ℕ → List ℕ → Option Piece
+glossed_by p kind left runs = cond (known_left kind) (glossed_as p (left_of kind) left runs) None
 
 -- what the left counts ask of an element whose right counts are in range
 few-bases : (form : Form) (b r : ℕ) (runs : List ℕ) → counts_out form (takes_base form b) r runs ≡ false → takes_base form b ≤ 32
@@ -91,7 +87,7 @@ few-bases M b r runs e = omega arith
 few-bases G b r runs e = ltb-false 32 b (or_none (ltb b 1) (ltb 32 b) (or_none (outside 1 32 b) (outside 1 64 r) e).0).1
 few-bases J b r runs e = ltb-false 32 b (or_none (ltb b 1) (ltb 32 b) (or_none (outside 1 32 b) (any (eqb 0) runs || ltb 64 r) e).0).1
 
-pub right-few : (kind base ruby : ℕ) (runs : List ℕ) (at : Taken) {p : Piece} → at.leftrun ≤ 1024 → right_by kind base ruby runs at ≡ Is p → (p.leftrun ≤ 1024) × (p.bases ≤ 32)
+pub right-few : (kind base ruby : ℕ) (runs : List ℕ) (at : Taken) {p : Piece} → at.leftrun ≤ 1024 → right_by kind base ruby runs at ≡ Some p → (p.leftrun ≤ 1024) × (p.bases ≤ 32)
 unfolding right_by
 right-few kind base ruby runs at {p} h e = go (known kind) (counts_out f n m es) refl e
   where
@@ -107,18 +103,18 @@ right-few kind base ruby runs at {p} h e = go (known kind) (counts_out f n m es)
     m : ℕ
     m = takes_ruby f ruby (sum es)
 
-    go : (t w : Bool) → counts_out f n m es ≡ w → cond t (cond w Out (Is (alone f n m at))) Out ≡ Is p → (p.leftrun ≤ 1024) × (p.bases ≤ 32)
+    go : (t w : Bool) → counts_out f n m es ≡ w → cond t (cond w None (Some (alone f n m at))) None ≡ Some p → (p.leftrun ≤ 1024) × (p.bases ≤ 32)
     go true true d e = absurd (let z : ◌≡◌ {A = ℕ} 0 1 = cc in omega arith)
     go true false d e = let same : p ≡ alone f n m at = cc in rw same (h, few-bases f base m es d)
     go false w d e = absurd (let z : ◌≡◌ {A = ℕ} 0 1 = cc in omega arith)
 
 -- Both, "right first".
 
-abbrev pub and_then : Counted → (Piece → Counted) → Counted
-and_then (Is p) f = f p
-and_then Out f = Out
+abbrev pub and_then : Option Piece → (Piece → Option Piece) → Option Piece
+and_then (Some p) f = f p
+and_then None f = None
 
-unfoldable pub counted_by : ℕ → ℕ → ℕ → ℕ → ℕ → List ℕ → List ℕ → Taken → Counted
+unfoldable pub counted_by : ℕ → ℕ → ℕ → ℕ → ℕ → List ℕ → List ℕ → Taken → Option Piece
 unfolding right_by glossed_by
 counted_by kind base ruby lkind left runs lruns at = and_then (right_by kind base ruby runs at) (λ p. glossed_by p lkind left lruns)
 
@@ -144,7 +140,7 @@ right-only kind base ruby lkind left runs lruns at e = rw e (go (known kind) (co
     m : ℕ
     m = takes_ruby f ruby (sum es)
 
-    go : (t w : Bool) → let c = cond t (cond w Out (Is (alone f n m at))) Out in c ≡ and_then c (λ p. glossed_by p 78 left lruns)
+    go : (t w : Bool) → let c = cond t (cond w None (Some (alone f n m at))) None in c ≡ and_then c (λ p. glossed_by p 78 left lruns)
     go true true = refl
     go true false = refl
     go false w = refl
@@ -166,25 +162,21 @@ module _ (p : Piece) (kind left : ℕ) (runs : List ℕ) (fine : known_left kind
   by_kind = rw (fine, is)
 
   module _ (by : left_by_runs p.form gloss ≡ true) where
-    pub runs-out : runs_from runs p.leftrun p.bases ≡ Wrong → Out ≡ glossed_by p kind left runs
+    pub runs-out : runs_from runs p.leftrun p.bases ≡ None → None ≡ glossed_by p kind left runs
     runs-out e = sym (by_kind ∙ rw (by, runs-wrong runs p.leftrun p.bases e))
 
-    pub runs_in : {n : ℕ} → runs_from runs p.leftrun p.bases ≡ Sum n → Is (with_left p gloss n) ≡ glossed_by p kind left runs
+    pub runs_in : {n : ℕ} → runs_from runs p.leftrun p.bases ≡ Some n → Some (with_left p gloss n) ≡ glossed_by p kind left runs
     runs_in e = let s = runs-sum runs p.leftrun p.bases e in sym (by_kind ∙ rw (by, one_way p.form gloss by, s.0, s.1))
 
   module _ (not : left_by_runs p.form gloss ≡ false) where
-    pub count-out : left_by_count p.form gloss ≡ true → outside 1 64 left ≡ true → Out ≡ glossed_by p kind left runs
+    pub count-out : left_by_count p.form gloss ≡ true → outside 1 64 left ≡ true → None ≡ glossed_by p kind left runs
     count-out by e = sym (by_kind ∙ rw (not, by, e))
 
-    pub count_in : left_by_count p.form gloss ≡ true → outside 1 64 left ≡ false → Is (with_left p gloss left) ≡ glossed_by p kind left runs
+    pub count_in : left_by_count p.form gloss ≡ true → outside 1 64 left ≡ false → Some (with_left p gloss left) ≡ glossed_by p kind left runs
     count_in by e = sym (by_kind ∙ rw (not, by, e))
 
-    pub none_in : left_by_count p.form gloss ≡ false → Is (with_left p gloss 0) ≡ glossed_by p kind left runs
+    pub none_in : left_by_count p.form gloss ≡ false → Some (with_left p gloss 0) ≡ glossed_by p kind left runs
     none_in by = sym (by_kind ∙ rw (not, by))
-
-abbrev pub stepped : List Refusal → Piece → Step
-stepped [] p = Next p
-stepped (r ∷ rs) p = Stop r
 
 -- a piece that lies within the job's lists, with what level one asks of it
 pub record Reads (job : Job) (p : Piece) : Type 0 where
@@ -202,16 +194,16 @@ pub record Reads (job : Job) (p : Piece) : Type 0 where
   pub sized : Sized p.form (given job p).width (given job p).ruby_width (given job p).run
 
 -- level one's answer, by its rows
-pub by_rows_lem : (form : Form) (k : ℕ) (w : Given) (g : Gloss) (p : Piece) (s : Step) →
-    ((r : Refusal) → answer_both form k w g ≡ word.Refused r → s ≡ Stop r) → ((v : _) → answer_both form k w g ≡ word.Set v → s ≡ Next p) →
-    s ≡ stepped (BlankInside k when blank_inside form w ++ JukugoBase k when jukugo_base form w ++ Mixed k when mixed_both form w g ++ WesternOver k when western_both form w g) p
+pub by_rows_lem : (form : Form) (k : ℕ) (w : Given) (g : Gloss) (p : Piece) (s : Result Piece Refusal) →
+    ((r : Refusal) → answer_both form k w g ≡ word.Refused r → s ≡ Err r) → ((v : _) → answer_both form k w g ≡ word.Set v → s ≡ Ok p) →
+    s ≡ unless_refused (BlankInside k when blank_inside form w ++ JukugoBase k when jukugo_base form w ++ Mixed k when mixed_both form w g ++ WesternOver k when western_both form w g) p
 unfolding answer_both
 by_rows_lem form k w g p s refused set = go (blank_inside form w) (jukugo_base form w) (mixed_both form w g) (western_both form w g) refused set
   where
     go : (a b c d : Bool) →
-        ((r : Refusal) → cond a (word.Refused (BlankInside k)) (cond b (word.Refused (JukugoBase k)) (cond c (word.Refused (Mixed k)) (cond d (word.Refused (WesternOver k)) (word.Set (word_of form w g))))) ≡ word.Refused r → s ≡ Stop r) →
-        ((v : _) → cond a (word.Refused (BlankInside k)) (cond b (word.Refused (JukugoBase k)) (cond c (word.Refused (Mixed k)) (cond d (word.Refused (WesternOver k)) (word.Set (word_of form w g))))) ≡ word.Set v → s ≡ Next p) →
-        s ≡ stepped (BlankInside k when a ++ JukugoBase k when b ++ Mixed k when c ++ WesternOver k when d) p
+        ((r : Refusal) → cond a (word.Refused (BlankInside k)) (cond b (word.Refused (JukugoBase k)) (cond c (word.Refused (Mixed k)) (cond d (word.Refused (WesternOver k)) (word.Set (word_of form w g))))) ≡ word.Refused r → s ≡ Err r) →
+        ((v : _) → cond a (word.Refused (BlankInside k)) (cond b (word.Refused (JukugoBase k)) (cond c (word.Refused (Mixed k)) (cond d (word.Refused (WesternOver k)) (word.Set (word_of form w g))))) ≡ word.Set v → s ≡ Ok p) →
+        s ≡ unless_refused (BlankInside k when a ++ JukugoBase k when b ++ Mixed k when c ++ WesternOver k when d) p
     go true b c d f g = f _ refl
     go false true c d f g = f _ refl
     go false false true d f g = f _ refl

@@ -8,5 +8,6 @@ pub mod Values
 pub mod Whole
 pub mod Elements
 pub mod Walk
+pub mod Lent
 pub mod Loop
 pub mod Measure

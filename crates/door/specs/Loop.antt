@@ -1,5 +1,5 @@
 -- All elements in turn and what is left over, as the walk along them finds it.
-use Rattle.std.specs.Prelude.{◌≡◌, refl, Bool, true, false, cond, ◌||◌, get_or}
+use Rattle.std.specs.Prelude.{Ok, Err, ◌≡◌, refl, Bool, true, false, cond, ◌||◌, get_or}
 use Rattle.std.proofs.Math.Path.{sym, ap}
 use Rattle.std.proofs.Common.{◌∙◌, subst, zero-add, add-zero, arith, lt-ltb, le-ltb}
 use mathlib.Core.List.{List, [], ◌∷◌, ◌++◌, map, append_assoc}
@@ -17,12 +17,10 @@ use Rattle.word.specs.declared.Left.{Left}
 use Rattle.word.specs.Both.{takes}
 use Rattle.door.specs.declared.Taken.{Taken}
 use Rattle.door.specs.declared.Piece.{Piece}
-use Rattle.door.specs.declared.Checked.TheVariants.{Refused}
-use Rattle.door.specs.declared.Step.TheVariants.{Next, Stop}
 use Rattle.door.specs.Job.{Job, base_count, ruby_count, left_count, element_count, left_by_runs, takes_runs, takes_left_runs, nothing, past, element, elements_from, elements}
 use Rattle.door.specs.Refusals.{◌when◌, left_over, element_faults, elements_faults, left_faults}
-use Rattle.door.specs.Verdict.{verdict, front-refused}
-use Rattle.door.specs.Elements.{alone, stepped}
+use Rattle.door.specs.Verdict.{verdict, told_refused, told_passed, front-refused}
+use Rattle.door.specs.Elements.{alone}
 use Rattle.door.specs.Passed.{Rows, rows, supplied}
 use Rattle.door.specs.Walk.{Within, Stands, element_step, few, few_left_lem, reads}
 
@@ -64,14 +62,6 @@ left_runs-few form gloss n = go (left_by_runs form gloss)
     go true = omega arith
     go false = zero-le
 
-stop-refused : (xs : List Refusal) (p : Piece) {q : Refusal} → stepped xs p ≡ Stop q → verdict xs ≡ Refused q
-stop-refused [] p e = absurd (let z : ◌≡◌ {A = ℕ} 0 1 = cc in omega arith)
-stop-refused (x ∷ xs) p {q} e = let h : x ≡ q = cc in ap Refused h
-
-next-none : (xs : List Refusal) (p : Piece) {q : Piece} → stepped xs p ≡ Next q → (xs ≡ []) × (q ≡ p)
-next-none [] p e = (refl, cc)
-next-none (x ∷ xs) p e = absurd (let z : ◌≡◌ {A = ℕ} 0 1 = cc in omega arith)
-
 module _ (job : Job) (k : ℕ) (at : Taken) (along : Along job k at) (stands : Stands job k at) where
   abbrev y : Piece
   y = element job k at
@@ -88,16 +78,16 @@ module _ (job : Job) (k : ℕ) (at : Taken) (along : Along job k at) (stands : S
   goes = sym (rw (turn, add-one k) (ap verdict (append_assoc (element_faults job k y) _ _))) ∙ along.decides
 
   -- a refusal ends the walk
-  pub stopped : {q : Refusal} → Stop q ≡ element_step job k at → Refused q ≡ verdict (part_faults job)
-  stopped e = sym (front-refused (element_faults job k y) _ (stop-refused (element_faults job k y) y (sym e))) ∙ goes
+  pub stopped : {q : Refusal} → Err q ≡ element_step job k at → Err q ≡ verdict (part_faults job)
+  stopped e = sym (front-refused (element_faults job k y) _ (told_refused (element_faults job k y) y (sym e))) ∙ goes
 
   -- an element that passes takes the walk on
-  module _ {p : Piece} (e : Next p ≡ element_step job k at) where
+  module _ {p : Piece} (e : Ok p ≡ element_step job k at) where
     none : element_faults job k y ≡ []
-    none = (next-none (element_faults job k y) y (sym e)).0
+    none = (told_passed (element_faults job k y) y (sym e)).0
 
     pub same : p ≡ y
-    same = (next-none (element_faults job k y) y (sym e)).1
+    same = (told_passed (element_faults job k y) y (sym e)).1
 
     row : Rows job k y
     row = rows job k y none
@@ -157,10 +147,10 @@ module _ (job : Job) (k : ℕ) (at : Taken) (plain : get_or job.kind k 0 ≡ 80)
   unfolding element
   piece = rw (plain, bare)
 
-  pub plain-stops : base_count job ≤ at.base → Stop (Supply k) ≡ element_step job k at
+  pub plain-stops : base_count job ≤ at.base → Err (Supply k) ≡ element_step job k at
   plain-stops h = rw (piece, plain, bare, lt-ltb (base_count job) (at.base + 1) (omega arith))
 
-  plain-goes : Within job at → at.base < base_count job → Next (alone P 1 0 at) ≡ element_step job k at
+  plain-goes : Within job at → at.base < base_count job → Ok (alone P 1 0 at) ≡ element_step job k at
   plain-goes w h =
       rw (piece, plain, bare, le-ltb (base_count job) (at.base + 1) (omega arith), le-ltb (ruby_count job) (at.ruby + 0) (omega (arith, w.ruby)), le-ltb (left_count job) (at.left + 0) (omega (arith, w.left)))
 

@@ -1,28 +1,52 @@
 -- The first refusal of a list that is in order, and how a walk along such a list finds it.
-use Rattle.std.specs.Prelude.{◌≡◌, refl, Bool, true, false, List, [], ◌∷◌, ◌++◌, ℕ, suc, ◌+◌, ◌-◌, ◌≤◌, ◌<◌}
+use Rattle.std.specs.Prelude.{◌≡◌, refl, Bool, true, false, List, [], ◌∷◌, ◌++◌, ℕ, suc, Result, Ok, Err, ⊤, ◌+◌, ◌-◌, ◌≤◌, ◌<◌}
 use Rattle.std.proofs.Common.{sym, ap, ◌∙◌, append_assoc, append-nil, add-one, arith}
 use Rattle.std.proofs.Math.Nat.{sub-zero}
 use Rattle.basics.specs.Lists.{count, each, All}
 use Rattle.refusal.specs.declared.Refusal.{Refusal}
-use Rattle.door.specs.declared.Checked.{Checked}
-use Rattle.door.specs.declared.Checked.TheVariants.{Passed, Refused}
 use Rattle.door.specs.Refusals.{◌when◌, held_after, held}
 
-abbrev pub verdict : List Refusal → Checked
-verdict [] = Passed
-verdict (r ∷ rs) = Refused r
+-- the first of the refusals, or this where there is none
+abbrev pub unless_refused : {A : Type 0} → List Refusal → A → Result A Refusal
+unless_refused [] a = Ok a
+unless_refused (r ∷ rs) a = Err r
 
-pub passed_none : (xs : List Refusal) → verdict xs ≡ Passed → xs ≡ []
+abbrev pub verdict : List Refusal → Result ⊤ Refusal
+verdict rs = unless_refused rs tt
+
+pub passed_none : (xs : List Refusal) → verdict xs ≡ Ok tt → xs ≡ []
 passed_none [] e = refl
 passed_none (x ∷ xs) e = absurd (let z : ◌≡◌ {A = ℕ} 0 1 = cc in omega arith)
 
 -- what refuses at the front refuses the whole; what passes at the front leaves the rest
-pub front-refused : (xs ys : List Refusal) {r : Refusal} → verdict xs ≡ Refused r → verdict (xs ++ ys) ≡ Refused r
+pub front-refused : (xs ys : List Refusal) {r : Refusal} → verdict xs ≡ Err r → verdict (xs ++ ys) ≡ Err r
 front-refused [] ys e = absurd (let z : ◌≡◌ {A = ℕ} 0 1 = cc in omega arith)
 front-refused (x ∷ xs) ys e = e
 
-pub front-passed : (xs ys : List Refusal) → verdict xs ≡ Passed → verdict (xs ++ ys) ≡ verdict ys
+pub front-passed : (xs ys : List Refusal) → verdict xs ≡ Ok tt → verdict (xs ++ ys) ≡ verdict ys
 front-passed xs ys e = rw (passed_none xs e)
+
+-- a verdict, and where it passes what comes next
+abbrev pub and_so : {A : Type 0} → Result ⊤ Refusal → Result A Refusal → Result A Refusal
+and_so (Ok u) b = b
+and_so (Err r) b = Err r
+
+pub verdict_append : (xs ys : List Refusal) → verdict (xs ++ ys) ≡ and_so (verdict xs) (verdict ys)
+verdict_append [] ys = refl
+verdict_append (x ∷ xs) ys = refl
+
+pub told_append : {A : Type 0} (xs ys : List Refusal) (a : A) → unless_refused (xs ++ ys) a ≡ and_so (verdict xs) (and_so (verdict ys) (Ok a))
+told_append [] [] a = refl
+told_append [] (y ∷ ys) a = refl
+told_append (x ∷ xs) ys a = refl
+
+pub told_refused : {A : Type 0} (xs : List Refusal) (a : A) {q : Refusal} → unless_refused xs a ≡ Err q → verdict xs ≡ Err q
+told_refused [] a e = absurd (let z : ◌≡◌ {A = ℕ} 0 1 = cc in omega arith)
+told_refused (x ∷ xs) a {q} e = let h : x ≡ q = cc in ap Err h
+
+pub told_passed : {A : Type 0} (xs : List Refusal) (a : A) {b : A} → unless_refused xs a ≡ Ok b → (xs ≡ []) × (b ≡ a)
+told_passed [] a e = (refl, cc)
+told_passed (x ∷ xs) a e = absurd (let z : ◌≡◌ {A = ℕ} 0 1 = cc in omega arith)
 
 pub append_none : (xs ys : List Refusal) → xs ++ ys ≡ [] → (xs ≡ []) × (ys ≡ [])
 append_none [] ys e = (refl, e)
@@ -62,14 +86,11 @@ module _ (f : ℕ → List Refusal) (n i : ℕ) (h : i < n) where
   turn : each f (count i (n - i)) ≡ f i ++ each f (count (i + 1) (n - (i + 1)))
   turn = ap (λ (m : ℕ). each f (count i m)) {x = n - i} {y = suc (n - (i + 1))} (omega arith) ∙ rw (add-one i)
 
-  pub turn-refused : {r : Refusal} → verdict (f i) ≡ Refused r → verdict (each f (count i (n - i))) ≡ Refused r
-  turn-refused e = ap verdict turn ∙ front-refused (f i) (each f (count (i + 1) (n - (i + 1)))) e
+  pub verdict_turn : verdict (each f (count i (n - i))) ≡ and_so (verdict (f i)) (verdict (each f (count (i + 1) (n - (i + 1)))))
+  verdict_turn = ap verdict turn ∙ verdict_append (f i) (each f (count (i + 1) (n - (i + 1))))
 
-  pub turn-passed : verdict (f i) ≡ Passed → verdict (each f (count i (n - i))) ≡ verdict (each f (count (i + 1) (n - (i + 1))))
-  turn-passed e = ap verdict turn ∙ front-passed (f i) (each f (count (i + 1) (n - (i + 1)))) e
+pub walk_starts : (f : ℕ → List Refusal) (n : ℕ) → verdict (each f (count 0 (n - 0))) ≡ verdict (each f (count 0 n))
+walk_starts f n = rw (sub-zero n)
 
-pub walk-starts : (f : ℕ → List Refusal) (n : ℕ) → verdict (each f (count 0 (n - 0))) ≡ verdict (each f (count 0 n))
-walk-starts f n = rw (sub-zero n)
-
-pub walk_ends : (f : ℕ → List Refusal) (n i : ℕ) → n ≤ i → Passed ≡ verdict (each f (count i (n - i)))
+pub walk_ends : (f : ℕ → List Refusal) (n i : ℕ) → n ≤ i → Ok tt ≡ verdict (each f (count i (n - i)))
 walk_ends f n i h = ap (λ (m : ℕ). verdict (each f (count i m))) {x = 0} {y = n - i} (omega arith)

@@ -1,5 +1,5 @@
 -- The walk along the elements: where it stands, and what one element does to it.
-use Rattle.std.specs.Prelude.{◌≡◌, refl, Bool, true, false, cond, not, ◌||◌, List, ◌++◌, ℕ, ◌+◌, ◌^◌, ◌≤◌, ◌<◌, eqb, length, get_or}
+use Rattle.std.specs.Prelude.{Option, Some, None, Result, Ok, Err, ◌≡◌, refl, Bool, true, false, cond, not, ◌||◌, List, ◌++◌, ℕ, ◌+◌, ◌^◌, ◌≤◌, ◌<◌, eqb, length, get_or}
 use Rattle.std.proofs.Math.Path.{sym}
 use Rattle.std.proofs.Common.{ap, ◌∙◌, true≢false, arith, ne_eqb}
 use Rattle.std.proofs.lemmas.Bool.{false≢true}
@@ -19,14 +19,11 @@ use Rattle.word.specs.Answer.{blank_inside, jukugo_base}
 use Rattle.word.specs.Answered.{mixed_both, western_both, answer_both, LeftReady}
 use Rattle.door.specs.declared.Taken.{Taken}
 use Rattle.door.specs.declared.Piece.{Piece}
-use Rattle.door.specs.declared.Counted.{Counted}
-use Rattle.door.specs.declared.Counted.TheVariants.{Is, Out}
-use Rattle.door.specs.declared.Step.{Step}
-use Rattle.door.specs.declared.Step.TheVariants.{Next, Stop}
 use Rattle.door.specs.Job.{Job, base_count, ruby_count, left_count, element_count, entries, known, known_left, left_by_runs, takes_runs, takes_left_runs, element, given, gloss_of}
 use Rattle.door.specs.Refusals.{◌when◌, counts_out, left_out, counts_wrong, run_out, element_faults}
+use Rattle.door.specs.Verdict.{unless_refused}
 use Rattle.door.specs.Entries.{length-entries, sum-most, sum_first, some-within}
-use Rattle.door.specs.Elements.{with_left, and_then, counted_by, stepped, Reads, by_rows_lem}
+use Rattle.door.specs.Elements.{with_left, and_then, counted_by, Reads, by_rows_lem}
 use Rattle.door.specs.Passed.{Few, FewLeft, counts-few, gloss-few, supplied}
 use Rattle.door.specs.Whole.{base-within, ruby-within, left-within}
 
@@ -58,35 +55,35 @@ pub record Stands (job : Job) (k : ℕ) (at : Taken) : Type 0 where
   pub within : Within job at
 
 -- one element: its piece, or the first of its refusals
-abbrev pub element_step : Job → ℕ → Taken → Step
-element_step job k at = stepped (element_faults job k (element job k at)) (element job k at)
+abbrev pub element_step : Job → ℕ → Taken → Result Piece Refusal
+element_step job k at = unless_refused (element_faults job k (element job k at)) (element job k at)
 
 -- what the counting of an element says
-abbrev pub counting : Job → ℕ → Taken → Counted
+abbrev pub counting : Job → ℕ → Taken → Option Piece
 counting job k at =
     counted_by (get_or job.kind k 0) (get_or job.element_base k 0) (get_or job.element_ruby k 0) (get_or job.left_kind k 0) (get_or job.element_left k 0) job.run job.left_run at
 
 -- right first, then left
-in_turn : (t w s v : Bool) (y x : Piece) (f : Piece → Counted) → f y ≡ cond s (cond v Out (Is x)) Out →
-    and_then (cond t (cond w Out (Is y)) Out) f ≡ cond ((not t || w) || (not s || v)) Out (Is x)
+in_turn : (t w s v : Bool) (y x : Piece) (f : Piece → Option Piece) → f y ≡ cond s (cond v None (Some x)) None →
+    and_then (cond t (cond w None (Some y)) None) f ≡ cond ((not t || w) || (not s || v)) None (Some x)
 in_turn true true s v y x f e = refl
 in_turn true false true true y x f e = e
 in_turn true false true false y x f e = e
 in_turn true false false v y x f e = e
 in_turn false w s v y x f e = refl
 
-counted : (job : Job) (k : ℕ) (at : Taken) → let x = element job k at in counting job k at ≡ cond (counts_wrong job k x) Out (Is x)
+counted : (job : Job) (k : ℕ) (at : Taken) → let x = element job k at in counting job k at ≡ cond (counts_wrong job k x) None (Some x)
 unfolding counted_by element
 counted job k at =
     let x = element job k at in
     in_turn (known (get_or job.kind k 0)) (counts_out x.form x.bases x.rubies (given job x).run) (known_left (get_or job.left_kind k 0)) (left_out x.form x.gloss x.lefts (gloss_of job x).run)
     (with_left x left.N 0) x _ refl
 
-cond-out : (t : Bool) (p : Piece) → cond t Out (Is p) ≡ Out → t ≡ true
+cond-out : (t : Bool) (p : Piece) → cond t None (Some p) ≡ None → t ≡ true
 cond-out true p e = refl
 cond-out false p e = absurd (let z : ◌≡◌ {A = ℕ} 0 1 = cc in omega arith)
 
-cond-is : (t : Bool) (p : Piece) {q : Piece} → cond t Out (Is p) ≡ Is q → (t ≡ false) × (q ≡ p)
+cond-is : (t : Bool) (p : Piece) {q : Piece} → cond t None (Some p) ≡ Some q → (t ≡ false) × (q ≡ p)
 cond-is true p e = absurd (let z : ◌≡◌ {A = ℕ} 0 1 = cc in omega arith)
 cond-is false p e = (refl, cc)
 
@@ -137,10 +134,10 @@ module _ (job : Job) (k : ℕ) (at : Taken) where
   x = element job k at
 
   -- number 5
-  pub out-stops : counting job k at ≡ Out → Stop (Element k) ≡ element_step job k at
+  pub out-stops : counting job k at ≡ None → Err (Element k) ≡ element_step job k at
   out-stops e = rw (cond-out (counts_wrong job k x) _ (sym (counted job k at) ∙ e))
 
-  pub passes-five : {p : Piece} → counting job k at ≡ Is p → (counts_wrong job k x ≡ false) × (p ≡ x)
+  pub passes-five : {p : Piece} → counting job k at ≡ Some p → (counts_wrong job k x ≡ false) × (p ≡ x)
   passes-five e = cond-is (counts_wrong job k x) x (sym (counted job k at) ∙ e)
 
   module _ (five : counts_wrong job k x ≡ false) where
@@ -159,18 +156,18 @@ module _ (job : Job) (k : ℕ) (at : Taken) where
         (omega (arith, w.base, c.few, few.few), omega (arith, w.ruby, c.few_ruby, few.few_ruby), omega (arith, w.left, c.few_left, few_left_lem.few))
 
     -- number 16
-    pub kind-stops : takes x.form x.gloss ≡ false → Stop (LeftKind k) ≡ element_step job k at
+    pub kind-stops : takes x.form x.gloss ≡ false → Err (LeftKind k) ≡ element_step job k at
     kind-stops e = rw (five, e)
 
     module _ (sixteen : takes x.form x.gloss ≡ true) where
       -- number 6
-      pub short-stops : run_out job x ≡ true → Stop (Supply k) ≡ element_step job k at
+      pub short-stops : run_out job x ≡ true → Err (Supply k) ≡ element_step job k at
       short-stops e = rw (five, sixteen, e)
 
       module _ (six : run_out job x ≡ false) where
         -- past these, level one's own rows decide
         word-decides : element_step job k at
-            ≡ stepped (BlankInside k when blank_inside x.form (given job x) ++ JukugoBase k when jukugo_base x.form (given job x)
+            ≡ unless_refused (BlankInside k when blank_inside x.form (given job x) ++ JukugoBase k when jukugo_base x.form (given job x)
             ++ Mixed k when mixed_both x.form (given job x) (gloss_of job x) ++ WesternOver k when western_both x.form (given job x) (gloss_of job x)) x
         word-decides = rw (five, sixteen, six)
 
@@ -228,10 +225,10 @@ module _ (job : Job) (k : ℕ) (at : Taken) where
               whole = λ j g. sym (m ∙ l.whole (jukugo-runs x.form x.gloss j h g));
             }
 
-        pub set-goes_on : {v : Word} → answer_both x.form k (given job x) (gloss_of job x) ≡ word.Set v → Next x ≡ element_step job k at
+        pub set-goes_on : {v : Word} → answer_both x.form k (given job x) (gloss_of job x) ≡ word.Set v → Ok x ≡ element_step job k at
         set-goes_on e =
-            by_rows_lem x.form k (given job x) (gloss_of job x) x (Next x) (λ q f. absurd (let z : ◌≡◌ {A = ℕ} 0 1 = cc in omega arith)) (λ w f. refl) ∙ sym word-decides
+            by_rows_lem x.form k (given job x) (gloss_of job x) x (Ok x) (λ q f. absurd (let z : ◌≡◌ {A = ℕ} 0 1 = cc in omega arith)) (λ w f. refl) ∙ sym word-decides
 
-        pub refused-stops : {q : Refusal} → answer_both x.form k (given job x) (gloss_of job x) ≡ word.Refused q → Stop q ≡ element_step job k at
+        pub refused-stops : {q : Refusal} → answer_both x.form k (given job x) (gloss_of job x) ≡ word.Refused q → Err q ≡ element_step job k at
         refused-stops e =
-            by_rows_lem x.form k (given job x) (gloss_of job x) x (Stop _) (λ q f. let h : _ ≡ q = cc in ap Stop h) (λ w f. absurd (let z : ◌≡◌ {A = ℕ} 0 1 = cc in omega arith)) ∙ sym word-decides
+            by_rows_lem x.form k (given job x) (gloss_of job x) x (Err _) (λ q f. let h : _ ≡ q = cc in ap Err h) (λ w f. absurd (let z : ◌≡◌ {A = ℕ} 0 1 = cc in omega arith)) ∙ sym word-decides

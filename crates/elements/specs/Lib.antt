@@ -1,3 +1,4 @@
+pub mod Read
 pub mod Element
 pub mod Elements
 pub mod Ready

@@ -1,24 +1,24 @@
 -- Theorems, for each form: a line of the section `elem` is read exactly where an element's text stands (`element-is`, `element-back`), and the section exactly where its count and its elements
 -- stand (`section-is`, `stands-section`). What is stored of the elements says them (`entries-back`).
-use Rattle.std.specs.Prelude.{Bool, cond, ◌≡◌, ℕ, zero, suc, ◌+◌, ◌*◌, ◌≤◌, ◌<◌, eqb, ltb, get_or, take, drop}
+use Rattle.std.specs.Prelude.{Bool, cond, ◌≡◌, ℕ, zero, suc, ◌+◌, ◌*◌, ◌≤◌, ◌<◌, eqb, ltb, get_or, take, drop, None, Option, Result, Some, Err}
 use Rattle.std.proofs.Math.Bool.{true, false}
 use mathlib.Core.List.{List, [], ◌∷◌, ◌++◌, append_assoc}
 use Rattle.std.proofs.Math.Path.{refl}
+use Rattle.std.proofs.lemmas.Option.{some_pair_parts}
 use Rattle.std.proofs.Common.{◌∙◌, ap, ap₂, sym, add-zero, arith, ltb-false, lt-ltb, le-ltb, eqb-true, length-append, get_or-drop}
 use Rattle.std.proofs.Math.Dec.{eqb-suc-zero}
 use Rattle.std.proofs.Math.ListN.{length}
 use Rattle.std.proofs.Math.Seq.{take-append_seam, drop-append_seam}
 use Rattle.basics.specs.Lists.{All}
 use Rattle.refusal.specs.declared.Refusal.TheVariants.{Form, Count}
-use Rattle.text.specs.declared.Place.{Place}
-use Rattle.text.specs.declared.Place.TheVariants.{At, Off}
 use Rattle.text.specs.Text.{most, stop_of}
 use Rattle.text.specs.Text as text
 use Rattle.text.specs.Print.{bytes}
 use Rattle.text.specs.Unique.{ended}
 use Rattle.text.specs.Stands.{Stands, stands-none, stands-then, stands-cut, stands-number, stands_word}
+use Rattle.refusal.specs.declared.Refusal.{Refusal}
 use Rattle.rows.specs.declared.Part.{Part}
-use Rattle.rows.specs.declared.Part.TheVariants.{Read as PartRead}
+use Rattle.rows.specs.Read.{Read as PartRead}
 use Rattle.rows.specs.Section as rows
 use Rattle.rows.specs.Section.{on_number, on_place, on_part, fields, head_of}
 use Rattle.rows.specs.Whole.{fields-count}
@@ -27,9 +27,7 @@ use Rattle.rows.specs.Printed.{on_word, on_number_lem, spaced-numbers, numbers-c
 use Rattle.elements.specs.declared.Element.{Element}
 use Rattle.elements.specs.declared.SheetForm.{SheetForm}
 use Rattle.elements.specs.declared.SheetForm.TheVariants.{One, Two}
-use Rattle.elements.specs.declared.Line.{Line}
-use Rattle.elements.specs.declared.Line.TheVariants.{Holds, Broken}
-use Rattle.elements.specs.declared.Elements.TheVariants.{Read, Refused}
+use Rattle.elements.specs.Read.{Read}
 use Rattle.elements.specs.Element.{bare, with_left, on_line, plain_at, mono_at, group_at, Got, nothing, held, jukugo_at, either, or_runs, right_at, byte_at, counts_of, counted_at, listed_at, left_by, left_at}
 use Rattle.elements.specs.Element.{stop_by, end_by, Taken, word_at, or_word, element}
 use Rattle.elements.specs.Elements.{Listed, broke, joined, lines, elements}
@@ -62,50 +60,50 @@ jukugo-text stop runs h =
     ∙ rw (eqb-suc-zero (length runs)) (ap (λ l. bytes "J " ++ l) (numbers-cons stop (length runs) runs ∙ ap (λ k. ended (length runs) k ++ numbers_text stop runs) (some-stop stop runs h)))
 
 abbrev right_got : Right → ℕ → Got
-right_got r next = record { runs = right_runs r; line = Holds (right_of r) next }
+right_got r next = record { runs = right_runs r; line = Some (right_of r, next) }
 
 -- as it was read: broken, or one of the three stands there
 data RightIs (stop : ℕ) (s : List ℕ) (at : ℕ) (g : Got) : Type 0 where
-  broken : g.line ≡ Broken → RightIs stop s at g
+  broken : g.line ≡ None → RightIs stop s at g
   stands : (r : Right) (next : ℕ) → RightFit r → Stands s at (right_text r ++ (stop ∷ [])) next → g ≡ right_got r next → RightIs stop s at g
 
 -- a kind without runs
-abbrev alone : Line → Got
+abbrev alone : Option (Element × ℕ) → Got
 alone l = record { runs = []; line = l }
 
-abbrev ShortIs : ℕ → List ℕ → ℕ → Line → Type 0
+abbrev ShortIs : ℕ → List ℕ → ℕ → Option (Element × ℕ) → Type 0
 ShortIs stop s at l = RightIs stop s at (alone l)
 
-short-broken : (stop : ℕ) (s : List ℕ) (at : ℕ) → ShortIs stop s at Broken
+short-broken : (stop : ℕ) (s : List ℕ) (at : ℕ) → ShortIs stop s at None
 short-broken stop s at = broken refl
 
 mono-is : (stop : ℕ) (s : List ℕ) (at : ℕ) → ShortIs stop s at (mono_at stop s at)
 unfolding mono_at RightFit right_of right_runs
 mono-is stop s at =
-    on_word (ShortIs stop s at) Broken (short-broken stop s at) s at (bytes "M ") _
-    (λ p t. on_number_lem (ShortIs stop s at) Broken (short-broken stop s at) s p stop _ (λ r q h u. stands (M r) q h (rw (mono-text stop r) (stands-then t u)) refl))
+    on_word (ShortIs stop s at) None (short-broken stop s at) s at (bytes "M ") _
+    (λ p t. on_number_lem (ShortIs stop s at) None (short-broken stop s at) s p stop _ (λ r q h u. stands (M r) q h (rw (mono-text stop r) (stands-then t u)) refl))
 
 group-is : (stop : ℕ) (s : List ℕ) (at : ℕ) → ShortIs stop s at (group_at stop s at)
 unfolding group_at RightFit right_of right_runs
 group-is stop s at =
-    on_word (ShortIs stop s at) Broken (short-broken stop s at) s at (bytes "G ") _
+    on_word (ShortIs stop s at) None (short-broken stop s at) s at (bytes "G ") _
     (λ p t.
-    on_number_lem (ShortIs stop s at) Broken (short-broken stop s at) s p 32 _
+    on_number_lem (ShortIs stop s at) None (short-broken stop s at) s p 32 _
     (λ b q h u.
-    on_number_lem (ShortIs stop s at) Broken (short-broken stop s at) s q stop _
+    on_number_lem (ShortIs stop s at) None (short-broken stop s at) s q stop _
     (λ r n g v. stands (G b r) n (h, g) (rw (group-text stop b r) (stands-then t (stands-then u v))) refl)))
 
 -- runs that were read: broken, or they stand there
-held-is : (Q : Got → Type 0) (e : Element) (last k : ℕ) (s : List ℕ) (at : ℕ) → ((g : Got) → g.line ≡ Broken → Q g) →
-    ((vs : List ℕ) (next : ℕ) → length vs ≡ k → Small vs → Stands s at (numbers_text last vs) next → Q (record { runs = vs; line = Holds e next })) → Q (held e (fields last k s at))
+held-is : (Q : Got → Type 0) (e : Element) (last k : ℕ) (s : List ℕ) (at : ℕ) → ((g : Got) → g.line ≡ None → Q g) →
+    ((vs : List ℕ) (next : ℕ) → length vs ≡ k → Small vs → Stands s at (numbers_text last vs) next → Q (record { runs = vs; line = Some (e, next) })) → Q (held e (fields last k s at))
 unfolding on_place
 held-is Q e last k s at off on = go (fields last k s at).end refl
   where
-    go : (x : Place) → (fields last k s at).end ≡ x → Q (record { runs = (fields last k s at).values; line = on_place x Broken (λ next. Holds e next) })
-    go (At next) h =
+    go : (x : Option ℕ) → (fields last k s at).end ≡ x → Q (record { runs = (fields last k s at).values; line = on_place x None (λ next. Some (e, next)) })
+    go (Some next) h =
         let t = fields-stands last k s at next h in
         on (fields last k s at).values next (fields-count last k s at next h) t.small t.text
-    go Off h = off _ refl
+    go None h = off _ refl
 
 runs-is : (stop : ℕ) (s : List ℕ) (at p b q : ℕ) → Stands s at (bytes "J ") p → Stands s p (ended b 32) q → 1 ≤ b → b ≤ 32 → RightIs stop s at (held (bare 74 b 0 b) (fields stop b s q))
 unfolding RightFit right_of right_runs
@@ -126,15 +124,14 @@ jukugo-is stop s at =
     on_word (RightIs stop s at) nothing (broken refl) s at (bytes "J ") _
     (λ p t. on_number_lem (RightIs stop s at) nothing (broken refl) s p 32 _ (λ b q h u. count-is stop s at p b q t u (ltb b 1) (ltb 32 b) refl refl))
 
-either_is : (stop : ℕ) (s : List ℕ) (at : ℕ) (a b : Line) → ShortIs stop s at a → ShortIs stop s at b → ShortIs stop s at (either a b)
-unfolding either
-either_is stop s at (Holds e next) b x y = x
-either_is stop s at Broken b x y = y
+either_is : (stop : ℕ) (s : List ℕ) (at : ℕ) (a b : Option (Element × ℕ)) → ShortIs stop s at a → ShortIs stop s at b → ShortIs stop s at (either a b)
+either_is stop s at (Some read) b x y = x
+either_is stop s at None b x y = y
 
-or_is : (stop : ℕ) (s : List ℕ) (at : ℕ) (l : Line) (j : Got) → ShortIs stop s at l → RightIs stop s at j → RightIs stop s at (or_runs l j)
+or_is : (stop : ℕ) (s : List ℕ) (at : ℕ) (l : Option (Element × ℕ)) (j : Got) → ShortIs stop s at l → RightIs stop s at j → RightIs stop s at (or_runs l j)
 unfolding or_runs
-or_is stop s at (Holds e next) j x y = x
-or_is stop s at Broken j x y = y
+or_is stop s at (Some read) j x y = x
+or_is stop s at None j x y = y
 
 right_is : (stop : ℕ) (s : List ℕ) (at : ℕ) → RightIs stop s at (right_at stop s at)
 unfolding right_at
@@ -143,12 +140,12 @@ right_is stop s at =
     (jukugo-is stop s at)
 
 -- and its text is read as it
-other_word : (s : List ℕ) (at d : ℕ) (w : List ℕ) {c : ℕ} {t : List ℕ} {next : ℕ} → Stands s at (c ∷ t) next → eqb c d ≡ false → rows.word_at (d ∷ w) s at ≡ Off
+other_word : (s : List ℕ) (at d : ℕ) (w : List ℕ) {c : ℕ} {t : List ℕ} {next : ℕ} → Stands s at (c ∷ t) next → eqb d c ≡ false → rows.word_at (d ∷ w) s at ≡ None
 unfolding text.word
 other_word s at d w x h = rw (x.text, h)
 
 right-back : (stop : ℕ) (r : Right) (s : List ℕ) (at next : ℕ) → stop < 48 → RightFit r → Stands s at (right_text r ++ (stop ∷ [])) next → right_at stop s at ≡ right_got r next
-unfolding right_at mono_at group_at jukugo_at either or_runs on_place on_number RightFit right_of right_runs
+unfolding right_at mono_at group_at jukugo_at or_runs on_place on_number RightFit right_of right_runs
 right-back stop (M r) s at next st h x =
     let c = stands-cut (bytes "M ") (ended r stop) (rw (mono-text stop r) at x) in
     rw (stands_word (bytes "M ") s at c.mid c.first, stands-number s c.mid r stop next st h c.second)
@@ -177,34 +174,34 @@ right-back stop (J runs) s at next st h x =
     )
 
 -- it ends no earlier than it begins
-right-past-by : (stop : ℕ) (s : List ℕ) (at : ℕ) (g : Got) (e : Element) (next : ℕ) → g.line ≡ Holds e next → RightIs stop s at g → at ≤ next
+right-past-by : (stop : ℕ) (s : List ℕ) (at : ℕ) (g : Got) (e : Element) (next : ℕ) → g.line ≡ Some (e, next) → RightIs stop s at g → at ≤ next
 right-past-by stop s at g e next h (broken b) = absurd (let z : ◌≡◌ {A = ℕ} 0 1 = cc in omega arith)
 right-past-by stop s at g e next h (stands r p fit x same) =
     let l = sym h ∙ ap (λ (u : Got). u.line) same in
-    let j : next ≡ p = cc in
+    let j = (some_pair_parts _ _ _ _ l).1 in
     omega (arith, x.past)
 
-pub right-past : (stop : ℕ) (s : List ℕ) (at : ℕ) (e : Element) (next : ℕ) → Holds e next ≡ (right_at stop s at).line → at ≤ next
+pub right-past : (stop : ℕ) (s : List ℕ) (at : ℕ) (e : Element) (next : ℕ) → Some (e, next) ≡ (right_at stop s at).line → at ≤ next
 right-past stop s at e next h = right-past-by stop s at (right_at stop s at) e next (sym h) (right_is stop s at)
 
 -- The left kind and its counts, to the end of the line.
 
 abbrev left_got : Right → Left → ℕ → Got
-left_got r l next = record { runs = left_runs r l; line = Holds (word_of r l) next }
+left_got r l next = record { runs = left_runs r l; line = Some (word_of r l, next) }
 
 data LeftIs (r : Right) (s : List ℕ) (at : ℕ) (g : Got) : Type 0 where
-  broken : g.line ≡ Broken → LeftIs r s at g
+  broken : g.line ≡ None → LeftIs r s at g
   stands : (l : Left) (next : ℕ) → LeftFit (bases_of r) l → Stands s at (left_text l ++ bytes "\n") next → g ≡ left_got r l next → LeftIs r s at g
 
 module _ (c : ℕ) (e : Element) (s : List ℕ) (at : ℕ) where
-  counted_is : (Q : Line → Type 0) → Q Broken → ((n next : ℕ) → n ≤ most → Stands s at ((c ∷ spaced (n ∷ [])) ++ (10 ∷ [])) next → Q (Holds (with_left e c n 0) next)) → Q (counted_at c e s at)
+  counted_is : (Q : Option (Element × ℕ) → Type 0) → Q None → ((n next : ℕ) → n ≤ most → Stands s at ((c ∷ spaced (n ∷ [])) ++ (10 ∷ [])) next → Q (Some (with_left e c n 0, next))) → Q (counted_at c e s at)
   unfolding counted_at numbers_text
   counted_is Q off on =
-      on_word Q Broken off s at (c ∷ (32 ∷ [])) _ (λ p t. on_number_lem Q Broken off s p 10 _ (λ n q h u. on n q h (rw (letter-text c 10 (n ∷ [])) (stands-then t u))))
+      on_word Q None off s at (c ∷ (32 ∷ [])) _ (λ p t. on_number_lem Q None off s p 10 _ (λ n q h u. on n q h (rw (letter-text c 10 (n ∷ [])) (stands-then t u))))
 
-  listed-is : (Q : Got → Type 0) → ((g : Got) → g.line ≡ Broken → Q g) →
+  listed-is : (Q : Got → Type 0) → ((g : Got) → g.line ≡ None → Q g) →
       ((vs : List ℕ) (next : ℕ) → length vs ≡ counts_of e.kind e.base c → Small vs → Stands s at ((c ∷ spaced vs) ++ (10 ∷ [])) next →
-      Q (record { runs = vs; line = Holds (with_left e c 0 (counts_of e.kind e.base c)) next })) → Q (listed_at c e s at)
+      Q (record { runs = vs; line = Some (with_left e c 0 (counts_of e.kind e.base c), next) })) → Q (listed_at c e s at)
   unfolding listed_at
   listed-is Q off on =
       let n = counts_of e.kind e.base c in
@@ -234,7 +231,7 @@ module _ (s : List ℕ) (at : ℕ) where
   unfolding left_by left_text LeftFit left_runs left_count letter_of spaced
   none_left r = listed-is 78 (right_of r) s at (LeftIs r s at) (λ g h. broken h) go
     where
-      go : (vs : List ℕ) (next : ℕ) → length vs ≡ 0 → Small vs → Stands s at ((78 ∷ spaced vs) ++ (10 ∷ [])) next → LeftIs r s at (record { runs = vs; line = Holds (with_left (right_of r) 78 0 0) next })
+      go : (vs : List ℕ) (next : ℕ) → length vs ≡ 0 → Small vs → Stands s at ((78 ∷ spaced vs) ++ (10 ∷ [])) next → LeftIs r s at (record { runs = vs; line = Some (with_left (right_of r) 78 0 0, next) })
       go [] next k small x = stands none next tt x refl
       go (v ∷ vs) next k small x = absurd (omega arith)
 
@@ -257,14 +254,14 @@ module _ (s : List ℕ) (at next : ℕ) where
       let head : get_or (drop at s) 0 0 ≡ c = rw x.text in
       ap (byte_at s) (sym (add-zero at)) ∙ sym (get_or-drop at s 0 0) ∙ head
 
-  counted_back : (c : ℕ) (e : Element) (n : ℕ) → n ≤ most → Stands s at ((c ∷ spaced (n ∷ [])) ++ (10 ∷ [])) next → counted_at c e s at ≡ Holds (with_left e c n 0) next
+  counted_back : (c : ℕ) (e : Element) (n : ℕ) → n ≤ most → Stands s at ((c ∷ spaced (n ∷ [])) ++ (10 ∷ [])) next → counted_at c e s at ≡ Some (with_left e c n 0, next)
   unfolding counted_at on_place on_number numbers_text
   counted_back c e n h x =
       let y = stands-cut (c ∷ (32 ∷ [])) (ended n 10) (rw (letter-text c 10 (n ∷ [])) at x) in
       rw (stands_word (c ∷ (32 ∷ [])) s at y.mid y.first, stands-number s y.mid n 10 next (omega arith) h y.second)
 
   listed_back : (c : ℕ) (e : Element) (vs : List ℕ) → length vs ≡ counts_of e.kind e.base c → Small vs → Stands s at ((c ∷ spaced vs) ++ (10 ∷ [])) next →
-      listed_at c e s at ≡ record { runs = vs; line = Holds (with_left e c 0 (length vs)) next }
+      listed_at c e s at ≡ record { runs = vs; line = Some (with_left e c 0 (length vs), next) }
   unfolding listed_at on_place
   listed_back c e vs k small x =
       let y = stands-cut (c ∷ (stop_of 10 (length vs) ∷ [])) (numbers_text 10 vs) (rw (letter-text c 10 vs) at x) in
@@ -286,7 +283,7 @@ module _ (s : List ℕ) (at next : ℕ) where
 -- The line whole.
 
 pub data ElementIs (f : SheetForm) (s : List ℕ) (at : ℕ) (t : Taken) : Type 0 where
-  broken : t.line ≡ Broken → ElementIs f s at t
+  broken : t.line ≡ None → ElementIs f s at t
   stands : (e : Entry) (next : ℕ) → Fit f e → Stands s at (element_text f e) next → t ≡ taken_of e next → ElementIs f s at t
 
 -- without a left kind
@@ -313,19 +310,19 @@ left_end s at p r h x g (stands l next k y e) = ElementIs.stands (word r l) next
 word_end : (f : SheetForm) (s : List ℕ) (at : ℕ) (g : Got) → RightIs (stop_by f) s at g → ElementIs f s at (end_got f s g)
 unfolding end_by on_line stop_by Fit taken_of element_text
 word_end One s at g (broken e) = ElementIs.broken e
-word_end One s at g (stands r next h x e) = ElementIs.stands (word r none) next (h, refl) x (rw e (ap (λ i. record { runs = right_runs r; lruns = []; line = Holds i next }) (bare-word r)))
+word_end One s at g (stands r next h x e) = ElementIs.stands (word r none) next (h, refl) x (rw e (ap (λ i. record { runs = right_runs r; lruns = []; line = Some (i, next) }) (bare-word r)))
 word_end Two s at g (broken e) = rw e (ElementIs.broken refl)
 word_end Two s at g (stands r p h x e) = rw e (left_end s at p r h x (left_at (right_of r) s p) (left_is s p r))
 
-or_word-is : (f : SheetForm) (s : List ℕ) (at : ℕ) (l : Line) (t : Taken) → ElementIs f s at (record { runs = []; lruns = []; line = l }) → ElementIs f s at t → ElementIs f s at (or_word l t)
+or_word-is : (f : SheetForm) (s : List ℕ) (at : ℕ) (l : Option (Element × ℕ)) (t : Taken) → ElementIs f s at (record { runs = []; lruns = []; line = l }) → ElementIs f s at t → ElementIs f s at (or_word l t)
 unfolding or_word
-or_word-is f s at (Holds e next) t x y = x
-or_word-is f s at Broken t x y = y
+or_word-is f s at (Some read) t x y = x
+or_word-is f s at None t x y = y
 
 plain-is : (f : SheetForm) (s : List ℕ) (at : ℕ) → ElementIs f s at (record { runs = []; lruns = []; line = plain_at s at })
 unfolding plain_at element_text Fit taken_of
 plain-is f s at =
-    on_word (λ l. ElementIs f s at (record { runs = []; lruns = []; line = l })) Broken (ElementIs.broken refl) s at (bytes "P\n") _ (λ p t. ElementIs.stands P p tt t refl)
+    on_word (λ l. ElementIs f s at (record { runs = []; lruns = []; line = l })) None (ElementIs.broken refl) s at (bytes "P\n") _ (λ p t. ElementIs.stands P p tt t refl)
 
 pub element-is : (f : SheetForm) (s : List ℕ) (at : ℕ) → ElementIs f s at (element f s at)
 unfolding element word_at
@@ -333,7 +330,7 @@ element-is f s at = or_word-is f s at (plain_at s at) (end_got f s (right_at (st
 
 -- The text of an element is read as that element.
 
-first-letter : (r : Right) (t : List ℕ) (s : List ℕ) (at next : ℕ) → Stands s at (right_text r ++ t) next → plain_at s at ≡ Broken
+first-letter : (r : Right) (t : List ℕ) (s : List ℕ) (at next : ℕ) → Stands s at (right_text r ++ t) next → plain_at s at ≡ None
 unfolding plain_at right_text on_place
 first-letter (M r) t s at next x = rw (other_word s at 80 (bytes "\n") x refl)
 first-letter (G b r) t s at next x = rw (other_word s at 80 (bytes "\n") x refl)
@@ -345,7 +342,7 @@ element-back One P s at next h x = rw (stands_word (bytes "P\n") s at next x)
 element-back Two P s at next h x = rw (stands_word (bytes "P\n") s at next x)
 element-back One (word r l) s at next h x =
     rw (first-letter r (10 ∷ []) s at next x, right-back 10 r s at next (omega arith) h.0 x, h.1)
-    (ap (λ i. record { runs = right_runs r; lruns = []; line = Holds i next }) (bare-word r))
+    (ap (λ i. record { runs = right_runs r; lruns = []; line = Some (i, next) }) (bare-word r))
 element-back Two (word r l) s at next h x =
     let c = stands-cut (right_text r ++ (32 ∷ [])) (left_text l ++ bytes "\n") (rw (two-text r l) at x) in
     rw (first-letter r (32 ∷ []) s at c.mid c.first, right-back 32 r s at c.mid (omega arith) h.0 c.first, left_back s c.mid next r l h.1 c.second)
@@ -389,7 +386,7 @@ pub record ElementsStand (f : SheetForm) (s : List ℕ) (at : ℕ) (es : List En
   pub text : Stands s at (elements_text f es) next
 
 pub data ListedIs (f : SheetForm) (n left : ℕ) (s : List ℕ) (at used lused : ℕ) (t : Listed) : Type 0 where
-  broken : (l : ℕ) → t.end ≡ Refused (Form l) → ListedIs f n left s at used lused t
+  broken : (l : ℕ) → t.end ≡ Err (Form l) → ListedIs f n left s at used lused t
   whole : (es : List Entry) (next l : ℕ) → length es ≡ left → ElementsStand f s at es next → t ≡ listed_of es n used lused next l → ListedIs f n left s at used lused t
 
 pub runs-counted : (e : Entry) → ((element_of e).runs ≡ length (runs_of e)) × ((element_of e).lruns ≡ length (lruns_of e))
@@ -463,8 +460,8 @@ elements-long f (e ∷ es) a =
 
 -- the section as it was read: its form is broken, or its count is over the maximum, or it stands there
 pub data SectionIs (f : SheetForm) (w : List ℕ) (top which : ℕ) (s : List ℕ) (at : ℕ) (t : Listed) : Type 0 where
-  broken : (l : ℕ) → t.end ≡ Refused (Form l) → SectionIs f w top which s at t
-  over : (n next : ℕ) → Counted w s at n next → top < n → t.end ≡ Refused (Count which) → SectionIs f w top which s at t
+  broken : (l : ℕ) → t.end ≡ Err (Form l) → SectionIs f w top which s at t
+  over : (n next : ℕ) → Counted w s at n next → top < n → t.end ≡ Err (Count which) → SectionIs f w top which s at t
   stands : (es : List Entry) (next l : ℕ) → KeptElements f top es → Stands s at (elem_text f w es) next → t ≡ listed_of es (length es) 0 0 next l → SectionIs f w top which s at t
 
 section-lines-is : (f : SheetForm) (w : List ℕ) (top which : ℕ) (s : List ℕ) (at n p : ℕ) → Counted w s at n p → n ≤ top → (t : Listed) → ListedIs f n n s p 0 0 t → SectionIs f w top which s at t
@@ -473,7 +470,7 @@ section-lines-is f w top which s at n p c h t (ListedIs.broken l e) = SectionIs.
 section-lines-is f w top which s at n p c h t (whole es next l count took e) =
     SectionIs.stands es next l (record { few = omega arith; fit = took.fit }) (rw count (stands-then c.text took.text)) (e ∙ ap (λ i. listed_of es i 0 0 next l) (sym count))
 
-section-head-is : (f : SheetForm) (w : List ℕ) (top which : ℕ) (s : List ℕ) (at line : ℕ) (h : Part) → HeadIs w top which s at line h → SectionIs f w top which s at (elements f s h)
+section-head-is : (f : SheetForm) (w : List ℕ) (top which : ℕ) (s : List ℕ) (at line : ℕ) (h : Result Part Refusal) → HeadIs w top which s at line h → SectionIs f w top which s at (elements f s h)
 unfolding elements on_part
 section-head-is f w top which s at line h HeadIs.broken = SectionIs.broken line refl
 section-head-is f w top which s at line h (HeadIs.over n next c g) = SectionIs.over n next c g refl
@@ -494,7 +491,7 @@ stands-section f w top which s m at line next es h a x =
 
 -- and a count over the maximum is refused
 pub over-section : (f : SheetForm) (w : List ℕ) (top which : ℕ) (s : List ℕ) (m at line n next : ℕ) → Counted w s at n next → top < n →
-    (elements f s (head_of w top which s (PartRead m at line))).end ≡ Refused (Count which)
+    (elements f s (head_of w top which s (PartRead m at line))).end ≡ Err (Count which)
 unfolding elements on_part
 over-section f w top which s m at line n next c h = rw (head-back w top which s m at line n next c, lt-ltb top n h)
 

@@ -1,5 +1,6 @@
 -- How the loop over the elements comes along: what is left to read, stored after what was read, makes up the whole. A run takes two bytes of the sheet at least, so that the tables have room.
-use Rattle.std.specs.Prelude.{List, ◌++◌, ◌≡◌, refl}
+use Rattle.std.specs.Prelude.{ok_or, Ok, List, ◌++◌, ◌≡◌, refl, Result, Err, None, Option, Some}
+use Rattle.std.proofs.lemmas.Option.{some_pair_parts}
 use Rattle.std.proofs.Common.{◌∙◌, ap₂, sym}
 use Rattle.std.proofs.Math.Path.{ap}
 use Prim.Native.Nat.{ℕ, suc, ◌+◌, ◌-◌, ◌*◌, ◌^◌, ◌≤◌, ◌<◌}
@@ -10,18 +11,18 @@ use Rattle.std.proofs.lemmas.List.Edits.{sets}
 use Rattle.std.proofs.Math.Seq.{length-sets}
 use Rattle.basics.specs.Laws.{sets_append}
 use Rattle.refusal.specs.declared.Refusal.TheVariants.{Form}
+use Rattle.refusal.specs.declared.Refusal.{Refusal}
 use Rattle.rows.specs.declared.Part.{Part}
-use Rattle.rows.specs.declared.Part.TheVariants.{Read as PartRead}
+use Rattle.rows.specs.Read.{Read as PartRead}
 use Rattle.rows.specs.Section.{on_part}
 use Rattle.rows.specs.Table.{strided, laid, length-strided}
 use Rattle.elements.specs.declared.Element.{Element}
 use Rattle.elements.specs.declared.SheetForm.{SheetForm}
-use Rattle.elements.specs.declared.Line.TheVariants.{Holds, Broken}
-use Rattle.elements.specs.declared.Elements.TheVariants.{Read, Refused}
+use Rattle.elements.specs.Read.{Read}
 use Rattle.elements.specs.Element.{on_line, Taken, element, row_of}
 use Rattle.elements.specs.Elements.{Listed, broke, joined, lines, elements}
 use Rattle.elements.specs.Ready.{LineReady, PutReady, LinesReady, ElementsReady}
-use Rattle.elements.specs.Print.{element_of, taken_of}
+use Rattle.elements.specs.Print.{taken_of}
 use Rattle.elements.specs.Printed.{ElementIs, broken, stands, element-is, element-long, runs-counted}
 use Rattle.elements.specs.Determined.{ListRead}
 
@@ -32,13 +33,14 @@ pub record LineRuns (at : ℕ) (e : Element) (next : ℕ) (t : Taken) : Type 0 w
   pub few : at + 2 * e.runs ≤ next
   pub few_left : at + 2 * e.lruns ≤ next
 
-line-runs-by : (f : SheetForm) (s : List ℕ) (at : ℕ) (t : Taken) (e : Element) (next : ℕ) → t.line ≡ Holds e next → ElementIs f s at t → LineRuns at e next t
+line-runs-by : (f : SheetForm) (s : List ℕ) (at : ℕ) (t : Taken) (e : Element) (next : ℕ) → t.line ≡ Some (e, next) → ElementIs f s at t → LineRuns at e next t
 unfolding taken_of
 line-runs-by f s at t e next h (broken b) = absurd (let z : ◌≡◌ {A = ℕ} 0 1 = cc in omega arith)
 line-runs-by f s at t e next h (stands x p fit took same) =
     let l = sym h ∙ ap (λ (u : Taken). u.line) same in
-    let i : e ≡ element_of x = cc in
-    let j : next ≡ p = cc in
+    let q = some_pair_parts _ _ _ _ l in
+    let i = q.0 in
+    let j = q.1 in
     let k = runs-counted x in
     let m = element-long f x fit in
     record {
@@ -48,7 +50,7 @@ line-runs-by f s at t e next h (stands x p fit took same) =
       few_left = rw i (omega (arith, j, k.1, m.1, took.past));
     }
 
-pub line-runs : (f : SheetForm) (s : List ℕ) (at : ℕ) (e : Element) (next : ℕ) → Holds e next ≡ (element f s at).line → LineRuns at e next (element f s at)
+pub line-runs : (f : SheetForm) (s : List ℕ) (at : ℕ) (e : Element) (next : ℕ) → Some (e, next) ≡ (element f s at).line → LineRuns at e next (element f s at)
 line-runs f s at e next h = line-runs-by f s at (element f s at) e next (sym h) (element-is f s at)
 
 -- Of n lines i are read.
@@ -114,7 +116,7 @@ module _ {s : List ℕ} {f : SheetForm} {n from first : ℕ} {wasTable wasRuns w
       pub line-fits : line + 1 < 2 ^ 32
       line-fits = omega (arith, ready.lines, inv.counted)
 
-    pub used_fits : (e : Element) (next : ℕ) → Holds e next ≡ (element f s at).line → (used + e.runs ≤ next) × (lused + e.lruns ≤ next)
+    pub used_fits : (e : Element) (next : ℕ) → Some (e, next) ≡ (element f s at).line → (used + e.runs ≤ next) × (lused + e.lruns ≤ next)
     used_fits e next h =
         let r = line-runs f s at e next h in
         (omega (arith, inv.few, r.few), omega (arith, inv.few_left, r.few_left))
@@ -128,7 +130,7 @@ module _ {s : List ℕ} {f : SheetForm} {n from first : ℕ} {wasTable wasRuns w
         ap (λ m. lines f n m s at line used lused) e
 
     module _ (nowRuns nowLeft : List ℕ) (put : nowRuns ≡ sets runs used (element f s at).runs) (putLeft : nowLeft ≡ sets lruns lused (element f s at).lruns) where
-      pub lines-broken : Broken ≡ (element f s at).line → ListRead whole wasTable wasRuns wasLeft (Refused (Form line)) table nowRuns nowLeft
+      pub lines-broken : None ≡ (element f s at).line → ListRead whole wasTable wasRuns wasLeft (Err (Form line)) table nowRuns nowLeft
       unfolding on_line laid
       lines-broken h =
           record {
@@ -138,7 +140,12 @@ module _ {s : List ℕ} {f : SheetForm} {n from first : ℕ} {wasTable wasRuns w
             left = putLeft ∙ (rw (one_line, ← h) at inv.kept_left);
           }
 
-      pub lines_next : (e : Element) (next : ℕ) → Holds e next ≡ (element f s at).line → (nowTable : List ℕ) → nowTable ≡ strided table i 1024 (row_of e) →
+      -- as `ok_or` and `?` hand it on
+      pub lines-refused : (r : Option (Element × ℕ)) (q : Refusal) → r ≡ (element f s at).line → ok_or r (Form line) ≡ Err q → ListRead whole wasTable wasRuns wasLeft (Err q) table nowRuns nowLeft
+      lines-refused None q h e = let g : ◌≡◌ {A = Refusal} (Form line) q = cc in rw (← g) (lines-broken h)
+      lines-refused (Some read) q h e = absurd (let z : ◌≡◌ {A = ℕ} 0 1 = cc in omega arith)
+
+      pub lines_next : (e : Element) (next : ℕ) → Some (e, next) ≡ (element f s at).line → (nowTable : List ℕ) → nowTable ≡ strided table i 1024 (row_of e) →
           LinesLeft s f n from first wasTable wasRuns wasLeft nowTable nowRuns nowLeft next (line + 1) (used + e.runs) (lused + e.lruns) (i + 1)
       unfolding on_line laid
       lines_next e next h nowTable put-row =
@@ -160,11 +167,26 @@ module _ {s : List ℕ} {f : SheetForm} {n from first : ℕ} {wasTable wasRuns w
           }
 
 -- the lines under a head that was read
-pub lines-ready : (s : List ℕ) (head : Part) (table runs lruns : List ℕ) (n at line : ℕ) → head ≡ PartRead n at line → ElementsReady s head table runs lruns → LinesReady s n line table runs lruns
+pub lines-ready : (s : List ℕ) (head : Result Part Refusal) (table runs lruns : List ℕ) (n at line : ℕ) → head ≡ PartRead n at line → ElementsReady s head table runs lruns → LinesReady s n line table runs lruns
 lines-ready s head table runs lruns n at line e ready =
     let h = rw e at ready in
     record { few = h.few; lines = h.lines; room = h.room; short = h.short (record { count = n; at = at; line = line; is = refl }); held = h.held }
 
-pub elements_of : (f : SheetForm) (s : List ℕ) (head : Part) (n at line : ℕ) → head ≡ PartRead n at line → elements f s head ≡ lines f n n s at line 0 0
+pub part_ready : (s : List ℕ) (head : Result Part Refusal) (p : Part) (table runs lruns : List ℕ) → head ≡ Ok p → ElementsReady s head table runs lruns → LinesReady s p.count p.line table runs lruns
+part_ready s head p table runs lruns e ready = lines-ready s head table runs lruns p.count p.at p.line e ready
+
+pub elements_of : (f : SheetForm) (s : List ℕ) (head : Result Part Refusal) (n at line : ℕ) → head ≡ PartRead n at line → elements f s head ≡ lines f n n s at line 0 0
 unfolding elements on_part
 elements_of f s head n at line e = rw e
+
+pub part_read : (f : SheetForm) (s : List ℕ) (head : Result Part Refusal) (p : Part) → head ≡ Ok p → elements f s head ≡ lines f p.count p.count s p.at p.line 0 0
+part_read f s head p e = elements_of f s head p.count p.at p.line e
+
+-- and under one that is refused: nothing is read, and the tables stay
+pub none_read : (f : SheetForm) (s : List ℕ) (head : Result Part Refusal) (q : Refusal) (table runs lruns : List ℕ) → head ≡ Err q → ListRead (elements f s head) table runs lruns (Err q) table runs lruns
+unfolding elements on_part laid
+none_read f s head q table runs lruns e = rw e (record { end = refl; rows = refl; right = refl; left = refl })
+
+pub ruleset line_steps = (lines-first, line-ready, lines-broken, put-ready, line-fits, used_fits, lines_next, lines-done)
+
+pub ruleset element_steps = (part_ready, part_read, none_read)

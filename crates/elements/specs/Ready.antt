@@ -1,6 +1,7 @@
 -- What the tables must have room for: 1,024 elements of five numbers, and the runs that a sheet of 65,535 bytes can hold, two bytes or more each.
-use Rattle.std.specs.Prelude.{List, ℕ, ◌+◌, ◌*◌, ◌^◌, ◌≤◌, ◌<◌, length}
+use Rattle.std.specs.Prelude.{List, ℕ, ◌+◌, ◌*◌, ◌^◌, ◌≤◌, ◌<◌, length, Result}
 use Rattle.std.proofs.Common.{arith, mul-one}
+use Rattle.refusal.specs.declared.Refusal.{Refusal}
 use Rattle.rows.specs.declared.Part.{Part}
 use Rattle.rows.specs.Section.{count_of, line_of}
 use Rattle.rows.specs.Table.{FieldsReady}
@@ -35,7 +36,7 @@ pub record LinesReady (s : List ℕ) (n first : ℕ) (table runs lruns : List �
   pub short : length s ≤ 65535
   pub held : Held runs lruns
 
-pub record ElementsReady (s : List ℕ) (head : Part) (table runs lruns : List ℕ) : Type 0 where
+pub record ElementsReady (s : List ℕ) (head : Result Part Refusal) (table runs lruns : List ℕ) : Type 0 where
   pub few : count_of head ≤ 1024
   pub lines : line_of head + count_of head < 2 ^ 32
   pub room : 5120 ≤ length table

@@ -4,6 +4,7 @@ use Rattle.std.proofs.Common.{sym, ap, arith}
 use Rattle.std.proofs.Math.Path.{subst}
 use Rattle.std.proofs.Math.Nat.{sub-zero}
 use Rattle.refusal.specs.declared.Refusal.{Refusal}
+use Rattle.cells.specs.Rows.{Rows}
 use Rattle.door.specs.Job.{Job, base_count, ruby_count, left_count}
 use Rattle.job.specs.declared.Answer.TheVariants.{Set, Refused}
 use Rattle.job.specs.Outcome.{Outcome, after, outcome}
@@ -16,18 +17,18 @@ use Rattle.engine.specs.Fault.{long}
 use Rattle.engine.specs.Filled.{Full, Stopped, no-fault, front-is}
 
 -- the positions of lines that end at `es`, put into lists
-abbrev pub Put : Job → List ℕ → List ℕ → List ℕ → List ℕ → List ℕ → List ℕ → List ℕ → List ℕ → Type 0
+abbrev pub Put : Job → Rows → List ℕ → List ℕ → List ℕ → List ℕ → List ℕ → List ℕ → List ℕ → Type 0
 Put job t es base ruby left b r g =
     let rs = sheet_of job t in
     (b ≡ rows.lines_over (rows.base_of rs) es base) × (r ≡ rows.lines_over (rows.ruby_of rs) es ruby) × (g ≡ rows.lines_over (rows.left_of rs) es left)
 
 module _ (job : Job) (base ruby left lines : List ℕ) where
-  pub refused : {was wasFar t found far : List ℕ} {q : Refusal} → Stopped job (length base) (length ruby) (length left) (length lines) was wasFar t found far q →
+  pub refused : {was wasFar : List ℕ} {t : Rows} {found far : List ℕ} {q : Refusal} → Stopped job (length base) (length ruby) (length left) (length lines) was wasFar t found far q →
       ◌≡◌ {A = Outcome} (record { answer = Refused q; base = base; ruby = ruby; left = left; lines = lines }) (outcome job base ruby left lines)
   unfolding outcome after
   refused s = rw s.first
 
-  module _ (was wasFar t found far : List ℕ) (n : ℕ) (full : Full job (length base) (length ruby) (length left) (length lines) was wasFar t found far n) where
+  module _ (was wasFar : List ℕ) (t : Rows) (found far : List ℕ) (n : ℕ) (full : Full job (length base) (length ruby) (length left) (length lines) was wasFar t found far n) where
     -- no result list is too short
     room_for : (base_count job ≤ length base) × (base_count job ≤ length lines) × (ruby_count job ≤ length ruby) × (left_count job ≤ length left)
     room_for = long job (length base) (length ruby) (length left) (length lines) full.own

@@ -9,7 +9,7 @@ ghost use Rattle.setter.specs.Answer.{answer_text, Fits};
 ghost use Rattle.account_sheet.specs.Answer.{account_of_sheet};
 ghost use Rattle.exports.specs.Told.{told, Few, Left, Accounted};
 
-// Number 0 and the number of lines, or a refusal's number and its place.
+/// Number 0 and the number of lines, or a refusal's number and its place.
 #[repr(C)]
 #[derive(Clone, Copy)]
 pub struct Answer {
@@ -28,13 +28,14 @@ fn answer_of(a: job::Answer) -> Answer
             place: n as u32,
         },
         job::Answer::Refused(why) => Answer {
-            number: refusal::number(why),
-            place: refusal::place(why),
+            number: why.number(),
+            place: why.place(),
         },
     }
 }
 
-// Sets a job in lists. `rratio` and `bratio` are the ratios of spread ruby and of spread base, three numbers each, a, m, c.
+/// Sets a job in lists. `rratio` and `bratio` are the ratios of spread ruby and of spread base, three numbers each, a, m, c.
+#[tactic(auto, using(crate::specs::Told::leaves))]
 #[unsafe(no_mangle)]
 pub extern "C" fn bv_set_job(
     em: u32,
@@ -65,36 +66,47 @@ pub extern "C" fn bv_set_job(
 ) -> Answer
     ensures { Left (job_was em measure (rratio.now ∷ bratio.now ∷ []) profile class width before after flag rclass rwidth lclass lwidth kind ebase eruby lkind eleft runs lruns) base.old ruby.old left.old lines.old result base.new ruby.new left.new lines.new }
 {
-    let answer = engine::set_job(
+    let job = door::Job {
         em,
         measure,
-        [*rratio, *bratio],
+        ratios: [*rratio, *bratio],
         profile,
-        class,
-        width,
-        before,
-        after,
-        flag,
-        rclass,
-        rwidth,
-        lclass,
-        lwidth,
-        kind,
-        ebase,
-        eruby,
-        lkind,
-        eleft,
+        base: door::Bases {
+            class,
+            width,
+            before,
+            after,
+            flag,
+        },
+        ruby: door::Readings {
+            class: rclass,
+            width: rwidth,
+        },
+        left: door::Readings {
+            class: lclass,
+            width: lwidth,
+        },
+        elements: door::Elements {
+            kind,
+            bases: ebase,
+            rubies: eruby,
+            left_kind: lkind,
+            lefts: eleft,
+        },
         runs,
-        lruns,
+        left_runs: lruns,
+    };
+    let mut results = engine::Results {
         base,
         ruby,
         left,
         lines,
-    );
+    };
+    let answer = engine::set(&job, &mut results);
     answer_of(answer)
 }
 
-// Sets a sheet; how many bytes at the front of `out` its answer has.
+/// Sets a sheet; how many bytes at the front of `out` its answer has.
 #[unsafe(no_mangle)]
 pub extern "C" fn bv_set_sheet(sheet: &[u8], out: &mut [u8; limits::ANSWER]) -> usize
     ensures wrote { Wrote out.old 0 (answer_text sheet.now) result out.new }
@@ -128,7 +140,7 @@ pub extern "C" fn bv_set_sheet(sheet: &[u8], out: &mut [u8; limits::ANSWER]) -> 
     )
 }
 
-// The account of a job in lists: a row of six numbers for each piece, and for each line the count of pieces up to its end and the extent.
+/// The account of a job in lists: a row of six numbers for each piece, and for each line the count of pieces up to its end and the extent.
 #[unsafe(no_mangle)]
 pub extern "C" fn bv_account_job(
     em: u32,
@@ -158,35 +170,41 @@ pub extern "C" fn bv_account_job(
 ) -> Answer
     ensures { Accounted (job_was em measure (rratio.now ∷ bratio.now ∷ []) profile class width before after flag rclass rwidth lclass lwidth kind ebase eruby lkind eleft runs lruns) rows.old told.old extents.old result rows.new told.new extents.new }
 {
-    let answer = job_account::account_job(
+    let job = door::Job {
         em,
         measure,
-        [*rratio, *bratio],
+        ratios: [*rratio, *bratio],
         profile,
-        class,
-        width,
-        before,
-        after,
-        flag,
-        rclass,
-        rwidth,
-        lclass,
-        lwidth,
-        kind,
-        ebase,
-        eruby,
-        lkind,
-        eleft,
+        base: door::Bases {
+            class,
+            width,
+            before,
+            after,
+            flag,
+        },
+        ruby: door::Readings {
+            class: rclass,
+            width: rwidth,
+        },
+        left: door::Readings {
+            class: lclass,
+            width: lwidth,
+        },
+        elements: door::Elements {
+            kind,
+            bases: ebase,
+            rubies: eruby,
+            left_kind: lkind,
+            lefts: eleft,
+        },
         runs,
-        lruns,
-        rows,
-        told,
-        extents,
-    );
+        left_runs: lruns,
+    };
+    let answer = job_account::account(&job, rows, told, extents);
     answer_of(answer)
 }
 
-// The account of a sheet; how many bytes at the front of `out` its text has.
+/// The account of a sheet; how many bytes at the front of `out` its text has.
 #[unsafe(no_mangle)]
 pub extern "C" fn bv_account_sheet(sheet: &[u8], out: &mut [u8; limits::ANSWER]) -> usize
     ensures wrote { Wrote out.old 0 (account_of_sheet sheet.now) result out.new }

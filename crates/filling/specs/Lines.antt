@@ -1,5 +1,5 @@
 -- The lines so far, and those from here on: they fill the job, or are stuck.
-use Rattle.std.specs.Prelude.{◌≡◌, Bool, true, false, cond, eqb, length, drop}
+use Rattle.std.specs.Prelude.{◌≡◌, Bool, true, false, cond, eqb, length, drop, Result, Ok, Err}
 use Rattle.std.proofs.Math.Path.{refl, sym, ap}
 use Rattle.std.proofs.Common.{◌∙◌, eq-eqb, ne_eqb}
 use mathlib.Core.List.{List, [], ◌∷◌, ◌++◌, append-nil, append_assoc}
@@ -7,31 +7,31 @@ use Prim.Native.Nat.{ℕ, zero, suc, ◌+◌, ◌-◌, ◌≤◌, ◌<◌, zero-
 use native.Mathlib.Omega.{arith}
 use Rattle.std.proofs.Math.ListN.{set, length-append}
 use Rattle.basics.specs.Lists.{last_or}
+use Rattle.refusal.specs.declared.Refusal.{Refusal}
 use Rattle.refusal.specs.declared.Refusal.TheVariants.{NoBreak}
 use Rattle.line.specs.Setting.{furthest}
+use Rattle.cells.specs.Rows.{Rows}
 use Rattle.cells.specs.Cells.{state_at, last_of, breaks, end_of, ends_from, lines_of}
 use Rattle.cells.specs.Sound.{Sound}
-use Rattle.filling.specs.declared.Lines.{Lines}
-use Rattle.filling.specs.declared.Lines.TheVariants.{Filled, Refused}
 
 -- a list written over the front of another
 abbrev pub over : List ℕ → List ℕ → List ℕ
 over new was = new ++ drop (length new) was
 
 -- lines that end at n fill the job; others are stuck where the last one ends
-abbrev pub told_of : ℕ → List ℕ → Lines
-told_of n es = let z = last_or 0 es in cond (eqb z n) (Filled (length es)) (Refused (NoBreak z))
+abbrev pub told_of : ℕ → List ℕ → Result ℕ Refusal
+told_of n es = let z = last_or 0 es in cond (eqb z n) (Ok (length es)) (Err (NoBreak z))
 
 -- the extents of lines that end at es, the first from s on
-abbrev pub extents_of : List ℕ → ℕ → List ℕ → List ℕ
+abbrev pub extents_of : Rows → ℕ → List ℕ → List ℕ
 extents_of t s [] = []
 extents_of t s (e ∷ es) = furthest (state_at t s e) ∷ extents_of t e es
 
-pub length-extents : (t : List ℕ) (s : ℕ) (es : List ℕ) → length (extents_of t s es) ≡ length es
+pub length-extents : (t : Rows) (s : ℕ) (es : List ℕ) → length (extents_of t s es) ≡ length es
 length-extents t s [] = refl
 length-extents t s (e ∷ es) = ap suc (length-extents t e es)
 
-extents_snoc : (t : List ℕ) (s : ℕ) (es : List ℕ) (e : ℕ) → extents_of t s (es ++ (e ∷ [])) ≡ extents_of t s es ++ (furthest (state_at t (last_or s es) e) ∷ [])
+extents_snoc : (t : Rows) (s : ℕ) (es : List ℕ) (e : ℕ) → extents_of t s (es ++ (e ∷ [])) ≡ extents_of t s es ++ (furthest (state_at t (last_or s es) e) ∷ [])
 extents_snoc t s [] e = refl
 extents_snoc t s (d ∷ es) e = ap (λ (l : List ℕ). furthest (state_at t s d) ∷ l) (extents_snoc t d es e)
 
@@ -61,7 +61,7 @@ last_in p s (suc k) h = go (p (s + suc k)) (last_of p 0 s k) (last_in p s k) h
     go false z f h = let q = f h in (q.0, omega (arith, q.1))
 
 -- k lines are found, up to s
-pub record Sofar (limit : ℕ) (t : List ℕ) (n : ℕ) (was table wasFar far : List ℕ) (s k : ℕ) : Type 0 where
+pub record Sofar (limit : ℕ) (t : Rows) (n : ℕ) (was table wasFar far : List ℕ) (s k : ℕ) : Type 0 where
   pub sound : Sound t n
   pub room : n ≤ length was
   pub room_far : n ≤ length wasFar
@@ -76,12 +76,12 @@ pub record Sofar (limit : ℕ) (t : List ℕ) (n : ℕ) (was table wasFar far : 
   pub few : k ≤ s
   pub upto : s ≤ n
 
-pub sofar-first : (limit : ℕ) (t : List ℕ) (n : ℕ) (was wasFar : List ℕ) → Sound t n → n ≤ length was → n ≤ length wasFar → Sofar limit t n was was wasFar wasFar 0 0
+pub sofar-first : (limit : ℕ) (t : Rows) (n : ℕ) (was wasFar : List ℕ) → Sound t n → n ≤ length was → n ≤ length wasFar → Sofar limit t n was was wasFar wasFar 0 0
 unfolding lines_of
 sofar-first limit t n was wasFar sound room far =
     record { sound = sound; room = room; room_far = far; done = []; fuel = n; written = refl; told = refl; many = refl; last = refl; all = refl; enough = omega arith; few = zero-le; upto = zero-le }
 
-module _ (limit : ℕ) (t : List ℕ) (n : ℕ) (was table wasFar far : List ℕ) (s k : ℕ) (q : Sofar limit t n was table wasFar far s k) where
+module _ (limit : ℕ) (t : Rows) (n : ℕ) (was table wasFar far : List ℕ) (s k : ℕ) (q : Sofar limit t n was table wasFar far s k) where
   pub long : length table ≡ length was
   long = ap length q.written ∙ length_over q.done was (omega (arith, q.many, q.few, q.upto, q.room))
 
@@ -99,7 +99,7 @@ module _ (limit : ℕ) (t : List ℕ) (n : ℕ) (was table wasFar far : List ℕ
       none zero = refl
       none (suc f) = rw (eq-eqb (end_of limit t n s) 0 e)
 
-  pub stuck : s < n → end_of limit t n s ≡ 0 → (Refused (NoBreak s) ≡ told_of n (lines_of limit t n)) × (table ≡ over (lines_of limit t n) was) × (far ≡ over (extents_of t 0 (lines_of limit t n)) wasFar)
+  pub stuck : s < n → end_of limit t n s ≡ 0 → (Err (NoBreak s) ≡ told_of n (lines_of limit t n)) × (table ≡ over (lines_of limit t n) was) × (far ≡ over (extents_of t 0 (lines_of limit t n)) wasFar)
   stuck h e = rw (ended e, q.last, ne_eqb s n (λ z. omega arith)) (refl, q.written, q.told)
 
   at-end : n ≤ s → end_of limit t n s ≡ 0
@@ -109,7 +109,7 @@ module _ (limit : ℕ) (t : List ℕ) (n : ℕ) (was table wasFar far : List ℕ
       none : (n s : ℕ) → n ≤ s → n - s ≡ 0
       none n s h = omega arith
 
-  pub full : n ≤ s → (Filled k ≡ told_of n (lines_of limit t n)) × (table ≡ over (lines_of limit t n) was) × (far ≡ over (extents_of t 0 (lines_of limit t n)) wasFar)
+  pub full : n ≤ s → (Ok k ≡ told_of n (lines_of limit t n)) × (table ≡ over (lines_of limit t n) was) × (far ≡ over (extents_of t 0 (lines_of limit t n)) wasFar)
   full h = (rw (ended (at-end h), q.last, eq-eqb s n (omega (arith, q.upto)), q.many), rw (ended (at-end h)) q.written, rw (ended (at-end h)) q.told)
 
   module _ (h : s < n) (e : ℕ) (is : e ≡ end_of limit t n s) (some : e ≡ 0 → ⊥) where

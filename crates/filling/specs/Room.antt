@@ -1,5 +1,5 @@
 -- A line has no room for more characters of one em than the measure leaves behind its last block: so tries past that number fail.
-use Rattle.std.specs.Prelude.{◌≡◌, true, false, List}
+use Rattle.std.specs.Prelude.{◌≡◌, true, false}
 use Rattle.std.proofs.Math.Path.{sym}
 use Rattle.std.proofs.Common.{◌∙◌, div-lt_iff_lt-mul, mul_comm, mul_assoc}
 use Prim.Native.Nat.{ℕ, ◌+◌, ◌-◌, ◌*◌, ◌/◌, ◌≤◌, ◌<◌, min}
@@ -10,7 +10,8 @@ use Rattle.line.specs.declared.State.{State}
 use Rattle.line.specs.declared.Side.TheVariants.{Right}
 use Rattle.line.specs.Setting.{furthest}
 use Rattle.line.specs.Least.{origin-near}
-use Rattle.cells.specs.Cells.{em_at, cell_at, word_at, piece, next}
+use Rattle.cells.specs.Rows.{Rows}
+use Rattle.cells.specs.Cells.{cell_at, word_at, piece, next}
 use Rattle.cells.specs.Sound.{part-long}
 use Rattle.filling.specs.declared.Break.{Break}
 use Rattle.filling.specs.Search.{extent_upto, fits_upto, inner_break, most_of, break_none}
@@ -25,19 +26,19 @@ beyond em end limit m h l =
     let e : m * (2 * em) ≡ 2 * (em * m) = mul_comm m (2 * em) ∙ mul_assoc 2 em m in
     omega (arith, k, e)
 
-module _ (limit : ℕ) (t : List ℕ) (st : State) (i bases : ℕ) (cut : (cell_at t i).cut ≡ true) (some : 0 < em_at t) where
-  fails : (c : ℕ) → i + (limit - st.end) / (2 * em_at t) < c → fits_upto limit t st i c ≡ false
+module _ (limit : ℕ) (t : Rows) (st : State) (i bases : ℕ) (cut : (cell_at t i).cut ≡ true) (some : 0 < t.em) where
+  fails : (c : ℕ) → i + (limit - st.end) / (2 * t.em) < c → fits_upto limit t st i c ≡ false
   unfolding word_at
-  fails c l = lt-leb _ limit (omega (arith, block-far st (piece t i c), long, beyond (em_at t) st.end limit (c - i) some (omega arith)))
+  fails c l = lt-leb _ limit (omega (arith, block-far st (piece t i c), long, beyond t.em st.end limit (c - i) some (omega arith)))
     where
-      long : 2 * (em_at t * (c - i)) ≤ (piece t i c).len
+      long : 2 * (t.em * (c - i)) ≤ (piece t i c).len
       long = rw cut (part-long t i c)
 
-  pub most : (last : Break) → inner_break limit t st i last (most_of bases st.end (em_at t) limit) ≡ inner_break limit t st i last (bases - 1)
+  pub most : (last : Break) → inner_break limit t st i last (most_of bases st.end t.em limit) ≡ inner_break limit t st i last (bases - 1)
   unfolding inner_break
   most last =
-      sym (break_none (fits_upto limit t st i) (extent_upto t st i) last i (most_of bases st.end (em_at t) limit) (bases - 1) (less _ (bases - 1))
-      (λ c l u. fails c (behind ((limit - st.end) / (2 * em_at t)) (bases - 1) c l u)))
+      sym (break_none (fits_upto limit t st i) (extent_upto t st i) last i (most_of bases st.end t.em limit) (bases - 1) (less _ (bases - 1))
+      (λ c l u. fails c (behind ((limit - st.end) / (2 * t.em)) (bases - 1) c l u)))
     where
       less : (q b : ℕ) → min q b ≤ b
       less q b = omega arith

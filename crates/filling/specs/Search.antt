@@ -1,5 +1,5 @@
 -- The search for a line's end, piece by piece: what is known at a piece, and what its breaks add.
-use Rattle.std.specs.Prelude.{◌≡◌, Bool, ◌&&◌, ◌||◌, List, leb, eqb, length}
+use Rattle.std.specs.Prelude.{◌≡◌, Bool, ◌&&◌, ◌||◌, leb, eqb, length}
 use Rattle.std.proofs.Math.Path.{refl, sym, ap, subst}
 use Rattle.std.proofs.Common.{◌∙◌, leb-false, eq-eqb, ne_eqb}
 use Rattle.std.proofs.Math.Bool.{true, false, cond}
@@ -9,8 +9,9 @@ use Rattle.std.proofs.Math.Decide.{dec_lt}
 use Rattle.std.proofs.lemmas.Bool.{lt-leb}
 use Rattle.line.specs.declared.State.{State}
 use Rattle.line.specs.Setting.{start, furthest}
+use Rattle.cells.specs.Rows.{Rows}
 use Rattle.cells.specs.declared.Cell.{Cell}
-use Rattle.cells.specs.Cells.{size, cell_at, piece, next, rest, state_at, may_end, holds, last_of, breaks, end_of, Advances}
+use Rattle.cells.specs.Cells.{cell_at, piece, next, rest, state_at, may_end, holds, last_of, breaks, end_of, Advances}
 use Rattle.cells.specs.Sound.{Row, Sound, advances}
 use Rattle.cells.specs.Walk.{stop-whole, stop-within, may_within, may_end_lem, step, next-near, rest-none, grows, last-split, last_none, last-same, last-at}
 use Rattle.filling.specs.declared.Break.{Break}
@@ -21,26 +22,26 @@ last_break p f d s zero = d
 last_break p f d s (suc k) = cond (p (s + suc k)) (record { at = s + suc k; extent = f (s + suc k) }) (last_break p f d s k)
 
 -- the extent of a line of the state st and of the piece from i up to c
-abbrev pub extent_upto : List ℕ → State → ℕ → ℕ → ℕ
+abbrev pub extent_upto : Rows → State → ℕ → ℕ → ℕ
 extent_upto t st i c = furthest (next st (piece t i c))
 
-abbrev pub fits_upto : ℕ → List ℕ → State → ℕ → ℕ → Bool
+abbrev pub fits_upto : ℕ → Rows → State → ℕ → ℕ → Bool
 fits_upto limit t st i c = leb (extent_upto t st i c) limit
 
 -- the furthest of the first k breaks within the J from i on
-unfoldable pub inner_break : ℕ → List ℕ → State → ℕ → Break → ℕ → Break
+unfoldable pub inner_break : ℕ → Rows → State → ℕ → Break → ℕ → Break
 unfolding last_break
 inner_break limit t st i last k = last_break (fits_upto limit t st i) (extent_upto t st i) last i k
 
 -- the furthest break up to the end of the piece at i, but for the job's end
-unfoldable pub behind : ℕ → List ℕ → ℕ → State → Break → ℕ → Break
+unfoldable pub behind : ℕ → Rows → ℕ → State → Break → ℕ → Break
 unfolding inner_break
 behind limit t i st last extent =
     let a = cell_at t i in
     cond (leb extent limit && a.ends) (record { at = i + a.bases; extent = extent }) (cond a.cut (inner_break limit t st i last (a.bases - 1)) last)
 
 -- a line's end and extent
-unfoldable pub end_break : ℕ → List ℕ → ℕ → ℕ → Break
+unfoldable pub end_break : ℕ → Rows → ℕ → ℕ → Break
 unfolding end_of
 end_break limit t n s = let e = end_of limit t n s in record { at = e; extent = furthest (state_at t s e) }
 
@@ -82,7 +83,7 @@ module _ (p : ℕ → Bool) (f : ℕ → ℕ) (d : Break) (s : ℕ) where
       go (no l) b = rw (g (s + suc k) (omega arith) (omega arith)) (b (omega arith))
 
 -- by its upper end
-module _ (limit : ℕ) (t : List ℕ) (st : State) (i : ℕ) (last : Break) where
+module _ (limit : ℕ) (t : Rows) (st : State) (i : ℕ) (last : Break) where
   pub inner-at : (k : ℕ) → 0 < k →
       inner_break limit t st i last k ≡ cond (fits_upto limit t st i (i + k)) (record { at = i + k; extent = extent_upto t st i (i + k) }) (inner_break limit t st i last (k - 1))
   unfolding inner_break last_break
@@ -98,23 +99,23 @@ module _ (limit : ℕ) (t : List ℕ) (st : State) (i : ℕ) (last : Break) wher
   inner-none (suc k) h = absurd (omega arith)
 
 -- a line of the state st stands before row i; a piece takes it on by 524,288 at most
-pub record Stands (t : List ℕ) (n i : ℕ) (st : State) : Type 0 where
+pub record Stands (t : Rows) (n i : ℕ) (st : State) : Type 0 where
   pub sound : Sound t n
   pub inside : i < n
   pub near : furthest st ≤ 524288 * i
 
-module _ (t : List ℕ) (n i : ℕ) (st : State) (h : Stands t n i st) where
+module _ (t : Rows) (n i : ℕ) (st : State) (h : Stands t n i st) where
   pub row : Row t n i
   row = h.sound.row i h.inside
 
-  pub held : size (i + 1) ≤ length t
+  pub held : i < length t.rows
   held = omega (arith, h.inside, h.sound.long)
 
   pub goes : (c : ℕ) → i < c → c ≤ i + (cell_at t i).bases → Advances t st i c
   goes c l u = advances t n h.sound i c l u h.inside st h.near
 
 -- the search behind the pieces before row i: the line from s has the state st there, and `last` is the furthest break so far
-pub record Seeks (limit : ℕ) (t : List ℕ) (n s i : ℕ) (st : State) (last : Break) : Type 0 where
+pub record Seeks (limit : ℕ) (t : Rows) (n s i : ℕ) (st : State) (last : Break) : Type 0 where
   pub sound : Sound t n
   pub from : s ≤ i
   pub upto : i ≤ n
@@ -125,7 +126,7 @@ pub record Seeks (limit : ℕ) (t : List ℕ) (n s i : ℕ) (st : State) (last :
   pub best : i < n → end_of limit t n s ≡ last_of (breaks limit t n s) last.at i (n - i)
   pub far : last.extent ≡ furthest (state_at t s last.at)
 
-pub seeks_first : (limit : ℕ) (t : List ℕ) (n s : ℕ) → Sound t n → s < n → Seeks limit t n s s start (record { at = 0; extent = 0 })
+pub seeks_first : (limit : ℕ) (t : Rows) (n s : ℕ) → Sound t n → s < n → Seeks limit t n s s start (record { at = 0; extent = 0 })
 unfolding end_of
 seeks_first limit t n s sound h =
     record {
@@ -144,7 +145,7 @@ seeks_first limit t n s sound h =
 same_break : (x : Break) (e f : ℕ) → x.at ≡ e → x.extent ≡ f → x ≡ record { at = e; extent = f }
 same_break x e f p q = rw (← p, ← q)
 
-module _ (limit : ℕ) (t : List ℕ) (n s i : ℕ) (st : State) (last : Break) (q : Seeks limit t n s i st last) where
+module _ (limit : ℕ) (t : Rows) (n s i : ℕ) (st : State) (last : Break) (q : Seeks limit t n s i st last) where
   -- behind the last piece the line ends the job
   pub seeks_end : s < n → n ≤ i → record { at = n; extent = furthest st } ≡ end_break limit t n s
   unfolding end_break end_of
@@ -299,7 +300,7 @@ module _ (limit : ℕ) (t : List ℕ) (n s i : ℕ) (st : State) (last : Break) 
             ∙ last_none (breaks limit t n s) (behind limit t i st last (furthest then)).at b (n - b) none)
 
 -- what is behind a piece, case by case
-module _ (limit : ℕ) (t : List ℕ) (i : ℕ) (st : State) (last : Break) (extent : ℕ) where
+module _ (limit : ℕ) (t : Rows) (i : ℕ) (st : State) (last : Break) (extent : ℕ) where
   pub behind-ends : leb extent limit ≡ true → (cell_at t i).ends ≡ true → record { at = i + (cell_at t i).bases; extent = extent } ≡ behind limit t i st last extent
   unfolding behind
   behind-ends e f = rw (e, f)

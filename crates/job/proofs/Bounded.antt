@@ -2,9 +2,8 @@
 -- limit is 41,943,040." A line's extent is at most the sum of its elements' lengths, an element is at most as long as its characters together, and the elements of a line have
 -- characters of their own.
 use Rattle.std.specs.Prelude.{◌≡◌, refl, Bool, true, false, cond, ◌&&◌, List, [], ◌∷◌, map, ℕ, ◌+◌, ◌-◌, ◌*◌, ◌≤◌, ◌<◌, min, max, eqb, ltb}
-use Rattle.std.proofs.Common.{sym, ap, ◌∙◌, zero-le, add-zero, add_assoc}
+use Rattle.std.proofs.Common.{sym, ap, ◌∙◌, zero-le, add-zero, add_assoc, arith}
 use Rattle.std.proofs.lemmas.List.{map-append}
-use native.Mathlib.Omega.{arith}
 use Rattle.std.proofs.lemmas.Bool.{eqb-false}
 use Rattle.basics.specs.Lists.{sum, each, All}
 use Rattle.basics.specs.Laws.{sum_append}

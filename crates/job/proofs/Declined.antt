@@ -1,11 +1,9 @@
 -- The lines of a job that passes the door: either they fill it, and no line is refused, or they come to one place where no permitted break can be set, and
 -- that is number 11 with that place. Each of the two is shown both ways, so nothing else is ever refused there.
-use Rattle.std.specs.Prelude.{◌≡◌, Bool, true, false, cond, ltb}
-use Rattle.std.proofs.Math.Path.{refl}
-use Rattle.std.proofs.Common.{sym, ap, ◌∙◌, subst, inl, inr, arith, lt-ltb, le-ltb}
-use mathlib.Core.List.{List, [], ◌∷◌, head?}
+use Rattle.std.specs.Prelude.{◌≡◌, Bool, true, false, cond, ltb, refl, List, [], ◌∷◌, ℕ, zero, suc, ◌+◌, ◌≤◌, ◌<◌}
+use Rattle.std.proofs.Common.{sym, ap, ◌∙◌, subst, inl, inr, arith, lt-ltb, le-ltb, zero-le}
+use mathlib.Core.List.{head?}
 use Rattle.std.proofs.Math.Option.{none, some}
-use Prim.Native.Nat.{ℕ, zero, suc, ◌+◌, ◌≤◌, ◌<◌, zero-le}
 use Rattle.std.proofs.Math.Decide.{dec_lt}
 use Rattle.basics.specs.Lists.{each, keep}
 use Rattle.refusal.specs.declared.Refusal.{Refusal}
@@ -102,7 +100,7 @@ module _ (job : Job) (passed : Passed job) where
   stuck s e = go lines-way
     where
       go : Way job 0 (ends job) (lines_faults job) → Stuck job s
-      go (inl w) = absurd (let z : ◌≡◌ {A = ℕ} 0 1 = cc in omega arith)
+      go (inl w) = absurd cc
       go (inr w) =
           let h : w.place ≡ s = same w.place (lines_faults job) w.fault e in
           subst (Stuck job) h (record { sofar = ends job; lines = w.lines; more = w.more; none = no_break_lem job passed w.place w.none })

@@ -1,9 +1,8 @@
 -- The three demands of the mission, as theorems about `outcome`, which is all that the entry point promises. Their words are in `Promise` and in `Table`;
 -- the proofs stand in the files that are named here.
-use Rattle.std.proofs.Math.Path.{◌≡◌, refl, ap}
-use Rattle.std.proofs.Common.{sym, ◌∙◌, arith, ltb-false, length-append, length-drop}
-use Rattle.std.specs.Prelude.{true, false, ◌||◌, ◌↔◌, ℕ, ◌+◌, ◌≤◌, ◌<◌, ltb, length, get_or, drop}
-use mathlib.Core.List.{List, [], ◌++◌, map, head?}
+use Rattle.std.proofs.Common.{sym, ◌∙◌, arith, ltb-false, length-append, length-drop, ap}
+use Rattle.std.specs.Prelude.{true, false, ◌||◌, ◌↔◌, ℕ, ◌+◌, ◌≤◌, ◌<◌, ltb, length, get_or, drop, ◌≡◌, refl, List, [], ◌++◌, map}
+use mathlib.Core.List.{head?}
 use Rattle.std.proofs.Math.Option.{Option, none, some}
 use Rattle.std.proofs.Math.ListN.{get_or-append}
 use Rattle.basics.specs.Laws.{or_none, determined}
@@ -59,7 +58,7 @@ module _ (job : Job) (base ruby left line : List ℕ) where
   refused-is r = (go given_refusal, λ e. rw e)
     where
       go : (f : Option Refusal) → (after job base ruby left line f).answer ≡ Refused r → f ≡ some r
-      go none e = absurd (let z : ◌≡◌ {A = ℕ} 0 1 = cc in omega arith)
+      go none e = absurd cc
       go (some q) e = let h : q ≡ r = cc in ap {B = Option Refusal} some h
 
   -- an answer that sets lines is an accepted job's
@@ -69,7 +68,7 @@ module _ (job : Job) (base ruby left line : List ℕ) where
     where
       go : (f : Option Refusal) → (after job base ruby left line f).answer ≡ Set n → f ≡ none
       go none e = refl
-      go (some r) e = absurd (let z : ◌≡◌ {A = ℕ} 0 1 = cc in omega arith)
+      go (some r) e = absurd cc
 
   -- The answer is a refusal exactly when the table gives it and every other that the table gives comes after it by the order.
   pub refused-exactly : (r : Refusal) → (result.answer ≡ Refused r) ↔ First job (length base) (length ruby) (length left) (length line) r
@@ -87,7 +86,7 @@ module _ (job : Job) (base ruby left line : List ℕ) where
     where
       go : (f : Option Refusal) → (after job base ruby left line f).answer ≡ Refused r →
           ((after job base ruby left line f).base ≡ base) × ((after job base ruby left line f).ruby ≡ ruby) × ((after job base ruby left line f).left ≡ left) × ((after job base ruby left line f).lines ≡ line)
-      go none e = absurd (let z : ◌≡◌ {A = ℕ} 0 1 = cc in omega arith)
+      go none e = absurd cc
       go (some q) e = (refl, refl, refl, refl)
 
   -- Rows 7 to 10 are level one's own answer: an element that passes 5, 16 and 6 is refused by it as the list refuses it, and else set to the word that its line has.

@@ -1,9 +1,9 @@
 -- The furthest break and the chain of lines: what the search finds is what the demands ask for, and it finds nothing only where there is nothing. There is
 -- one such chain, so a job either fills its lines or is stuck at one place.
 use Rattle.std.specs.Prelude.{◌≡◌, refl, Bool, true, false, cond, ◌&&◌, List, [], ◌∷◌, ◌⊎◌, ℕ, zero, suc, ◌+◌, ◌-◌, ◌≤◌, ◌<◌, length}
-use Rattle.std.proofs.Common.{sym, ap, ◌∙◌, subst, true≢false, inl, inr, arith, le_antisymm}
+use Rattle.std.proofs.Common.{sym, ap, ◌∙◌, subst, true≢false, inl, inr, arith, le_antisymm, leb-true, le-leb, eqb-true}
 use Rattle.std.proofs.Math.Decide.{dec_lt}
-use borrow.Author.Tests.{leb-true, le-leb, eqb-true, eqb-false}
+use borrow.Author.Tests.{eqb-false}
 use Rattle.basics.specs.Lists.{count, keep, last_or}
 use Rattle.line.proofs.Theorems.{exact, settled, unique}
 use Rattle.door.specs.Job.{Job, base_count}

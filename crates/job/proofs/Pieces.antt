@@ -1,10 +1,8 @@
 -- What of a word stands in a line, case by case, and a word among those before and after it. A line up to somewhere in a word is the line up to that word and what of the word
 -- stands in it.
-use Rattle.std.specs.Prelude.{◌≡◌, Bool, true, false, cond, not, ◌&&◌, List, [], ◌∷◌, ◌++◌, map, ◌⊎◌, eqb, get_or}
-use Rattle.std.proofs.Math.Path.{refl, ap, subst}
-use Rattle.std.proofs.Common.{sym, ap₂, ◌∙◌, true≢false, append-nil, append_assoc, inl, inr, arith, lt-ltb, le-ltb, ne_eqb}
+use Rattle.std.specs.Prelude.{◌≡◌, Bool, true, false, cond, not, ◌&&◌, List, [], ◌∷◌, ◌++◌, map, ◌⊎◌, eqb, get_or, refl, ℕ, zero, suc, ◌+◌, ◌-◌, ◌≤◌, ◌<◌, min, max}
+use Rattle.std.proofs.Common.{sym, ap₂, ◌∙◌, true≢false, append-nil, append_assoc, inl, inr, arith, lt-ltb, le-ltb, ne_eqb, ap, subst}
 use Rattle.std.proofs.lemmas.Bool.{false≢true, eqb-false}
-use Prim.Native.Nat.{ℕ, zero, suc, ◌+◌, ◌-◌, ◌≤◌, ◌<◌, min, max}
 use Rattle.std.proofs.Math.Decide.{dec_lt}
 use Rattle.std.proofs.Math.Dec.{ltb}
 use Rattle.std.proofs.Math.Seq.{append_snoc}

@@ -1,11 +1,7 @@
 -- The pieces of the lines, one after the other, have each base character and each character of either side once and in order: a permitted break cuts no word but a J, and a J
 -- between its runs. Shown for all kinds of character at once, by how many of a word's stand before a base character.
-use Rattle.std.specs.Prelude.{◌≡◌, Bool, true, false, cond, leb}
-use Rattle.std.proofs.Math.Path.{refl, sym, ap, ap₂}
-use Rattle.std.proofs.Common.{◌∙◌, subst, true≢false, inl, inr, zero-add, leb-true, le-leb}
-use mathlib.Core.List.{List, [], ◌∷◌, ◌++◌, append-nil}
-use Prim.Native.Nat.{ℕ, ◌+◌, ◌-◌, ◌≤◌, ◌<◌, min, max, zero-le}
-use native.Mathlib.Omega.{arith}
+use Rattle.std.specs.Prelude.{◌≡◌, Bool, true, false, cond, leb, refl, List, [], ◌∷◌, ◌++◌, ℕ, ◌+◌, ◌-◌, ◌≤◌, ◌<◌, min, max}
+use Rattle.std.proofs.Common.{◌∙◌, subst, true≢false, inl, inr, zero-add, leb-true, le-leb, sym, ap, ap₂, append-nil, zero-le, arith}
 use Rattle.std.proofs.Math.Decide.{dec_le}
 use Rattle.std.proofs.lemmas.Bool.{lt-leb}
 use Rattle.basics.specs.Lists.{count, each, All}

@@ -1,7 +1,5 @@
 -- How the lines of a job that passes the door end: they go all the way, or stop short of one place. `proofs/Declined.antt` shows that they do.
-use Rattle.std.specs.Prelude.{◌≡◌, true, ◌⊎◌}
-use mathlib.Core.List.{List, [], ◌∷◌}
-use Prim.Native.Nat.{ℕ, ◌<◌}
+use Rattle.std.specs.Prelude.{◌≡◌, true, ◌⊎◌, List, [], ◌∷◌, ℕ, ◌<◌}
 use Rattle.refusal.specs.declared.Refusal.{Refusal}
 use Rattle.refusal.specs.declared.Refusal.TheVariants.{NoBreak}
 use Rattle.door.specs.Job.{Job, base_count}

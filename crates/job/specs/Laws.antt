@@ -1,9 +1,9 @@
 -- Laws of the lists that jobs and lines are made of: no refusal at all, entries of a list, joined counts, and what is kept of a list. They know nothing of
 -- jobs.
-use Rattle.std.specs.Prelude.{◌≡◌, refl, Bool, true, false, cond, ◌&&◌, ◌||◌, ◌⊎◌, ℕ, zero, suc, ◌+◌, ◌≤◌, ◌<◌, length, take, drop, get_or}
-use Rattle.std.proofs.Common.{sym, ap, ap₂, ◌∙◌, inl, inr, zero-add, add-zero, add-suc, suc-add, arith, length-drop, ext_get_or, get_or-take, get_or-drop, length-take-le}
+use Rattle.std.specs.Prelude.{◌≡◌, refl, Bool, true, false, cond, ◌&&◌, ◌||◌, ◌⊎◌, ℕ, zero, suc, ◌+◌, ◌≤◌, ◌<◌, length, take, drop, get_or, List, [], ◌∷◌, ◌++◌}
+use Rattle.std.proofs.Common.{sym, ap, ap₂, ◌∙◌, inl, inr, zero-add, add-zero, add-suc, suc-add, arith, length-drop, ext_get_or, get_or-take, get_or-drop, length-take-le, append_assoc}
 use Rattle.std.proofs.lemmas.Bool.{false≢true}
-use mathlib.Core.List.{List, [], ◌∷◌, ◌++◌, head?, append_assoc}
+use mathlib.Core.List.{head?}
 use Rattle.std.proofs.Math.Option.{none}
 use Rattle.basics.specs.Lists.{sum, count, any, keep, each, All, last_or}
 use Rattle.basics.specs.Laws.{count_at}
@@ -14,7 +14,7 @@ use Rattle.door.specs.Entries.{length-entries}
 
 pub head-none : {A : Type 0} (xs : List A) → head? xs ≡ none → xs ≡ []
 head-none [] e = refl
-head-none (x ∷ xs) e = absurd (let z : ◌≡◌ {A = ℕ} 0 1 = cc in omega arith)
+head-none (x ∷ xs) e = absurd cc
 
 -- What holds of each.
 

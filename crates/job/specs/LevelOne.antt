@@ -1,8 +1,8 @@
 -- Rows 7 to 10 of an element are level one's own answer to it: the first of them that holds, with the element's place, and else the word that the line takes.
 -- So a job's walk over its elements can hand level one's refusal up unchanged.
-use Rattle.std.specs.Prelude.{◌≡◌, refl, Bool, true, false, cond, ◌↔◌, ℕ}
+use Rattle.std.specs.Prelude.{◌≡◌, refl, Bool, true, false, cond, ◌↔◌, ℕ, List, [], ◌∷◌, ◌++◌}
 use Rattle.std.proofs.Common.{ap, arith}
-use mathlib.Core.List.{List, [], ◌∷◌, ◌++◌, head?}
+use mathlib.Core.List.{head?}
 use Rattle.std.proofs.Math.Option.{Option, none, some}
 use Rattle.refusal.specs.declared.Refusal.{Refusal}
 use Rattle.refusal.specs.declared.Refusal.TheVariants.{BlankInside, JukugoBase, Mixed, WesternOver}
@@ -46,12 +46,12 @@ pub rows_left : (job : Job) (k : ℕ) (x : Piece) → counts_wrong job k x ≡ f
 rows_left job k x five sixteen six = rw (five, sixteen, six)
 
 refused-head : (xs : List Refusal) (v : Word) (r : Refusal) → (told (head? xs) v ≡ Refused r) ↔ (head? xs ≡ some r)
-refused-head [] v r = (λ e. absurd (let z : ◌≡◌ {A = ℕ} 0 1 = cc in omega arith), λ e. absurd (let z : ◌≡◌ {A = ℕ} 0 1 = cc in omega arith))
+refused-head [] v r = (λ e. absurd cc, λ e. absurd cc)
 refused-head (x ∷ xs) v r = (λ e. let h : x ≡ r = cc in ap {B = Option Refusal} some h, λ e. let h : x ≡ r = cc in ap Refused h)
 
 set-none : (xs : List Refusal) (v : Word) → (told (head? xs) v ≡ Set v) ↔ (xs ≡ [])
 set-none [] v = (λ e. refl, λ e. refl)
-set-none (x ∷ xs) v = (λ e. absurd (let z : ◌≡◌ {A = ℕ} 0 1 = cc in omega arith), λ e. absurd (let z : ◌≡◌ {A = ℕ} 0 1 = cc in omega arith))
+set-none (x ∷ xs) v = (λ e. absurd cc, λ e. absurd cc)
 
 module _ (job : Job) (k : ℕ) (x : Piece) (five : counts_wrong job k x ≡ false) (sixteen : left_kind_wrong x ≡ false) (six : run_out job x ≡ false) where
   pub refuses : (r : Refusal) → (answer_both x.form k (given job x) (gloss_of job x) ≡ Refused r) ↔ (head? (element_faults job k x) ≡ some r)

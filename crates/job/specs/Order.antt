@@ -1,16 +1,11 @@
 -- The list of refusals is the table's rows in document 01's order: it holds those whose condition holds and no other, and what stands first in it comes before
 -- all others. So its head is the first of the table. A new number of a group asks for its clause of `listed` and nothing else: the tests of its group's rows
 -- compute, and that each row of the list is one of the table is searched for.
-use Rattle.std.proofs.Math.Path.{◌≡◌, refl, sym, ap, subst}
-use Rattle.std.proofs.Common.{ap₂, ◌∙◌, inl, add-zero, zero-add}
-use Rattle.std.specs.Prelude.{Bool, false, cond, ◌⊎◌, eqb, length, get_or}
-use Rattle.std.proofs.Math.Bool.{true}
-use mathlib.Core.List.{List, [], ◌∷◌, ◌++◌, map, head?}
+use Rattle.std.proofs.Common.{ap₂, ◌∙◌, inl, add-zero, zero-add, sym, ap, subst, zero-le, arith, ltb-true, lt-ltb}
+use Rattle.std.specs.Prelude.{Bool, false, cond, ◌⊎◌, eqb, length, get_or, ◌≡◌, refl, true, List, [], ◌∷◌, ◌++◌, map, ℕ, zero, suc, ◌+◌, ◌≤◌, ◌<◌}
+use mathlib.Core.List.{head?}
 use Rattle.std.proofs.Math.Logic.{inr}
 use Rattle.std.proofs.Math.Option.{Option, none, some}
-use Prim.Native.Nat.{ℕ, zero, suc, ◌+◌, ◌≤◌, ◌<◌, zero-le}
-use native.Mathlib.Omega.{arith}
-use borrow.Author.Tests.{ltb-true, lt-ltb}
 use Rattle.std.proofs.Math.Dec.{ltb}
 use Rattle.basics.specs.Lists.{count, keep, each, All}
 use Rattle.refusal.specs.declared.Refusal.{Refusal}
@@ -368,7 +363,7 @@ module _ (job : Job) (base ruby left lines : ℕ) where
       }
     where
       head-all : (xs : List Refusal) → All (Row job base ruby left lines) xs → head? xs ≡ some r → Row job base ruby left lines r
-      head-all [] a e = absurd (let z : ◌≡◌ {A = ℕ} 0 1 = cc in omega arith)
+      head-all [] a e = absurd cc
       head-all (x ∷ xs) a e = let h : x ≡ r = cc in subst (Row job base ruby left lines) h a.0
 
   pub first-given : (r : Refusal) → First job base ruby left lines r → fault job base ruby left lines ≡ some r

@@ -1,6 +1,5 @@
 -- A word among those before and after it, an element and a word of the job. `proofs/Pieces.antt` has what of a word stands in a line, case by case.
-use Rattle.std.specs.Prelude.{◌≡◌, true, false, List, ◌∷◌, ◌++◌, ◌⊎◌}
-use Prim.Native.Nat.{ℕ, ◌+◌, ◌≤◌, ◌<◌}
+use Rattle.std.specs.Prelude.{◌≡◌, true, false, List, ◌∷◌, ◌++◌, ◌⊎◌, ℕ, ◌+◌, ◌≤◌, ◌<◌}
 use Rattle.basics.specs.Lists.{All}
 use Rattle.word.specs.Given.{has_ruby}
 use Rattle.word.specs.Both.{apart}

@@ -1,6 +1,6 @@
 -- The refusal list, whole: the rows of the lines, and the order of all (document 01, "Refusal list"). The rows before them are in `Refusals` of `door`.
-use Rattle.std.specs.Prelude.{Bool, ℕ, eqb, ltb}
-use mathlib.Core.List.{List, ◌∷◌, ◌++◌, head?}
+use Rattle.std.specs.Prelude.{Bool, ℕ, eqb, ltb, List, ◌∷◌, ◌++◌}
+use mathlib.Core.List.{head?}
 use Rattle.std.proofs.Math.Option.{Option}
 use Rattle.basics.specs.Lists.{each, keep}
 use Rattle.refusal.specs.declared.Refusal.{Refusal}

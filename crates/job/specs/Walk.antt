@@ -1,9 +1,7 @@
 -- Where a walk over the elements stands, for a job that passes the door, and what it keeps of a line. What it needs to know to fill lines is in `proofs/Walk.antt`. Nothing here says
 -- what a line is; `Line` does.
-use Rattle.std.specs.Prelude.{◌≡◌, refl, ℕ, zero, suc, ◌+◌, ◌-◌, ◌<◌, length, take, drop}
-use Rattle.std.proofs.Common.{sym, ◌∙◌, add-one, arith, drop-drop, take-add}
-use Rattle.std.proofs.Math.Path.{ap}
-use mathlib.Core.List.{List, [], ◌∷◌, ◌++◌}
+use Rattle.std.specs.Prelude.{◌≡◌, refl, ℕ, zero, suc, ◌+◌, ◌-◌, ◌<◌, length, take, drop, List, [], ◌∷◌, ◌++◌}
+use Rattle.std.proofs.Common.{sym, ◌∙◌, add-one, arith, drop-drop, take-add, ap}
 use Rattle.std.proofs.Math.Nat.{sub-zero}
 use Rattle.basics.specs.Lists.{count, keep, last_or}
 use Rattle.line.specs.declared.Element.{Element}

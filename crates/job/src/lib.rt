@@ -4,7 +4,7 @@
 // `class` for the depths on a P.
 #![tactic(auto)]
 
-// The number of lines, or the first refusal of the list.
+/// The number of lines, or the first refusal of the list. An enum of its own and no `Result`: a refusal is an answer of the entry point, as the documents have it.
 #[derive(Clone, Copy)]
 pub enum Answer {
     Set(usize),

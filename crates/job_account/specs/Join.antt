@@ -10,6 +10,7 @@ use Rattle.std.proofs.lemmas.Bool.{lt-leb}
 use Rattle.std.proofs.Math.ListN.{get_or}
 use Rattle.std.proofs.Math.Seq.{append_snoc}
 use Rattle.line.specs.Setting.{start, furthest}
+use Rattle.cells.specs.Rows.{Rows}
 use Rattle.cells.specs.Cells.{cell_at, piece, stop}
 use Rattle.door.specs.declared.Piece.{Piece}
 use Rattle.door.specs.Job.{Job, base_count}
@@ -42,17 +43,17 @@ abbrev indexes : Job → ℕ → ℕ → List ℕ
 indexes job s z = map (λ (p : Piece). first_in job p.base) (pieces job s z)
 
 -- the rows from i on, of at most n pieces, the first of element k, once the line from s up to z is told
-abbrev rows_on : Job → List ℕ → ℕ → ℕ → ℕ → ℕ → ℕ → ℕ → List ℕ
+abbrev rows_on : Job → Rows → ℕ → ℕ → ℕ → ℕ → ℕ → ℕ → List ℕ
 rows_on job t s e n z k i = rows_from t (indexes job s z) k n (state_of job s z) (standing_in job s z) i e
 
 -- what is told of the line from s up to z, and the pieces from i on, make up the line from s up to e
-record Joined (job : Job) (t : List ℕ) (s e n z k i : ℕ) : Type 0 where
+record Joined (job : Job) (t : Rows) (s e n z k i : ℕ) : Type 0 where
   rows : rows_in job s z ++ rows_on job t s e n z k i ≡ rows_in job s e
   many : count_in job s z + pieces_from t n i e ≡ count_in job s e
   ends : k + ended_from t n i e ≡ first_in job e
 
 -- a whole line
-pub record LineJoined (job : Job) (t : List ℕ) (s e : ℕ) : Type 0 where
+pub record LineJoined (job : Job) (t : Rows) (s e : ℕ) : Type 0 where
   pub rows : line_rows t (first_in job s) s e ≡ rows_in job s e
   pub many : pieces_in t s e ≡ count_in job s e
   pub ends : first_in job s + ended_in t s e ≡ first_in job e
@@ -66,7 +67,7 @@ begins job x i c l h = go (cuts job x && ltb (c - i) x.bases)
     go true = (omega arith, omega arith)
     go false = (omega arith, omega arith)
 
-module _ (job : Job) (door : Passed job) (t : List ℕ) (table : Holds job t) (s e : ℕ) where
+module _ (job : Job) (door : Passed job) (t : Rows) (table : Holds job t) (s e : ℕ) where
   -- nothing more is told where the line ends
   done : (n z k i : ℕ) → z ≡ e → e ≤ i → k ≡ first_in job e → Joined job t s e n z k i
   done n z k i h l f =
@@ -288,7 +289,7 @@ module _ (job : Job) (door : Passed job) (t : List ℕ) (table : Holds job t) (s
           }
 
 -- Line by line.
-module _ (job : Job) (door : Passed job) (t : List ℕ) (table : Holds job t) where
+module _ (job : Job) (door : Passed job) (t : Rows) (table : Holds job t) where
   pub rows_join : (place : Place) (s : ℕ) (es : List ℕ) (d : ℕ) → place.k ≡ first_in job s → Chain job s es d → rows_by t place s es ≡ by_line (rows_in job) s es
   rows_join place s [] d f c = refl
   rows_join place s (e ∷ es) d f c =

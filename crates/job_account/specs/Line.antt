@@ -10,7 +10,8 @@ use Rattle.std.proofs.Math.Seq.{length-sets}
 use Rattle.basics.specs.Laws.{sets_append}
 use Rattle.line.specs.declared.State.{State}
 use Rattle.line.specs.Setting.{start, origin, furthest}
-use Rattle.cells.specs.Cells.{size, cell_at, piece, stop, Advances}
+use Rattle.cells.specs.Rows.{Rows}
+use Rattle.cells.specs.Cells.{cell_at, piece, stop, Advances}
 use Rattle.cells.specs.Sound.{Sound, advances}
 use Rattle.cells.specs.Walk.{next-near}
 use Rattle.account.specs.declared.Before.{Before}
@@ -24,7 +25,7 @@ use Rattle.job_account.specs.Rows.{other_by, row, row_by, index_at, RowReady}
 use Rattle.job_account.specs.Table.{told_at, ended, rows_from, line_rows, pieces_from, pieces_in, ended_from, ended_in, behind}
 
 -- The line from s up to e can be told: the table is sound, the list has six places for each of its rows, and no more elements are passed and rows told than there are characters before s.
-pub record LineReady (t : List ℕ) (s e : ℕ) (from : Place) (out : List ℕ) : Type 0 where
+pub record LineReady (t : Rows) (s e : ℕ) (from : Place) (out : List ℕ) : Type 0 where
   pub n : ℕ
   pub sound : Sound t n
   pub ahead : s < e
@@ -46,24 +47,24 @@ row_first out p f k x a h = get_d_first out (x ∷ a.gap ∷ number a.reason ∷
 
 -- Past the line's end there is no piece.
 
-pub no_rows : (t ks : List ℕ) (k n : ℕ) (st : State) (b : Before) (i e : ℕ) → e ≤ i → rows_from t ks k n st b i e ≡ []
+pub no_rows : (t : Rows) (ks : List ℕ) (k n : ℕ) (st : State) (b : Before) (i e : ℕ) → e ≤ i → rows_from t ks k n st b i e ≡ []
 unfolding rows_from
 no_rows t ks k zero st b i e h = refl
 no_rows t ks k (suc n) st b i e h = rw (le-ltb i e h)
 
-pub no_pieces : (t : List ℕ) (n i e : ℕ) → e ≤ i → pieces_from t n i e ≡ 0
+pub no_pieces : (t : Rows) (n i e : ℕ) → e ≤ i → pieces_from t n i e ≡ 0
 unfolding pieces_from
 no_pieces t zero i e h = refl
 no_pieces t (suc n) i e h = rw (le-ltb i e h)
 
-pub none-ended : (t : List ℕ) (n i e : ℕ) → e ≤ i → ended_from t n i e ≡ 0
+pub none-ended : (t : Rows) (n i e : ℕ) → e ≤ i → ended_from t n i e ≡ 0
 unfolding ended_from
 none-ended t zero i e h = refl
 none-ended t (suc n) i e h = rw (le-ltb i e h)
 
 -- No more pieces than characters, and no more elements.
 
-pub pieces-few : (t : List ℕ) (n i e : ℕ) → pieces_from t n i e ≤ n
+pub pieces-few : (t : Rows) (n i e : ℕ) → pieces_from t n i e ≤ n
 unfolding pieces_from
 pieces-few t zero i e = zero-le
 pieces-few t (suc n) i e = go (ltb i e) (pieces-few t n (i + (cell_at t i).bases) e)
@@ -72,7 +73,7 @@ pieces-few t (suc n) i e = go (ltb i e) (pieces-few t n (i + (cell_at t i).bases
     go true h = omega arith
     go false h = zero-le
 
-ended-one : (t : List ℕ) (i e : ℕ) → ended t i e ≤ 1
+ended-one : (t : Rows) (i e : ℕ) → ended t i e ≤ 1
 ended-one t i e = go (cell_at t i).more (leb (i + (cell_at t i).bases) e)
   where
     go : (m p : Bool) → cond m 0 (cond p 1 0) ≤ 1
@@ -80,7 +81,7 @@ ended-one t i e = go (cell_at t i).more (leb (i + (cell_at t i).bases) e)
     go false true = omega arith
     go false false = zero-le
 
-pub ended-few : (t : List ℕ) (n i e : ℕ) → ended_from t n i e ≤ n
+pub ended-few : (t : Rows) (n i e : ℕ) → ended_from t n i e ≤ n
 unfolding ended_from
 ended-few t zero i e = zero-le
 ended-few t (suc n) i e = go (ltb i e) (ended-one t i e) (ended-few t n (i + (cell_at t i).bases) e)
@@ -90,7 +91,7 @@ ended-few t (suc n) i e = go (ltb i e) (ended-one t i e) (ended-few t n (i + (ce
     go false g h = zero-le
 
 -- Before the piece from i, number j of the line and of element k, the line so far in the state st; ks has the elements' indexes of the pieces before it.
-pub record Along (t : List ℕ) (s e : ℕ) (from : Place) (was : List ℕ) (i : ℕ) (st : State) (b : Before) (j k : ℕ) (out : List ℕ) : Type 0 where
+pub record Along (t : Rows) (s e : ℕ) (from : Place) (was : List ℕ) (i : ℕ) (st : State) (b : Before) (j k : ℕ) (out : List ℕ) : Type 0 where
   pub fuel : ℕ
   pub enough : e ≤ i + fuel
   pub near : furthest st ≤ 524288 * i
@@ -105,7 +106,7 @@ pub record Along (t : List ℕ) (s e : ℕ) (from : Place) (was : List ℕ) (i :
   pub ends : k + ended_from t fuel i e ≡ from.k + ended_in t s e
   pub long : length out ≡ length was
 
-module _ {t : List ℕ} {s e : ℕ} {from : Place} {was : List ℕ} (ready : LineReady t s e from was) where
+module _ {t : Rows} {s e : ℕ} {from : Place} {was : List ℕ} (ready : LineReady t s e from was) where
   pub along-first : Along t s e from was s start nothing 0 from.k was
   along-first =
       record {
@@ -154,7 +155,7 @@ module _ {t : List ℕ} {s e : ℕ} {from : Place} {was : List ℕ} (ready : Lin
       ahead : (i < stop t i e) × (stop t i e ≤ i + (cell_at t i).bases)
       ahead = let some = (ready.sound.row i in_table).some in (omega arith, omega arith)
 
-      pub held : size (i + 1) ≤ length t
+      pub held : i < length t.rows
       held = omega (arith, in_table, ready.sound.long)
 
       pub few : (i < 1024) × (0 < (cell_at t i).bases) × ((cell_at t i).bases ≤ 32)

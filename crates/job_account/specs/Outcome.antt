@@ -21,6 +21,7 @@ use Rattle.job.proofs.Filled.{chain-few}
 use Rattle.job.proofs.Declined.{filled}
 use Rattle.filling.specs.Lines.{extents_of, length-extents}
 use Rattle.join.specs.Join.{sound}
+use Rattle.cells.specs.Rows.{Rows}
 use Rattle.engine.specs.Fault as fault
 use Rattle.engine.specs.Filled.{Full, Stopped, no-fault, front-is}
 use Rattle.job_account.specs.First.{first-none}
@@ -64,13 +65,13 @@ chained job s (e ∷ es) d c = let a = c.0.at in (a.ahead, a.within, chained job
 
 module _ (job : Job) (rows told wide : List ℕ) (m : ℕ) (is : m ≡ room rows told wide) where
   -- the first refusal of all
-  pub refused : {was wasFar t found far : List ℕ} {q : Refusal} → Stopped job 1024 2048 2048 m was wasFar t found far q →
+  pub refused : {was wasFar : List ℕ} {t : Rows} {found far : List ℕ} {q : Refusal} → Stopped job 1024 2048 2048 m was wasFar t found far q →
       ◌≡◌ {A = Telling} (record { answer = Refused q; rows = rows; told = told; extents = wide }) (telling job rows told wide)
   unfolding telling telling_by
   refused s = rw (← is, s.first)
 
   -- a table that holds the job, and its n lines
-  module _ (was wasFar t found far : List ℕ) (n : ℕ) (full : Full job 1024 2048 2048 m was wasFar t found far n) where
+  module _ (was wasFar : List ℕ) (t : Rows) (found far : List ℕ) (n : ℕ) (full : Full job 1024 2048 2048 m was wasFar t found far n) where
     all : Filled job (ends job)
     all = filled job full.passed full.none
 

@@ -4,6 +4,7 @@ use Rattle.line.specs.declared.Element.{Element}
 use Rattle.line.specs.declared.State.{State}
 use Rattle.line.specs.Rules.{block_of}
 use Rattle.line.specs.Setting.{start, origin}
+use Rattle.cells.specs.Rows.{Rows}
 use Rattle.cells.specs.Cells.{cell_at, word_at, piece, next, stop}
 use Rattle.account.specs.declared.Account.{Account}
 use Rattle.account.specs.declared.Before.{Before}
@@ -17,7 +18,7 @@ abbrev pub told_of : Element → State → ℕ → Before → Told
 told_of e st j b = let x = origin st e in record { account = account_after j b e x; start = (block_of e x).start; st = next st e; before = passed j b e x }
 
 -- the piece from i up to c
-abbrev pub told_at : List ℕ → ℕ → ℕ → State → ℕ → Before → Told
+abbrev pub told_at : Rows → ℕ → ℕ → State → ℕ → Before → Told
 told_at t i c st j b = told_of (piece t i c) st j b
 
 pub same : {a a' : Account} {x x' : ℕ} {st st' : State} {b b' : Before} → a ≡ a' → x ≡ x' → st ≡ st' → b ≡ b' →
@@ -25,11 +26,11 @@ pub same : {a a' : Account} {x x' : ℕ} {st st' : State} {b b' : Before} → a 
 same p q r s = cc
 
 -- How many elements end with the piece whose row is i, in a line up to e: none where the element goes on behind it, and a J that e cuts goes on in the next line.
-abbrev pub ended : List ℕ → ℕ → ℕ → ℕ
+abbrev pub ended : Rows → ℕ → ℕ → ℕ
 ended t i e = cond (cell_at t i).more 0 (cond (leb (i + (cell_at t i).bases) e) 1 0)
 
 -- the row of each of at most n pieces from i on up to e, the first of them of element k; ks has the elements' indexes of the pieces before it in its line
-unfoldable pub rows_from : List ℕ → List ℕ → ℕ → ℕ → State → Before → ℕ → ℕ → List ℕ
+unfoldable pub rows_from : Rows → List ℕ → ℕ → ℕ → State → Before → ℕ → ℕ → List ℕ
 unfolding word_at reason_after
 rows_from t ks k zero st b i e = []
 rows_from t ks k (suc n) st b i e =
@@ -38,37 +39,37 @@ rows_from t ks k (suc n) st b i e =
     (row (λ j. get_or ks j 0) k r.start r.account ++ rows_from t (ks ++ (k ∷ [])) (k + ended t i e) n r.st r.before (i + (cell_at t i).bases) e) []
 
 -- the rows of the line from s up to e, whose first element has the index k
-abbrev pub line_rows : List ℕ → ℕ → ℕ → ℕ → List ℕ
+abbrev pub line_rows : Rows → ℕ → ℕ → ℕ → List ℕ
 line_rows t k s e = rows_from t [] k (e - s) start nothing s e
 
 -- how many pieces there are from i on up to e, at most n,
-unfoldable pub pieces_from : List ℕ → ℕ → ℕ → ℕ → ℕ
+unfoldable pub pieces_from : Rows → ℕ → ℕ → ℕ → ℕ
 pieces_from t zero i e = 0
 pieces_from t (suc n) i e = cond (ltb i e) (suc (pieces_from t n (i + (cell_at t i).bases) e)) 0
 
-abbrev pub pieces_in : List ℕ → ℕ → ℕ → ℕ
+abbrev pub pieces_in : Rows → ℕ → ℕ → ℕ
 pieces_in t s e = pieces_from t (e - s) s e
 
 -- and how many elements end among them
-unfoldable pub ended_from : List ℕ → ℕ → ℕ → ℕ → ℕ
+unfoldable pub ended_from : Rows → ℕ → ℕ → ℕ → ℕ
 ended_from t zero i e = 0
 ended_from t (suc n) i e = cond (ltb i e) (ended t i e + ended_from t n (i + (cell_at t i).bases) e) 0
 
-abbrev pub ended_in : List ℕ → ℕ → ℕ → ℕ
+abbrev pub ended_in : Rows → ℕ → ℕ → ℕ
 ended_in t s e = ended_from t (e - s) s e
 
 -- where the walk stands at the job's start, and behind the line from s up to e
 abbrev pub first : Place
 first = record { k = 0; q = 0 }
 
-abbrev pub behind : List ℕ → ℕ → ℕ → Place → Place
+abbrev pub behind : Rows → ℕ → ℕ → Place → Place
 behind t s e at = record { k = at.k + ended_in t s e; q = at.q + pieces_in t s e }
 
 -- the rows of lines that end at es, the first of them from s on, and for each line the count of pieces up to its end
-abbrev pub rows_by : List ℕ → Place → ℕ → List ℕ → List ℕ
+abbrev pub rows_by : Rows → Place → ℕ → List ℕ → List ℕ
 rows_by t at s [] = []
 rows_by t at s (e ∷ es) = line_rows t at.k s e ++ rows_by t (behind t s e at) e es
 
-abbrev pub counts_by : List ℕ → Place → ℕ → List ℕ → List ℕ
+abbrev pub counts_by : Rows → Place → ℕ → List ℕ → List ℕ
 counts_by t at s [] = []
 counts_by t at s (e ∷ es) = (behind t s e at).q ∷ counts_by t (behind t s e at) e es

@@ -6,6 +6,7 @@ use Rattle.std.proofs.Math.Seq.{length-sets}
 use Rattle.basics.specs.Laws.{sets_append}
 use Rattle.line.specs.declared.State.{State}
 use Rattle.line.specs.Setting.{start}
+use Rattle.cells.specs.Rows.{Rows}
 use Rattle.cells.specs.Cells.{cell_at, stop}
 use Rattle.cells.specs.Sound.{Sound}
 use Rattle.account.specs.declared.Before.{Before}
@@ -21,7 +22,7 @@ Chained m s [] = Unit
 Chained m s (e ∷ es) = (s < e) × (e ≤ m) × Chained m e es
 
 -- `ends` has at its front the ends of n lines of a sound table, and the lists have six places for each of its rows and one for each line.
-pub record LinesReady (t : List ℕ) (n : ℕ) (ends rows told : List ℕ) : Type 0 where
+pub record LinesReady (t : Rows) (n : ℕ) (ends rows told : List ℕ) : Type 0 where
   pub m : ℕ
   pub sound : Sound t m
   pub held : n ≤ length ends
@@ -31,7 +32,7 @@ pub record LinesReady (t : List ℕ) (n : ℕ) (ends rows told : List ℕ) : Typ
   pub room_told : n ≤ length told
 
 -- six numbers for each piece
-rows_long : (t ks : List ℕ) (k n : ℕ) (st : State) (b : Before) (i e : ℕ) → length (rows_from t ks k n st b i e) ≡ 6 * pieces_from t n i e
+rows_long : (t : Rows) (ks : List ℕ) (k n : ℕ) (st : State) (b : Before) (i e : ℕ) → length (rows_from t ks k n st b i e) ≡ 6 * pieces_from t n i e
 unfolding rows_from pieces_from
 rows_long t ks k zero st b i e = refl
 rows_long t ks k (suc n) st b i e =
@@ -44,7 +45,7 @@ rows_long t ks k (suc n) st b i e =
     go false xs ys z h l = refl
 
 -- Before line l, which begins at base character s.
-pub record Going (t : List ℕ) (n : ℕ) (ends was wasTold : List ℕ) (at : Place) (s l : ℕ) (rows told : List ℕ) : Type 0 where
+pub record Going (t : Rows) (n : ℕ) (ends was wasTold : List ℕ) (at : Place) (s l : ℕ) (rows told : List ℕ) : Type 0 where
   pub ready : LinesReady t n ends was wasTold
   pub lines : Chained ready.m s (drop l (take n ends))
   pub index : at.k ≤ s
@@ -54,10 +55,10 @@ pub record Going (t : List ℕ) (n : ℕ) (ends was wasTold : List ℕ) (at : Pl
   pub long : length rows ≡ length was
   pub long_told : length told ≡ length wasTold
 
-pub going_first : {t : List ℕ} {n : ℕ} {ends was wasTold : List ℕ} → LinesReady t n ends was wasTold → Going t n ends was wasTold first 0 0 was wasTold
+pub going_first : {t : Rows} {n : ℕ} {ends was wasTold : List ℕ} → LinesReady t n ends was wasTold → Going t n ends was wasTold first 0 0 was wasTold
 going_first ready = record { ready = ready; lines = ready.lines; index = zero-le; few = zero-le; accounts = refl; counts = refl; long = refl; long_told = refl }
 
-module _ {t : List ℕ} {n : ℕ} {ends was wasTold : List ℕ} {at : Place} {s l : ℕ} {rows told : List ℕ} (going : Going t n ends was wasTold at s l rows told) where
+module _ {t : Rows} {n : ℕ} {ends was wasTold : List ℕ} {at : Place} {s l : ℕ} {rows told : List ℕ} (going : Going t n ends was wasTold at s l rows told) where
   abbrev ready : LinesReady t n ends was wasTold
   ready = going.ready
 
@@ -134,27 +135,3 @@ module _ {t : List ℕ} {n : ℕ} {ends was wasTold : List ℕ} {at : Place} {s 
         ap (λ xs. sets rows (6 * at.q) (rows_by t at s xs)) (sym none) ∙ going.accounts,
         ap (λ xs. sets told l (counts_by t at s xs)) (sym none) ∙ going.counts,
       )
-
--- The extents: what is copied and what is left to copy make up the whole.
-pub record Copying (n : ℕ) (found was : List ℕ) (l : ℕ) (out : List ℕ) : Type 0 where
-  pub rest : sets out l (drop l (take n found)) ≡ sets was 0 (take n found)
-  pub long : length out ≡ length was
-
-module _ {n : ℕ} {found was : List ℕ} (held : n ≤ length found) where
-  pub copying_first : Copying n found was 0 was
-  copying_first = record { rest = refl; long = refl }
-
-  module _ {l : ℕ} {out : List ℕ} (q : Copying n found was l out) where
-    pub copying_next : l < n → Copying n found was (l + 1) (set out l (get_or found l 0))
-    copying_next h =
-        rw (add-one l) (record {
-          rest =
-              ap (sets out l) (sym (drop-cons (take n found) l 0 (omega (arith, length-take-le n found held)) ∙ ap (λ (x : ℕ). x ∷ drop (suc l) (take n found)) (get_or-take n found l 0 h)))
-              ∙ q.rest;
-          long = length-set out l (get_or found l 0) ∙ q.long;
-        })
-
-    pub copying_end : n ≤ l → out ≡ sets was 0 (take n found)
-    copying_end h =
-        let past : length (take n found) ≤ l = omega (arith, length-take-le n found held) in
-        ap (sets out l) (sym (drop_of_length-le (take n found) past)) ∙ q.rest

@@ -7,6 +7,7 @@ ghost use Rattle.std.specs.Prelude.{◌≡◌, ◌+◌, ◌*◌, ◌/◌, ◌≤
 ghost use Rattle.std.proofs.lemmas.List.Edits.{sets};
 ghost use Rattle.basics.specs.Seen.{was};
 ghost use Rattle.job_account.specs.Seen.{leaves};
+ghost use Rattle.door.specs.Lent.{job_in};
 ghost use Rattle.door.specs.Seen.{job_was};
 ghost use Rattle.cells.specs.Cells.{Advances};
 ghost use Rattle.account.specs.Claims.{Earlier};
@@ -16,7 +17,7 @@ ghost use Rattle.job_account.specs.Line.{LineReady};
 ghost use Rattle.job_account.specs.Walk.{LinesReady};
 ghost use Rattle.job_account.specs.Outcome.{telling};
 
-// The account of a piece and where its block starts, with the line's state and what stands once it is set.
+/// The account of a piece and where its block starts, with the line's state and what stands once it is set.
 #[derive(Clone, Copy)]
 pub struct Told {
     pub account: account::Account,
@@ -25,9 +26,9 @@ pub struct Told {
     pub before: account::Before,
 }
 
-// The piece from row i up to c, number j of its line, set after the line so far, and why it stands there.
+/// The piece from row i up to c, number j of its line, set after the line so far, and why it stands there.
 pub fn tell_piece(
-    t: &[u32],
+    t: &cells::Table,
     i: usize,
     c: usize,
     st: line::State,
@@ -37,7 +38,7 @@ pub fn tell_piece(
     requires { Advances t.now st i c }
     ensures { result ≡ told_at t.now i c st j b }
 {
-    let a = cells::cell_at(t, i);
+    let a = t.row(i);
     let step = cells::advance(t, i, c, st);
     let w: word::Word = step.word;
     let e = cells::element_of(w, a.before, a.after);
@@ -79,7 +80,7 @@ fn other_index(first: usize, j: u32, r: account::Reason, rows: &[u32]) -> u32
 }
 
 // The account of piece j of a line, of element k, as a row of six numbers: the element's index, its block's start, the gap, the reason's number, the other element and the depth.
-// The line's rows begin at row `first` of the list.
+// The line's rows begin at row `first` of the list. Numbers and no struct, since C lends the list (`bv_account_job`).
 fn put_row(a: account::Account, first: usize, j: u32, k: u32, start: u64, out: &mut [u32])
     requires { RowReady a first j start out.old }
     ensures { let was = out.old in out.new ≡ sets was (6 * (first + j)) (row (index_at was first) k start a) }
@@ -90,12 +91,12 @@ fn put_row(a: account::Account, first: usize, j: u32, k: u32, start: u64, out: &
     out[q] = k;
     out[q + 1] = start as u32;
     out[q + 2] = a.gap as u32;
-    out[q + 3] = account::number_of(r);
+    out[q + 3] = r.number();
     out[q + 4] = other;
-    out[q + 5] = account::depth_of(r);
+    out[q + 5] = r.depth();
 }
 
-// Where the walk stands before a line: the index of its first element, and the list's next row.
+/// Where the walk stands before a line: the index of its first element, and the list's next row.
 #[derive(Clone, Copy)]
 pub struct Place {
     pub k: u32,
@@ -114,8 +115,8 @@ fn next_index(k: u32, more: bool, end: usize, e: usize) -> u32
     if end <= e { k + 1 } else { k }
 }
 
-// The accounts of the line from s up to e, a row for each piece from row `from.q` of the list on; the answer is where the walk stands behind it.
-pub fn tell_line(t: &[u32], s: usize, e: usize, from: Place, out: &mut [u32]) -> Place
+/// The accounts of the line from s up to e, a row for each piece from row `from.q` of the list on; the answer is where the walk stands behind it.
+pub fn tell_line(t: &cells::Table, s: usize, e: usize, from: Place, out: &mut [u32]) -> Place
     requires { LineReady t.now s e from out.old }
     ensures { let u = t.now in (result ≡ behind u s e from) × (out.new ≡ sets out.old (6 * from.q) (line_rows u from.k s e)) }
 {
@@ -124,10 +125,11 @@ pub fn tell_line(t: &[u32], s: usize, e: usize, from: Place, out: &mut [u32]) ->
     let mut b = account::START;
     let mut j: u32 = 0;
     let mut k = from.k;
+    // From piece to piece: a row says where the next one begins.
     while i < e {
-        let a = cells::cell_at(t, i);
+        let a = t.row(i);
         let end = i + a.bases as usize;
-        let told = tell_piece(t, i, door::fewer(e, end), st, j, b);
+        let told = tell_piece(t, i, e.min(end), st, j, b);
         put_row(told.account, from.q, j, k, told.start, out);
         k = next_index(k, a.more, end, e);
         st = told.st;
@@ -141,46 +143,67 @@ pub fn tell_line(t: &[u32], s: usize, e: usize, from: Place, out: &mut [u32]) ->
     }
 }
 
-// The accounts of n lines that end where the front of `ends` says: in `rows` six numbers for each piece, in `told` for each line the count of pieces up to its end. Entries
-// that are not used stay as they were.
-pub fn tell_lines(t: &[u32], n: usize, ends: &[u32], rows: &mut [u32], told: &mut [u32])
+/// The accounts of n lines that end where the front of `ends` says: in `rows` six numbers for each piece, in `told` for each line the count of pieces up to its end. Entries
+/// that are not used stay as they were.
+pub fn tell_lines(t: &cells::Table, n: usize, ends: &[u32], rows: &mut [u32], told: &mut [u32])
     requires { LinesReady t.now n ends.now rows.old told.old }
     ensures { let u = t.now in let es = take n ends.now in (rows.new ≡ sets rows.old 0 (rows_by u first 0 es)) × (told.new ≡ sets told.old 0 (counts_by u first 0 es)) }
 {
     let mut at = Place { k: 0, q: 0 };
     let mut s: usize = 0;
-    let mut l: usize = 0;
-    while l < n {
+    for l in 0..n {
         let e = ends[l] as usize;
         at = tell_line(t, s, e, at, rows);
         told[l] = at.q as u32;
         s = e;
-        l += 1;
     }
 }
 
-// The extents of n lines, from the front of `found`.
+/// The extents of n lines, from the front of `found`.
 pub fn put_extents(n: usize, found: &[u32], extents: &mut [u32])
     requires { (n ≤ 1024) × (n ≤ length found.now) × (n ≤ length extents.old) }
     ensures { extents.new ≡ sets extents.old 0 (take n found.now) }
 {
-    let mut l: usize = 0;
-    while l < n {
-        extents[l] = found[l];
-        l += 1;
-    }
+    extents[..n].copy_from_slice(&found[..n]);
 }
 
 // For how many base characters the lists of an account have room.
 fn room_of(rows: usize, told: usize, extents: usize) -> usize
     ensures { result ≡ min (rows / 6) (min told extents) }
 {
-    door::fewer(rows / 6, door::fewer(told, extents))
+    (rows / 6).min(told.min(extents))
 }
 
-// The account of a job: the checks and refusals of the setting, and for an accepted job in `rows` and `told` what `tell_lines` has of its lines, and in `extents` how long each
-// of them is. Nothing is asked of the caller; a list that is too short is refused as a result list is (12), and no list is altered by a refusal. The answer is
-// the number of lines.
+/// The account of a job: the checks and refusals of the setting, and for an accepted job in `rows` and `told` what `tell_lines` has of its lines, and in `extents` how long each
+/// of them is. Nothing is asked of the caller; a list that is too short is refused as a result list is (12), and no list is altered by a refusal. The answer is
+/// the number of lines.
+pub fn account(
+    job: &door::Job,
+    rows: &mut [u32],
+    told: &mut [u32],
+    extents: &mut [u32],
+) -> job::Answer
+    ensures { leaves result rows.new told.new extents.new ≡ telling (job_in job.now) rows.old told.old extents.old }
+{
+    let lengths = door::Lengths {
+        lines: room_of(rows.len(), told.len(), extents.len()),
+        ..engine::MOST
+    };
+    let mut list = [cells::NO_CELL; limits::MOST_BASES];
+    let mut ends = [0; limits::MOST_BASES];
+    let mut found = [0; limits::MOST_BASES];
+    match engine::fill_job(&mut list, &mut ends, &mut found, job, lengths) {
+        Err(why) => job::Answer::Refused(why),
+        Ok(n) => {
+            let t = cells::Table::new(job.ratios, job.em, &list);
+            tell_lines(&t, n, &ends, rows, told);
+            put_extents(n, &found, extents);
+            job::Answer::Set(n)
+        }
+    }
+}
+
+/// The entry point of the account over lists: `account`, of a job whose lists are lent one by one, as `engine::set_job` is lent them.
 pub fn account_job(
     em: u32,
     measure: u32,
@@ -208,44 +231,35 @@ pub fn account_job(
 ) -> job::Answer
     ensures { let job = job_was em measure ratios profile class width before after flag rclass rwidth lclass lwidth kind ebase eruby lkind eleft runs lruns in leaves result rows.new told.new extents.new ≡ telling job rows.old told.old extents.old }
 {
-    let room = room_of(rows.len(), told.len(), extents.len());
-    let mut t = [0; engine::TABLE];
-    let mut ends = [0; limits::MOST_BASES];
-    let mut found = [0; limits::MOST_BASES];
-    match engine::fill_job(
-        &mut t,
-        &mut ends,
-        &mut found,
+    let job = door::Job {
         em,
         measure,
         ratios,
         profile,
-        class,
-        width,
-        before,
-        after,
-        flag,
-        rclass,
-        rwidth,
-        lclass,
-        lwidth,
-        kind,
-        ebase,
-        eruby,
-        lkind,
-        eleft,
+        base: door::Bases {
+            class,
+            width,
+            before,
+            after,
+            flag,
+        },
+        ruby: door::Readings {
+            class: rclass,
+            width: rwidth,
+        },
+        left: door::Readings {
+            class: lclass,
+            width: lwidth,
+        },
+        elements: door::Elements {
+            kind,
+            bases: ebase,
+            rubies: eruby,
+            left_kind: lkind,
+            lefts: eleft,
+        },
         runs,
-        lruns,
-        limits::MOST_BASES,
-        limits::MOST_RUBIES,
-        limits::MOST_LEFTS,
-        room,
-    ) {
-        filling::Lines::Refused(why) => job::Answer::Refused(why),
-        filling::Lines::Filled(n) => {
-            tell_lines(&t, n, &ends, rows, told);
-            put_extents(n, &found, extents);
-            job::Answer::Set(n)
-        }
-    }
+        left_runs: lruns,
+    };
+    account(&job, rows, told, extents)
 }

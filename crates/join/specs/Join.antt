@@ -16,7 +16,7 @@ use Rattle.basics.specs.Lists.{sum, All, last_or}
 use Rattle.class.specs.Class.{western}
 use Rattle.class.specs.declared.Depths.{Depths}
 use Rattle.class.specs.Laws.{before-within}
-use Rattle.spread.specs.Ratio.{Housed}
+use Rattle.spread.specs.Ratio.{Ratios, Housed}
 use Rattle.word.specs.declared.Form.{Form}
 use Rattle.word.specs.declared.Form.TheVariants.{P, M, G, J}
 use Rattle.word.specs.declared.Word.{Word}
@@ -33,9 +33,10 @@ use Rattle.readings.specs.Parts.{left_by, left_of_part}
 use Rattle.line.specs.declared.Side.TheVariants.{Right, Left}
 use Rattle.line.specs.declared.State.{State}
 use Rattle.line.specs.Setting.{total}
+use Rattle.cells.specs.Rows.{Rows}
 use Rattle.cells.specs.declared.Cell.{Cell}
 use Rattle.cells.specs.Cells as cells
-use Rattle.cells.specs.Cells.{Head, ratios_at, em_at, head_at, left_reading, cell_at, part_by, both_by, over_with, word_at, element_of, Ran, Plain, Flat, bare, piece, next, stop, rest, state_at, may_end, last_of, breaks, end_of, lines_of}
+use Rattle.cells.specs.Cells.{left_reading, cell_at, part_by, both_by, over_with, word_at, element_of, Ran, Plain, Flat, bare, piece, next, stop, rest, state_at, may_end, last_of, breaks, end_of, lines_of}
 use Rattle.cells.specs.Sound.{Row, Sound}
 use Rattle.cells.specs.Walk as walk
 use Rattle.door.specs.declared.Piece.{Piece}
@@ -97,12 +98,12 @@ covers-from job front (x ∷ xs) e b t i h l =
         record { front = front; x = x; rest = xs; split = e; tiled = subst (λ z. BaseTiled (z + x.bases) xs (base_count job)) (sym t.0) t.1; from = omega (arith, t.0); ahead = omega (arith, t.0) }
     go (no g) f = f (omega arith)
 
-module _ (job : Job) (passed : Passed job) (t : List ℕ) (table : Holds job t) where
+module _ (job : Job) (passed : Passed job) (t : Rows) (table : Holds job t) where
   pub covers : (i : ℕ) → i < base_count job → Covers job i
   covers i h = covers-from job [] (words job) refl 0 (words-tiled job passed) i zero-le h
 
-  pub has : (x : Piece) → IsWord job x → HasRows job t x
-  has x at = (all_split (HasRows job t) at.front (x ∷ at.rest) (subst (All (HasRows job t)) at.split table.rows)).1.0
+  pub has : (x : Piece) → IsWord job x → HasRows job t.rows x
+  has x at = (all_split (HasRows job t.rows) at.front (x ∷ at.rest) (subst (All (HasRows job t.rows)) at.split table.rows)).1.0
 
   module _ (x : Piece) (at : IsWord job x) where
     -- the numbers of a row
@@ -280,8 +281,8 @@ module _ (job : Job) (passed : Passed job) (t : List ℕ) (table : Holds job t) 
         let k = i - x.base in
         let low : x.base ≤ z = omega arith in
         let high : z < x.base + x.bases = omega arith in
-        ap (λ n. cond (ltb 0 n) (cells.both t i c) (by_head (head_at t) (cell_at t i) (cell_at t z))) (lefts_at nl i h (omega arith))
-        ∙ ap (λ h. by_head h (cell_at t i) (cell_at t z)) table.head
+        ap (λ n. cond (ltb 0 n) (cells.both t i c) (by_head t.ratios t.em (cell_at t i) (cell_at t z))) (lefts_at nl i h (omega arith))
+        ∙ ap₂ (λ h e. by_head h e (cell_at t i) (cell_at t z)) table.ratios table.em
         ∙ ap₂ (λ a b. by_ends a (cell_at t i).wide b (cell_at t i).ruby (cell_at t i).over (over_with job.em (cell_at t z)) (cell_at t i).own (cell_at t z).own (cell_at t i).western)
         (wide_with j z low high ∙ ap (wide_before job x) (top x.base h l)) (ruby_with j z low high ∙ ap (first_at Right job x) (top x.base h l))
         ∙ ap₂ (λ a b. by_ends (wide_before job x (k + (c - i))) a (first_at Right job x (k + (c - i))) b (cell_at t i).over (over_with job.em (cell_at t z)) (cell_at t i).own (cell_at t z).own (cell_at t i).western)
@@ -294,9 +295,9 @@ module _ (job : Job) (passed : Passed job) (t : List ℕ) (table : Holds job t) 
         (western-at j i h (omega arith))
         ∙ part-word job x passed at j k (c - i) (omega arith) (omega arith) nl
       where
-        by_head : Head → Cell → Cell → Word
-        by_head h a z =
-            part_by h.ratios h.em (c - i) (z.wide + z.own - a.wide) (z.ruby + z.rubies - a.ruby) (eqb a.over (over_with h.em z)) a.own z.own a.western
+        by_head : Ratios → ℕ → Cell → Cell → Word
+        by_head h em a z =
+            part_by h em (c - i) (z.wide + z.own - a.wide) (z.ruby + z.rubies - a.ruby) (eqb a.over (over_with em z)) a.own z.own a.western
 
         by_ends : ℕ → ℕ → ℕ → ℕ → ℕ → ℕ → ℕ → ℕ → Bool → Word
         by_ends wz wa rz ra oa oz first last western = part_by job.ratios job.em (c - i) (wz - wa) (rz - ra) (eqb oa oz) first last western
@@ -318,19 +319,19 @@ module _ (job : Job) (passed : Passed job) (t : List ℕ) (table : Holds job t) 
         let here : i < x.base + x.bases = omega arith in
         let hl = has-jukugo x.gloss jl in
         let some : ltb 0 (cell_at t i).lefts ≡ true = lt-ltb 0 (cell_at t i).lefts (omega (arith, lefts-by hl j i h here, left_run_lem hl j k (omega arith))) in
-        ap (λ (b : Bool). cond b (both_by (ratios_at t) (em_at t) (c - i) (record { width = (cell_at t i).own; count = (cell_at t i).rubies }) (record { width = (cell_at t i).ownleft; count = (cell_at t i).lefts }) (cell_at t z).own (cell_at t z).ownleft) (rest t)) some
-        ∙ ap (λ (h : Head). both_by h.ratios h.em (c - i) (record { width = (cell_at t i).own; count = (cell_at t i).rubies }) (record { width = (cell_at t i).ownleft; count = (cell_at t i).lefts }) (cell_at t z).own (cell_at t z).ownleft) table.head
+        ap (λ (b : Bool). cond b (both_by t.ratios t.em (c - i) (record { width = (cell_at t i).own; count = (cell_at t i).rubies }) (record { width = (cell_at t i).ownleft; count = (cell_at t i).lefts }) (cell_at t z).own (cell_at t z).ownleft) (rest t)) some
+        ∙ ap₂ (λ (h : Ratios) (e : ℕ). both_by h e (c - i) (record { width = (cell_at t i).own; count = (cell_at t i).rubies }) (record { width = (cell_at t i).ownleft; count = (cell_at t i).lefts }) (cell_at t z).own (cell_at t z).ownleft) table.ratios table.em
         ∙ ap₂ (λ (r l : Str). both_by job.ratios job.em (c - i) r l (cell_at t z).own (cell_at t z).ownleft)
         (ap₂ (λ (w n : ℕ). record { width = w; count = n }) (own_at j i h here) (rubies-at j i h here)) (ap₂ (λ (w n : ℕ). record { width = w; count = n }) (own-left_by hl j i h here) (lefts-by hl j i h here))
         ∙ ap₂ (λ (a b : ℕ). both_by job.ratios job.em (c - i) (record { width = run_width Right job x k; count = run_at Right job x k }) (record { width = run_width Left job x k; count = run_at Left job x k }) a b)
         (own_at j z low high ∙ ap (run_width Right job x) (last x.base h l)) (own-left_by hl j z low high ∙ ap (run_width Left job x) (last x.base h l))
         ∙ both_word job x passed at j k (c - i) (omega arith) (omega arith) jl
       where
-        rest : List ℕ → Word
+        rest : Rows → Word
         rest t =
             let a = cell_at t i in
             let z = cell_at t (c - 1) in
-            part_by (ratios_at t) (em_at t) (c - i) (z.wide + z.own - a.wide) (z.ruby + z.rubies - a.ruby) (eqb a.over (over_with (em_at t) z)) a.own z.own a.western
+            part_by t.ratios t.em (c - i) (z.wide + z.own - a.wide) (z.ruby + z.rubies - a.ruby) (eqb a.over (over_with t.em z)) a.own z.own a.western
 
         last : (b : ℕ) → b ≤ i → i < c → c - 1 - b ≡ i - b + (c - i) - 1
         last b h l = omega arith

@@ -1,6 +1,5 @@
 -- The rows of a job's words, by the job's own definitions: a word is an element, or one character of a J with a mono left reading (`words`). What is said of runs is said of either side.
 use Rattle.std.specs.Prelude.{◌≡◌, Bool, false, cond, ◌&&◌, ◌||◌, List, map, ℕ, ◌+◌, ◌-◌, ◌≤◌, ◌<◌, eqb, ltb, length, get_or}
-use Rattle.std.proofs.Common.{ap}
 use Rattle.basics.specs.Lists.{sum, count, keep, All}
 use Rattle.class.specs.Class.{western, depths_by}
 use Rattle.word.specs.declared.Word.{Word}
@@ -9,9 +8,10 @@ use Rattle.word.specs.Word as word
 use Rattle.word.specs.Sides as sides
 use Rattle.line.specs.declared.Side.{Side}
 use Rattle.line.specs.declared.Side.TheVariants.{Right, Left}
+use Rattle.cells.specs.Rows.{Rows, row_in}
 use Rattle.cells.specs.declared.Cell.{Cell}
 use Rattle.cells.specs.declared.LeftRow.{LeftRow}
-use Rattle.cells.specs.Cells.{Head, size, ratios_at, em_at, head_at, beside, cell_at}
+use Rattle.cells.specs.Cells.{beside}
 use Rattle.door.specs.declared.Piece.{Piece}
 use Rattle.door.specs.Job.{Job, base_count, entries}
 use Rattle.job.specs.Line.{part, words, cuts, word_of, on_p, depths_at, first_of, widths_of}
@@ -89,7 +89,7 @@ row_by job x w ends before after i =
 abbrev pub left_runs : Job → Piece → Bool
 left_runs job x = cuts job x && has_left x.gloss
 
--- and its left row: where the left reading stands in the word, and its characters, of a J that is cut those of its own left run. A word without a left reading has no characters
+-- and what it says of the left reading: where it stands in the word, and its characters, of a J that is cut those of its own left run. A word without a left reading has no characters
 -- there, and the next ones begin where it stands.
 abbrev pub left_row_by : Job → Piece → Word → ℕ → LeftRow
 left_row_by job x w i =
@@ -118,20 +118,22 @@ row_of job x i =
     beside (row_by job x (word_of job x) (ends_behind job x) (on_p x.form (depths_at job x.base).before) (on_p x.form (depths_at job x.base).after) i)
     (left_row_by job x (word_of job x) i)
 
-abbrev pub HasRows : Job → List ℕ → Piece → Type 0
-HasRows job t x = (i : ℕ) → x.base ≤ i → i < x.base + x.bases → cell_at t i ≡ row_of job x i
+abbrev pub HasRows : Job → List Cell → Piece → Type 0
+HasRows job rows x = (i : ℕ) → x.base ≤ i → i < x.base + x.bases → row_in rows i ≡ row_of job x i
 
--- a table that has the job's ratios and its em at its head, and the rows of all words
-abbrev pub head_of : Job → Head
-head_of job = record { ratios = job.ratios; em = job.em }
+-- a table that has the job's ratios, its em, and the rows of all words
+pub record Holds (job : Job) (t : Rows) : Type 0 where
+  pub long : base_count job ≤ length t.rows
+  pub ratios : t.ratios ≡ job.ratios
+  pub em : t.em ≡ job.em
+  pub rows : All (HasRows job t.rows) (words job)
 
-pub record Holds (job : Job) (t : List ℕ) : Type 0 where
-  pub long : size (base_count job) ≤ length t
-  pub head : head_at t ≡ head_of job
-  pub rows : All (HasRows job t) (words job)
+-- a job's table, with these rows
+abbrev pub table_of : Job → List Cell → Rows
+table_of job rows = record { ratios = job.ratios; em = job.em; rows = rows }
 
-pub house : {job : Job} {t : List ℕ} → Holds job t → ratios_at t ≡ job.ratios
-house h = ap (λ z. z.ratios) h.head
+pub house : {job : Job} {t : Rows} → Holds job t → t.ratios ≡ job.ratios
+house h = h.ratios
 
-pub ems : {job : Job} {t : List ℕ} → Holds job t → em_at t ≡ job.em
-ems h = ap (λ z. z.em) h.head
+pub ems : {job : Job} {t : Rows} → Holds job t → t.em ≡ job.em
+ems h = h.em

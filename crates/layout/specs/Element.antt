@@ -1,4 +1,5 @@
 -- One element of the walk: refused by the first of its rows, or laid.
+use Rattle.std.specs.Prelude.{Some, None, Result, Ok, Err}
 use Rattle.std.specs.Prelude.{◌≡◌, Bool, cond, ◌&&◌, ◌||◌, List, [], ◌∷◌, map, ℕ, zero, suc, ◌+◌, ◌-◌, ◌≤◌, ◌<◌, ◌^◌, eqb, length, get_or}
 use Rattle.std.proofs.Math.Path.{refl, sym, ap, subst}
 use Rattle.std.proofs.Common.{ap₂, ◌∙◌, true≢false, add-zero, arith, eqb-true}
@@ -29,12 +30,11 @@ use Rattle.word.specs.Summed.{given_base, ems-wide}
 use Rattle.word.specs.Sized.{Small}
 use Rattle.word.specs.Sized as size
 use Rattle.line.specs.declared.Side.TheVariants.{Left as LeftSide}
-use Rattle.cells.specs.Cells.{head_at, beside, cell_at}
+use Rattle.cells.specs.declared.Cell.{Cell}
+use Rattle.cells.specs.Rows.{row_in}
+use Rattle.cells.specs.Cells.{beside}
 use Rattle.door.specs.declared.Piece.{Piece}
 use Rattle.door.specs.declared.Taken.{Taken}
-use Rattle.door.specs.declared.Counted.TheVariants.{Is, Out}
-use Rattle.door.specs.declared.Step.{Step}
-use Rattle.door.specs.declared.Step.TheVariants.{Next, Stop}
 use Rattle.door.specs.Job.{Job, base_count, ruby_count, left_count, entries, known, known_left, form_of, left_of, left_by_runs, takes_base, element, given, gloss_of}
 use Rattle.door.specs.Refusals.{counts_wrong, run_out}
 use Rattle.door.specs.Entries.{length-entries}
@@ -44,17 +44,16 @@ use Rattle.door.specs.Walk as walk
 use Rattle.job.specs.Line.{part, words_in, cuts, word_of, on_p}
 use Rattle.join.specs.Rows.{is_cut, none, row_by, left_row_by, ends_behind, row_of, HasRows}
 use Rattle.word_rows.specs.Base.{BaseReady, bases_only}
-use Rattle.word_rows.specs.Table.{Filled}
+use Rattle.word_rows.specs.Table.{Filled, bare_row}
 use Rattle.word_rows.specs.Runs.{both_only, words_only, runs_only, Runs, HasRuns, jukugo_row}
 use Rattle.word_rows.specs.Word.{word_row, word_row_lem, jukugo_row_lem, flagged, WordReady, Judged, judged_as}
 use Rattle.one_reading.specs.Lay.{RubyReady, BasedReady, RunsReady, Gives, is_based, based_row, FilledBy, mono-any}
 use Rattle.one_reading.specs.Seen.{mono_only}
-use Rattle.two_readings.specs.Written.{from-none, clear-upto, LeftRoom, Written, bare_row, BareReady, Bared, over_bared}
 use Rattle.two_readings.specs.Left.{lefts_only, runs-all, own_row, character_row, both_row, BothReady, WrittenBy}
 use Rattle.layout.specs.Step.{Standing, Laid, Stepped}
 
 -- no step both stops and goes on
-stop-next : {q : Refusal} {p : Piece} → Stop q ≡ Next p → ⊥
+stop-next : {q : Refusal} {p : Piece} → ◌≡◌ {A = Result Piece Refusal} (Err q) (Ok p) → ⊥
 stop-next e = let z : ◌≡◌ {A = ℕ} 0 1 = cc in omega arith
 
 -- ruby lies on no word with ruby
@@ -108,7 +107,7 @@ right-word : (job : Job) (x : Piece) → has_left x.gloss ≡ false → word_of 
 unfolding sides.word_of
 right-word job x h = rw h
 
--- and its left rows say where the next left characters begin
+-- and its rows say where the next left characters begin
 bare-left : (job : Job) (x : Piece) (w : Word) (i : ℕ) → has_left x.gloss ≡ false → x.lefts ≡ 0 → x.more ≡ false → w.left ≡ one.none → bare_row x.left ≡ left_row_by job x w i
 bare-left job x w i h l m n = rw (reading (is_cut job x), runs (cuts job x) h, l, m, add-zero x.left)
   where
@@ -174,11 +173,11 @@ picked : {A : Type 0} (t : Bool) (a b : A) → t ≡ true → cond t a b ≡ a
 picked true a b e = refl
 picked false a b e = absurd (false≢true e)
 
-one_word : (job : Job) (x : Piece) (t : List ℕ) → apart x.form x.gloss ≡ false → HasRows job t x → All (HasRows job t) (words_in job x)
+one_word : (job : Job) (x : Piece) (t : List Cell) → apart x.form x.gloss ≡ false → HasRows job t x → All (HasRows job t) (words_in job x)
 unfolding words_in
 one_word job x t a h = rw a (h, tt)
 
-characters : (job : Job) (x : Piece) (t : List ℕ) → apart x.form x.gloss ≡ true → ((j : ℕ) → j < x.bases → HasRows job t (part job x j 1)) → All (HasRows job t) (words_in job x)
+characters : (job : Job) (x : Piece) (t : List Cell) → apart x.form x.gloss ≡ true → ((j : ℕ) → j < x.bases → HasRows job t (part job x j 1)) → All (HasRows job t) (words_in job x)
 unfolding words_in
 characters job x t a h =
     subst (All (HasRows job t)) (sym (picked (apart x.form x.gloss) (map (λ j. part job x j 1) (count 0 x.bases)) (x ∷ []) a))
@@ -198,7 +197,7 @@ part-mono : (job : Job) (x : Piece) (j : ℕ) → ((part job x j 1).base ≡ x.b
 unfolding part
 part-mono job x j = (refl, refl, refl)
 
-module _ {job : Job} {k : ℕ} {at : Taken} {was : List ℕ} (h : Standing job k at was) where
+module _ {job : Job} {k : ℕ} {at : Taken} {was : List Cell} (h : Standing job k at was) where
   abbrev x : Piece
   x = element job k at
 
@@ -206,16 +205,16 @@ module _ {job : Job} {k : ℕ} {at : Taken} {was : List ℕ} (h : Standing job k
   unfolding element
   its_place = (refl, refl, refl, refl)
 
-  stopped : {q : Refusal} → Stop q ≡ walk.element_step job k at → Stepped job k at was was (Stop q)
+  stopped : {q : Refusal} → Err q ≡ walk.element_step job k at → Stepped job k at was was (Err q)
   stopped e = record { long = refl; step = e; laid = λ p f. absurd (stop-next f) }
 
-  pub count-stops : walk.counting job k at ≡ Out → Stepped job k at was was (Stop (Element k))
+  pub count-stops : walk.counting job k at ≡ None → Stepped job k at was was (Err (Element k))
   count-stops e = stopped (walk.out-stops job k at e)
 
-  stopped-at : {q : Refusal} (t : List ℕ) → length t ≡ length was → Stop q ≡ walk.element_step job k at → Stepped job k at was t (Stop q)
+  stopped-at : {q : Refusal} (t : List Cell) → length t ≡ length was → Err q ≡ walk.element_step job k at → Stepped job k at was t (Err q)
   stopped-at t l e = record { long = l; step = e; laid = λ p f. absurd (stop-next f) }
 
-  module _ {p : Piece} (is : walk.counting job k at ≡ Is p) where
+  module _ {p : Piece} (is : walk.counting job k at ≡ Some p) where
     pub same : p ≡ x
     same = (walk.passes-five job k at is).1
 
@@ -246,7 +245,7 @@ module _ {job : Job} {k : ℕ} {at : Taken} {was : List ℕ} (h : Standing job k
       pub bare-none : p.lefts ≡ 0
       bare-none = ap (λ z. z.lefts) same ∙ (walk.few_left_lem job k at five).none (ap has_left bare-x)
 
-    pub kind-stops : takes p.form p.gloss ≡ false → Stepped job k at was was (Stop (LeftKind k))
+    pub kind-stops : takes p.form p.gloss ≡ false → Stepped job k at was was (Err (LeftKind k))
     kind-stops e = stopped (walk.kind-stops job k at five (subst (λ z. takes z.form z.gloss ≡ false) same e))
 
     module _ (sixteen : takes p.form p.gloss ≡ true) where
@@ -262,7 +261,7 @@ module _ {job : Job} {k : ℕ} {at : Taken} {was : List ℕ} (h : Standing job k
           go true e = refl
           go false e = absurd (other (known-none (get_or job.left_kind k 0) kinds.1 e))
 
-      pub short-stops : run_out job p ≡ true → Stepped job k at was was (Stop (Supply k))
+      pub short-stops : run_out job p ≡ true → Stepped job k at was was (Err (Supply k))
       short-stops e = stopped (walk.short-stops job k at five taken-x (subst (λ z. run_out job z ≡ true) same e))
 
       module _ (six : run_out job p ≡ false) where
@@ -295,9 +294,9 @@ module _ {job : Job} {k : ℕ} {at : Taken} {was : List ℕ} (h : Standing job k
         small-x : Small (given job x).width (given job x).ruby_width
         small-x = size.small _ _ _ _ ruby reads.sized
 
-        word-ready : (t : List ℕ) → length t ≡ length was → (class ruby_class run left_class left_width left_run : List ℕ) →
-            WordReady (both_only job.ratios job.em class job.width job.before job.after job.flag ruby_class job.ruby_width run left_class left_width left_run) x t
-        word-ready t long class ruby_class run left_class left_width left_run =
+        word-ready : (class ruby_class run left_class left_width left_run : List ℕ) →
+            WordReady (both_only job.ratios job.em class job.width job.before job.after job.flag ruby_class job.ruby_width run left_class left_width left_run) x was
+        word-ready class ruby_class run left_class left_width left_run =
             let c = h.stands.clean in
             record {
               some = few.some;
@@ -310,16 +309,16 @@ module _ {job : Job} {k : ℕ} {at : Taken} {was : List ℕ} (h : Standing job k
               ruby_width = reads.ruby_width;
               small = small-x;
               house = h.house;
-              room = omega (arith, held.0, h.room, long);
+              room = omega (arith, held.0, h.room);
             }
 
-        right_runs : (t : List ℕ) → length t ≡ length was → is_j x.form ≡ true → HasRuns (runs_of job) x t
-        right_runs t long j =
+        right_runs : is_j x.form ≡ true → HasRuns (runs_of job) x was
+        right_runs j =
             let c = h.stands.clean in
             let w = h.stands.within in
             let whole = few.whole j in
             record {
-              held = omega (arith, held.0, h.room, long);
+              held = omega (arith, held.0, h.room);
               class = omega (arith, reads.ruby_class, whole);
               own =
                   record {
@@ -339,9 +338,9 @@ module _ {job : Job} {k : ℕ} {at : Taken} {was : List ℕ} (h : Standing job k
         one-base e = ap (λ f. takes_base f (get_or job.element_base k 0)) e
 
         -- an M, by the lists that it asks for
-        mono-ready-x : (t : List ℕ) → length t ≡ length was → x.form ≡ M → (x.bases ≡ 1) × WordReady (mono_of job) x t
-        mono-ready-x t long e =
-            let w = word-ready t long [] [] [] [] [] [] in (
+        mono-ready-x : x.form ≡ M → (x.bases ≡ 1) × WordReady (mono_of job) x was
+        mono-ready-x e =
+            let w = word-ready [] [] [] [] [] [] in (
               one-base e,
               record {
                 some = w.some;
@@ -392,8 +391,8 @@ module _ {job : Job} {k : ℕ} {at : Taken} {was : List ℕ} (h : Standing job k
             }
 
         module _ {b : Base} (sums : b ≡ given_base x.form (given job x)) where
-          based-ready-x : (t : List ℕ) → length t ≡ length was → head_at t ≡ head_at was → BasedReady job.em b x job.ruby_class job.ruby_width t
-          based-ready-x t long top =
+          based-ready-x : BasedReady job.ratios job.em b x job.ruby_class job.ruby_width was
+          based-ready-x =
               let n = length-entries job.width x.base x.bases in
               record {
                 few = base-ready-x.few;
@@ -401,51 +400,37 @@ module _ {job : Job} {k : ℕ} {at : Taken} {was : List ℕ} (h : Standing job k
                 short = subst (λ z. z.string.count ≤ 4096) (sym sums) (omega (arith, n, few.few));
                 narrow = subst (λ z. z.string.width ≤ 131072) (sym sums) reads.sized.narrow;
                 ruby = ruby-ready-x;
-                house = subst Housed (sym (ap (λ z. z.ratios) (top ∙ h.head))) h.house;
-                room = omega (arith, held.0, h.room, long);
+                house = h.house;
+                room = omega (arith, held.0, h.room);
               }
 
-          runs-ready-x : (t : List ℕ) → length t ≡ length was → is_j x.form ≡ true → RunsReady job.em b x job.ruby_class job.ruby_width job.run t
-          runs-ready-x t long j =
+          runs-ready-x : is_j x.form ≡ true → RunsReady job.em b x job.ruby_class job.ruby_width job.run was
+          runs-ready-x j =
               record {
                 some = few.some;
                 ems = subst (λ z. z.uneven ≡ false → job.em ≤ z.string.width) (sym sums) (ems-wide x.form job.em (given job x).width reads.sized.some j);
-                runs = right_runs t long j;
+                runs = right_runs j;
                 whole = λ one. sym (few.whole j ∙ ap (λ n. sum (entries job.run x.run n)) one ∙ add-zero (get_or job.run x.run 0));
               }
 
-          gives-x : (t : List ℕ) → head_at t ≡ head_at was → Gives x.form job.em b x job.ruby_class job.ruby_width job.run t (given job x)
-          gives-x t top = record { ems = refl; house = sym (ap (λ z. z.ratios) (top ∙ h.head)); summed = sums; ruby_class = refl; ruby_width = refl; run = λ j. refl }
+          gives-x : Gives x.form job.ratios job.em b x job.ruby_class job.ruby_width job.run (given job x)
+          gives-x = record { ems = refl; house = refl; summed = sums; ruby_class = refl; ruby_width = refl; run = λ j. refl }
 
         -- level one's answer taken apart
-        steps : {a : Answer} {Done : Word → Type 0} {mid t : List ℕ} {s : Step} → length mid ≡ length was → answer_both x.form k (given job x) (gloss_of job x) ≡ a →
-            ((w : Word) → answer_both x.form k (given job x) (gloss_of job x) ≡ answered.Set w → Done w → Laid job x was t) → Judged a Done x mid t s → Stepped job k at was t s
-        steps {a} {Done} {mid} {t} {s} long is-a done j = go a refl
+        steps : {a : Answer} {Done : Word → Type 0} {t : List Cell} {s : Result Piece Refusal} → answer_both x.form k (given job x) (gloss_of job x) ≡ a →
+            ((w : Word) → answer_both x.form k (given job x) (gloss_of job x) ≡ answered.Set w → Done w → Laid job x was t) → Judged a Done x was t s → Stepped job k at was t s
+        steps {a} {Done} {t} {s} is-a done j = go a refl
           where
             go : (b : Answer) → a ≡ b → Stepped job k at was t s
             go (answered.Set w) e =
                 let g = j.goes w e in
-                record { long = j.long ∙ long; step = g.0 ∙ walk.set-goes_on job k at five taken-x six-x (is-a ∙ e); laid = λ _ _. done w (is-a ∙ e) g.1 }
+                record { long = j.long; step = g.0 ∙ walk.set-goes_on job k at five taken-x six-x (is-a ∙ e); laid = λ _ _. done w (is-a ∙ e) g.1 }
             go (answered.Refused q) e =
                 let g = j.stops q e in
-                subst (Stepped job k at was t) (sym g.0) (stopped-at t (j.long ∙ long) (walk.refused-stops job k at five taken-x six-x (is-a ∙ e)))
+                subst (Stepped job k at was t) (sym g.0) (stopped-at t j.long (walk.refused-stops job k at five taken-x six-x (is-a ∙ e)))
 
-        -- without left characters it has no left reading: its left rows say where the next left characters begin
+        -- without left characters it has no left reading: its rows say where the next left characters begin
         module _ (none : p.lefts ≡ 0) where
-          bare-ready-x : BareReady x.left x.base (x.base + x.bases) (left_count job) was
-          bare-ready-x =
-              let c = h.stands.clean in
-              record {
-                order = omega arith;
-                few = omega (arith, held.0, c.few);
-                few_left = omega (arith, held.2, c.few_left);
-                room = λ s. let r = h.left_room s in record { behind = omega (arith, r.behind, held.0); room = omega (arith, r.room, held.0) };
-                none = λ z. (h.begins ∙ from-none (base_count job) (left_count job) z, omega (arith, held.2));
-              }
-
-          pub bare-ready : BareReady p.left p.base (p.base + p.bases) (left_count job) was
-          bare-ready = subst (λ z. BareReady z.left z.base (z.base + z.bases) (left_count job) was) (sym same) bare-ready-x
-
           none-x : has_left x.gloss ≡ false
           none-x = go (has_left x.gloss) refl
             where
@@ -474,18 +459,11 @@ module _ {job : Job} {k : ℕ} {at : Taken} {was : List ℕ} (h : Standing job k
               go true e = jukugo_row_lem job x w (flagged job x) i e
               go false e = word_row_lem job x w (flagged job x) 0 0 i e
 
-          abbrev Bare : Piece → List ℕ → Type 0
-          Bare z mid = Bared z.left z.base (z.base + z.bases) was mid
-
-          alone-laid : (mid t : List ℕ) → Bare x mid → (w : Word) → answer_both x.form k (given job x) (gloss_of job x) ≡ answered.Set w →
-              Filled (based_row (words_of job) x w (flagged job x)) x.base (x.base + x.bases) mid t → Laid job x was t
-          alone-laid mid t b w e f =
-              let n = x.base + x.bases in
-              let q = over_bared (based_row (words_of job) x w (flagged job x)) x.left x.base n was mid t (clear-upto (base_count job) (left_count job) n was h.begins held.0) b f in
+          alone-laid : (t : List Cell) (w : Word) → answer_both x.form k (given job x) (gloss_of job x) ≡ answered.Set w →
+              Filled (λ i. beside (based_row (words_of job) x w (flagged job x) i) (bare_row x.left)) x.base (x.base + x.bases) was t → Laid job x was t
+          alone-laid t w e q =
               record {
                 long = q.long;
-                head = q.head;
-                lefts = q.lefts;
                 rows =
                     one_word job x t whole-x
                     (λ i l m. q.here i l m ∙ ap₂ beside (alone-row w i ∙ ap (λ z. row_by job x w z 0 0 i) (sym (ends-flagged job x its_place.3))) (no_left_lem i)
@@ -499,39 +477,43 @@ module _ {job : Job} {k : ℕ} {at : Taken} {was : List ℕ} (h : Standing job k
               no_left_lem : (i : ℕ) → bare_row x.left ≡ left_row_by job x w i
               no_left_lem i = bare-left job x w i none-x (sym (ap (λ z. z.lefts) same) ∙ none) its_place.3 (ap (λ v. v.left) (set ∙ right-word job x none-x) ∙ one-reading x.form (given job x))
 
-          pub mono-ready : (mid : List ℕ) → Bare p mid → p.form ≡ M → (p.bases ≡ 1) × WordReady (mono_of job) p mid
-          mono-ready mid b e = subst (λ z. (z.bases ≡ 1) × WordReady (mono_of job) z mid) (sym same) (mono-ready-x mid b.long (sym (ap (λ z. z.form) same) ∙ e))
+          pub mono-ready : p.form ≡ M → (p.bases ≡ 1) × WordReady (mono_of job) p was
+          mono-ready e = subst (λ z. (z.bases ≡ 1) × WordReady (mono_of job) z was) (sym same) (mono-ready-x (sym (ap (λ z. z.form) same) ∙ e))
 
-          pub based-ready : {b : Base} (mid : List ℕ) → Bare p mid → b ≡ given_base p.form (given job p) →
-              BasedReady job.em b p job.ruby_class job.ruby_width mid × (is_j p.form ≡ true → RunsReady job.em b p job.ruby_class job.ruby_width job.run mid)
-          based-ready {b} mid q e =
+          pub based-ready : {b : Base} → b ≡ given_base p.form (given job p) →
+              BasedReady job.ratios job.em b p job.ruby_class job.ruby_width was × (is_j p.form ≡ true → RunsReady job.em b p job.ruby_class job.ruby_width job.run was)
+          based-ready {b} e =
               let sums = e ∙ ap (λ z. given_base z.form (given job z)) same in
-              subst (λ z. BasedReady job.em b z job.ruby_class job.ruby_width mid × (is_j z.form ≡ true → RunsReady job.em b z job.ruby_class job.ruby_width job.run mid))
-              (sym same) (based-ready-x sums mid q.long q.head, runs-ready-x sums mid q.long)
+              subst (λ z. BasedReady job.ratios job.em b z job.ruby_class job.ruby_width was × (is_j z.form ≡ true → RunsReady job.em b z job.ruby_class job.ruby_width job.run was))
+              (sym same) (based-ready-x sums, runs-ready-x sums)
 
-          pub gives : {b : Base} (mid : List ℕ) → Bare p mid → b ≡ given_base p.form (given job p) →
-              Gives p.form job.em b p job.ruby_class job.ruby_width job.run mid (given job p)
-          gives {b} mid q e =
-              subst (λ z. Gives z.form job.em b z job.ruby_class job.ruby_width job.run mid (given job z)) (sym same)
-              (gives-x (e ∙ ap (λ z. given_base z.form (given job z)) same) mid q.head)
+          pub gives : {b : Base} → b ≡ given_base p.form (given job p) → Gives p.form job.ratios job.em b p job.ruby_class job.ruby_width job.run (given job p)
+          gives {b} e =
+              subst (λ z. Gives z.form job.ratios job.em b z job.ruby_class job.ruby_width job.run (given job z)) (sym same)
+              (gives-x (e ∙ ap (λ z. given_base z.form (given job z)) same))
 
           -- a word that is no M is a G or a J
           pub based : (get_or job.kind k 0 ≡ 77 → ⊥) → is_based p.form ≡ true
           unfolding element
           based e = no-mono p.form (λ m. e (mono-letter (get_or job.kind k 0) (sym (ap (λ z. z.form) same) ∙ m))) (ap (λ z. has_ruby z.form) same ∙ ruby)
 
-          pub alone-judged : {mid t : List ℕ} {s : Step} → Bare p mid →
-              FilledBy (answer p.form k (given (words_of job) p)) (λ w. based_row (words_of job) p w (flagged (words_of job) p)) p mid t s → Stepped job k at was t s
-          alone-judged {mid} {t} {s} b j =
-              steps b.long answer-x (alone-laid mid t (subst (λ z. Bare z mid) same b))
-              (subst (λ z. FilledBy (answer z.form k (given job z)) (λ w. based_row (words_of job) z w (flagged job z)) z mid t s) same j)
+          left-at : p.left ≡ at.left
+          unfolding element
+          left-at = ap (λ z. z.left) same
+
+          pub alone-judged : {t : List Cell} {s : Result Piece Refusal} →
+              FilledBy (answer p.form k (given (words_of job) p)) (λ w. based_row (words_of job) p w (flagged (words_of job) p)) at.left p was t s → Stepped job k at was t s
+          alone-judged {t} {s} j =
+              steps answer-x (alone-laid t)
+              (subst (λ z. FilledBy (answer z.form k (given job z)) (λ w. based_row (words_of job) z w (flagged job z)) z.left z was t s) same
+              (subst (λ l. FilledBy (answer p.form k (given (words_of job) p)) (λ w. based_row (words_of job) p w (flagged (words_of job) p)) l p was t s) (sym left-at) j))
 
           -- an M
-          pub mono-judged : {mid t : List ℕ} {s : Step} → Bare p mid → p.form ≡ M →
-              FilledBy (answer M k (given (mono_of job) p)) (λ w. word_row p w (flagged (mono_of job) p) 0 0) p mid t s → Stepped job k at was t s
-          mono-judged {mid} {t} {s} b e j =
-              alone-judged b
-              (subst (λ f. FilledBy (answer f k (given job p)) (λ w i. cond (is_j f) (jukugo_row job p w (flagged job p) i) (word_row p w (flagged job p) 0 0 i)) p mid t s) (sym e)
+          pub mono-judged : {t : List Cell} {s : Result Piece Refusal} → p.form ≡ M →
+              FilledBy (answer M k (given (mono_of job) p)) (λ w. word_row p w (flagged (mono_of job) p) 0 0) at.left p was t s → Stepped job k at was t s
+          mono-judged {t} {s} e j =
+              alone-judged
+              (subst (λ f. FilledBy (answer f k (given job p)) (λ w i. cond (is_j f) (jukugo_row job p w (flagged job p) i) (word_row p w (flagged job p) 0 0 i)) at.left p was t s) (sym e)
               (judged_as (mono-any k (given (mono_of job) p) (given job p) refl refl refl refl) (λ w d f. f) j))
 
         -- with left characters it has one
@@ -542,9 +524,6 @@ module _ {job : Job} {k : ℕ} {at : Taken} {was : List ℕ} (h : Standing job k
               go : (t : Bool) → has_left x.gloss ≡ t → t ≡ true
               go true e = refl
               go false e = absurd (omega (arith, few_left_lem.none e, some, ap (λ z. z.lefts) same))
-
-          room-x : LeftRoom (x.base + x.bases) was
-          room-x = let r = h.left_room (omega (arith, held.2, some, ap (λ z. z.lefts) same)) in record { behind = omega (arith, r.behind, held.0); room = omega (arith, r.room, held.0) }
 
           left_runs_lem : left_by_runs x.form x.gloss ≡ true → Runs LeftSide (lefts_of job) x
           left_runs_lem l =
@@ -567,7 +546,7 @@ module _ {job : Job} {k : ℕ} {at : Taken} {was : List ℕ} (h : Standing job k
               let c = h.stands.clean in
               let w = h.stands.within in
               record {
-                word = word-ready was refl job.class job.ruby_class job.run job.left_class job.left_width job.left_run;
+                word = word-ready job.class job.ruby_class job.run job.left_class job.left_width job.left_run;
                 few = few.few;
                 few_lefts = omega (arith, held.2, c.few_left);
                 few_runs = omega (arith, its_place.0, w.runs, w.base, c.few);
@@ -581,18 +560,17 @@ module _ {job : Job} {k : ℕ} {at : Taken} {was : List ℕ} (h : Standing job k
                 taken = taken-x;
                 ready = walk.left-ready job k at five taken-x six-x h.stands here-x;
                 whole = its_place.3;
-                jukugo = right_runs was refl;
+                jukugo = right_runs;
                 lefts = left_runs_lem;
-                room = room-x;
               }
 
           pub both-ready : BothReady (both_of job) p was
           both-ready = subst (λ z. BothReady (both_of job) z was) (sym same) both-ready-x
 
-          both-laid : (t : List ℕ) (w : Word) → answer_both x.form k (given job x) (gloss_of job x) ≡ answered.Set w → Written (both_row (both_of job) x w) x.base (x.base + x.bases) was t →
+          both-laid : (t : List Cell) (w : Word) → answer_both x.form k (given job x) (gloss_of job x) ≡ answered.Set w → Filled (both_row (both_of job) x w) x.base (x.base + x.bases) was t →
               Laid job x was t
           unfolding cuts part
-          both-laid t w e q = record { long = q.long; head = q.head; lefts = q.lefts; rows = go (apart x.form x.gloss) refl q.here; other = q.other }
+          both-laid t w e q = record { long = q.long; rows = go (apart x.form x.gloss) refl q.here; other = q.other }
             where
               set : w ≡ word_of job x
               set = (both.passed x.form k (given job x) (gloss_of job x) e).word
@@ -603,13 +581,13 @@ module _ {job : Job} {k : ℕ} {at : Taken} {was : List ℕ} (h : Standing job k
                   ∙ row_is job (part job x j 1) (word_of job (part job x j 1)) i (part-mono job x j).2 refl
 
               go : (a : Bool) → apart x.form x.gloss ≡ a →
-                  ((i : ℕ) → x.base ≤ i → i < x.base + x.bases → cell_at t i ≡ cond a (character_row job x i) (own_row job x w (flagged job x) i)) → All (HasRows job t) (words_in job x)
+                  ((i : ℕ) → x.base ≤ i → i < x.base + x.bases → row_in t i ≡ cond a (character_row job x i) (own_row job x w (flagged job x) i)) → All (HasRows job t) (words_in job x)
               go true a f = characters job x t a (λ j m i l r. f i (omega arith) (omega arith) ∙ own j i (omega arith))
               go false a f =
                   one_word job x t a (λ i l m. f i l m ∙ ap (λ z. own_row job x w z i) (sym (ends-flagged job x its_place.3)) ∙ row_is job x w i ruby set)
 
-          pub both-judged : {t : List ℕ} {s : Step} →
+          pub both-judged : {t : List Cell} {s : Result Piece Refusal} →
               WrittenBy (answer_both p.form k (given (both_of job) p) (gloss_of (both_of job) p)) (both_row (both_of job) p) p was t s → Stepped job k at was t s
           both-judged {t} {s} j =
-              steps refl refl (both-laid t)
+              steps refl (both-laid t)
               (subst (λ z. WrittenBy (answer_both z.form k (given job z) (gloss_of job z)) (both_row (both_of job) z) z was t s) same j)

@@ -1,11 +1,13 @@
 -- No row depends on the measure, and no refusal of an element does: a table laid without it is the job's.
-use Rattle.std.specs.Prelude.{◌≡◌, List, [], ◌∷◌, ℕ}
+use Rattle.std.specs.Prelude.{◌≡◌, List, [], ◌∷◌}
 use Rattle.std.proofs.Common.{subst}
 use Rattle.basics.specs.Lists.{each, All}
 use Rattle.door.specs.declared.Piece.{Piece}
 use Rattle.door.specs.Job.{Job, with_measure, base_count}
 use Rattle.door.specs.Loop.{part_faults}
 use Rattle.door.specs.Measure as door
+use Rattle.cells.specs.Rows.{Rows}
+use Rattle.cells.specs.declared.Cell.{Cell}
 use Rattle.job.specs.Line.{part, words_in, words}
 use Rattle.join.specs.Rows.{row_of, HasRows, Holds}
 
@@ -16,16 +18,17 @@ unmeasured job = with_measure 0 job
 pub same-faults : (job : Job) → part_faults (unmeasured job) ≡ part_faults job
 same-faults job = door.same-faults 0 job
 
-all-rows : (job : Job) (t : List ℕ) (xs : List Piece) → All (HasRows (unmeasured job) t) xs → All (HasRows job t) xs
+all-rows : (job : Job) (t : List Cell) (xs : List Piece) → All (HasRows (unmeasured job) t) xs → All (HasRows job t) xs
 unfolding row_of
 all-rows job t [] a = tt
 all-rows job t (x ∷ xs) a = (a.0, all-rows job t xs a.1)
 
-pub measured : (job : Job) (t : List ℕ) → Holds (unmeasured job) t → Holds job t
+pub measured : (job : Job) (t : Rows) → Holds (unmeasured job) t → Holds job t
 unfolding base_count words words_in part
 measured job t h =
     record {
       long = h.long;
-      head = h.head;
-      rows = subst (λ es. All (HasRows job t) (each (words_in job) es)) (door.same-elements 0 job) (all-rows job t (words (unmeasured job)) h.rows);
+      ratios = h.ratios;
+      em = h.em;
+      rows = subst (λ es. All (HasRows job t.rows) (each (words_in job) es)) (door.same-elements 0 job) (all-rows job t.rows (words (unmeasured job)) h.rows);
     }

@@ -1,5 +1,5 @@
 -- All elements in turn: those so far have their rows, and what is left decides.
-use Rattle.std.specs.Prelude.{◌≡◌, List, [], ◌∷◌, ◌++◌, length, get_or, take, drop}
+use Rattle.std.specs.Prelude.{◌≡◌, List, [], ◌∷◌, ◌++◌, length, get_or, take, drop, set}
 use Rattle.std.proofs.Math.Path.{refl, subst}
 use Rattle.std.proofs.Common.{sym, ap, ◌∙◌, inl, add-one, take_all, take-add}
 use Prim.Native.Nat.{ℕ, suc, ◌+◌, ◌-◌, ◌≤◌, ◌<◌}
@@ -12,8 +12,6 @@ use Rattle.word.specs.declared.Form.TheVariants.{P}
 use Rattle.word.specs.Word as word
 use Rattle.word.specs.Sides as sides
 use Rattle.cells.specs.declared.Cell.{Cell}
-use Rattle.cells.specs.Cells.{size, left_size, head_at, lefts_at, beside}
-use Rattle.cells.specs.Put.{headed, length-headed, head-written, Puts}
 use Rattle.door.specs.declared.Piece.{Piece}
 use Rattle.door.specs.declared.Taken.{Taken}
 use Rattle.door.specs.Job.{Job, base_count, ruby_count, left_count, element_count, nothing, past, element, elements_from, elements}
@@ -27,15 +25,14 @@ use Rattle.job.specs.Laws.{all_append, all-each, each_append}
 use Rattle.job.proofs.Apart.{by_apart}
 use Rattle.job.proofs.Pieces.{tiled-ends}
 use Rattle.job.specs.Walk.{At, at_first, at_next, length-elements}
-use Rattle.join.specs.Rows.{head_of, row_of, HasRows, Holds}
-use Rattle.word_rows.specs.Table.{Clear, filled-one}
+use Rattle.join.specs.Rows.{row_of, HasRows, table_of, Holds}
+use Rattle.word_rows.specs.Table.{filled-one}
 use Rattle.one_reading.specs.Lay.{PlainReady, plain_row}
-use Rattle.two_readings.specs.Written.{left_from, from-none, from_some, clear-upto, bare_row, BareReady, Bared, over_bared}
 use Rattle.layout.specs.Step.{Standing, Laid}
 use Rattle.layout.specs.Element.{all-counted}
 
--- What the walk asks for: characters that their checks leave, and a table with room, for left rows too where the job has left characters.
-pub record Ready (job : Job) (t : List ℕ) : Type 0 where
+-- What the walk asks for: characters that their checks leave, and room for the rows.
+pub record Ready (job : Job) (t : List Cell) : Type 0 where
   pub house : Housed job.ratios
   pub few : base_count job ≤ 1024
   pub few_ruby : ruby_count job ≤ 2048
@@ -45,10 +42,9 @@ pub record Ready (job : Job) (t : List ℕ) : Type 0 where
   pub narrow : (i : ℕ) → i < base_count job → get_or job.width i 0 ≤ 4096
   pub narrow_ruby : (i : ℕ) → i < ruby_count job → get_or job.ruby_width i 0 ≤ 4096
   pub narrow_left : (i : ℕ) → i < left_count job → get_or job.left_width i 0 ≤ 4096
-  pub room : size (base_count job) ≤ length t
-  pub room_left : 0 < left_count job → size (base_count job) + left_size (base_count job) ≤ length t
+  pub room : base_count job ≤ length t
 
-pub clean : {job : Job} {t : List ℕ} → Ready job t → Clean job
+pub clean : {job : Job} {t : List Cell} → Ready job t → Clean job
 clean y =
     record {
       few = y.few;
@@ -61,17 +57,15 @@ clean y =
       narrow_left = y.narrow_left;
     }
 
--- the head and the rows of the first k elements are written
-pub record Walking (job : Job) (was t : List ℕ) (k : ℕ) (at : Taken) : Type 0 where
+-- the rows of the first k elements are written
+pub record Walking (job : Job) (was t : List Cell) (k : ℕ) (at : Taken) : Type 0 where
   pub ready : Ready job was
   pub along : Along job k at
   pub place : At job k at
   pub long : length t ≡ length was
-  pub head : head_at t ≡ head_of job
-  pub begins : lefts_at t ≡ left_from (base_count job) (left_count job)
   pub rows : All (HasRows job t) (each (words_in job) (take k (elements job)))
 
-again : {job : Job} {was t : List ℕ} → length t ≡ length was → Ready job was → Ready job t
+again : {job : Job} {was t : List Cell} → length t ≡ length was → Ready job was → Ready job t
 again e y =
     record {
       house = y.house;
@@ -84,30 +78,18 @@ again e y =
       narrow_ruby = y.narrow_ruby;
       narrow_left = y.narrow_left;
       room = omega (arith, e, y.room);
-      room_left = λ h. omega (arith, e, y.room_left h);
     }
 
-pub walking_first : (job : Job) (was : List ℕ) → Ready job was → let t = headed was (head_of job) (left_from (base_count job) (left_count job)) in Walking job t t 0 nothing
-walking_first job was ready =
-    let from = left_from (base_count job) (left_count job) in
-    let w = head-written was (head_of job) from (omega (arith, ready.room)) in
-    record {
-      ready = again (length-headed was (head_of job) from) ready;
-      along = loop.along-first job;
-      place = at_first job;
-      long = refl;
-      head = w.0;
-      begins = w.1;
-      rows = tt;
-    }
+pub walking_first : (job : Job) (t : List Cell) → Ready job t → Walking job t t 0 nothing
+walking_first job t ready = record { ready = ready; along = loop.along-first job; place = at_first job; long = refl; rows = tt }
 
 -- a walk that goes on from where another stands
-pub walking_here : {job : Job} {was t : List ℕ} {k : ℕ} {at : Taken} → Walking job was t k at → Walking job t t k at
+pub walking_here : {job : Job} {was t : List Cell} {k : ℕ} {at : Taken} → Walking job was t k at → Walking job t t k at
 walking_here q =
-    record { ready = again q.long q.ready; along = q.along; place = q.place; long = refl; head = q.head; begins = q.begins; rows = q.rows }
+    record { ready = again q.long q.ready; along = q.along; place = q.place; long = refl; rows = q.rows }
 
-pub walking_from : {job : Job} {was t v : List ℕ} {k l : ℕ} {at on : Taken} → Walking job was t k at → Walking job t v l on → Walking job was v l on
-walking_from q p = record { ready = q.ready; along = p.along; place = p.place; long = p.long ∙ q.long; head = p.head; begins = p.begins; rows = p.rows }
+pub walking_from : {job : Job} {was t v : List Cell} {k l : ℕ} {at on : Taken} → Walking job was t k at → Walking job t v l on → Walking job was v l on
+walking_from q p = record { ready = q.ready; along = p.along; place = p.place; long = p.long ∙ q.long; rows = p.rows }
 
 -- the words of an element lie within it
 words-within : (job : Job) (x : Piece) → All (λ y. y.base + y.bases ≤ x.base + x.bases) (words_in job x)
@@ -117,18 +99,19 @@ words-within job x =
     (λ _. (omega arith, tt))
 
 -- rows that are written stay
-stays : (job : Job) (x : Piece) (was t : List ℕ) → Laid job x was t → ((n : ℕ) → n ≤ x.base → Clear was n) → (ys : List Piece) →
+stays : (job : Job) (x : Piece) (was t : List Cell) → Laid job x was t → (ys : List Piece) →
     All (HasRows job was) ys → All (λ y. y.base + y.bases ≤ x.base) ys → All (HasRows job t) ys
-stays job x was t l c [] a b = tt
-stays job x was t l c (y ∷ ys) a b = (λ i h g. l.other i (inl (omega (arith, b.0))) (c (i + 1) (omega (arith, b.0))) ∙ a.0 i h g, stays job x was t l c ys a.1 b.1)
+stays job x was t l [] a b = tt
+stays job x was t l (y ∷ ys) a b = (λ i h g. l.other i (inl (omega (arith, b.0))) ∙ a.0 i h g, stays job x was t l ys a.1 b.1)
 
-module _ (job : Job) (was t : List ℕ) (k : ℕ) (at : Taken) (q : Walking job was t k at) where
-  pub walking_end : element_count job ≤ k → Holds job t
+module _ (job : Job) (was t : List Cell) (k : ℕ) (at : Taken) (q : Walking job was t k at) where
+  pub walking_end : element_count job ≤ k → Holds job (table_of job t)
   unfolding words
   walking_end h =
       record {
         long = omega (arith, q.long, q.ready.room);
-        head = q.head;
+        ratios = refl;
+        em = refl;
         rows = subst (λ es. All (HasRows job t) (each (words_in job) es)) (take_all k (elements job) (omega (arith, length-elements job))) q.rows;
       }
 
@@ -144,10 +127,7 @@ module _ (job : Job) (was t : List ℕ) (k : ℕ) (at : Taken) (q : Walking job 
         record {
           stands = stands;
           house = q.ready.house;
-          head = q.head;
           room = omega (arith, q.long, q.ready.room);
-          begins = q.begins;
-          left_room = λ s. let e = from_some (base_count job) (left_count job) s in record { behind = omega (arith, q.begins, e); room = omega (arith, q.begins, e, q.long, q.ready.room_left s) };
           ruby = e;
         }
 
@@ -164,27 +144,22 @@ module _ (job : Job) (was t : List ℕ) (k : ℕ) (at : Taken) (q : Walking job 
     base-is = refl
 
     -- one element more
-    pub walking_next : (v : List ℕ) → Laid job x t v → Along job (k + 1) (past at x) → Walking job was v (k + 1) (past at x)
+    pub walking_next : (v : List Cell) → Laid job x t v → Along job (k + 1) (past at x) → Walking job was v (k + 1) (past at x)
     walking_next v l along =
         record {
           ready = q.ready;
           along = along;
           place = at_next job k at h q.place;
           long = l.long ∙ q.long;
-          head = l.head ∙ q.head;
-          begins = l.lefts ∙ q.begins;
           rows =
               subst (λ es. All (HasRows job v) (each (words_in job) es)) (sym more)
               (subst (All (HasRows job v)) (sym (each_append (words_in job) (take k (elements job)) (x ∷ [])))
               (all_append (HasRows job v) (each (words_in job) (take k (elements job))) (words_in job x ++ [])
-              (stays job x t v l clear (each (words_in job) (take k (elements job))) q.rows ends-before) (all_append (HasRows job v) (words_in job x) [] l.rows tt)));
+              (stays job x t v l (each (words_in job) (take k (elements job))) q.rows ends-before) (all_append (HasRows job v) (words_in job x) [] l.rows tt)));
         }
       where
         more : take (k + 1) (elements job) ≡ take k (elements job) ++ (x ∷ [])
         more = take-add k 1 (elements job) ∙ ap (λ es. take k (elements job) ++ take 1 es) cons
-
-        clear : (n : ℕ) → n ≤ x.base → Clear t n
-        clear n m = clear-upto (base_count job) (left_count job) n t q.begins (omega (arith, base-is, q.along.within.base))
 
         ends-before : All (λ y. y.base + y.bases ≤ x.base) (each (words_in job) (take k (elements job)))
         ends-before =
@@ -192,66 +167,49 @@ module _ (job : Job) (was t : List ℕ) (k : ℕ) (at : Taken) (q : Walking job 
             (λ y m. all_map (λ z. z.base + z.bases ≤ y.base + y.bases) (λ z. z.base + z.bases ≤ x.base) (words_in job y) (λ z n. omega (arith, base-is)) (words-within job y))
             (tiled-ends (λ p. p.base) (λ p. p.bases) 0 at.base (take k (elements job)) q.place.base)
 
-    -- a P without a left reading: its left row says where the next left characters begin
+    -- a P without a left reading: its row says where the next left characters begin
     module _ (plain : get_or job.kind k 0 ≡ 80) (bare : get_or job.left_kind k 0 ≡ 78) (left : at.base < base_count job) where
-      pub bare-ready : BareReady at.left at.base (at.base + 1) (left_count job) t
-      bare-ready =
+      pub plain_ready : PlainReady at.base at.ruby job.class job.width job.before job.after job.flag t
+      plain_ready =
+          let w = base-within job in
           let c = q.ready in
-          let w = q.along.within in
           record {
-            order = omega arith;
             few = omega (arith, c.few);
-            few_left = omega (arith, w.left, c.few_left);
-            room =
-                λ s. let e = from_some (base_count job) (left_count job) s in
-                record { behind = omega (arith, q.begins, e); room = omega (arith, q.begins, e, q.long, c.room_left s) };
-            none = λ z. (q.begins ∙ from-none (base_count job) (left_count job) z, omega (arith, w.left));
+            few_ruby = omega (arith, q.along.within.ruby, c.few_ruby);
+            class = omega (arith, w.0);
+            width = omega (arith, w.1);
+            before = omega (arith, w.2);
+            after = omega (arith, w.3);
+            flag = omega (arith, w.4);
+            narrow = c.narrow at.base left;
+            held = omega (arith, q.long, c.room);
           }
 
-      module _ (mid : List ℕ) (b : Bared at.left at.base (at.base + 1) t mid) where
-        pub plain_ready : PlainReady at.base at.ruby job.class job.width job.before job.after job.flag mid
-        plain_ready =
-            let w = base-within job in
-            let c = q.ready in
-            record {
-              few = omega (arith, c.few);
-              few_ruby = omega (arith, q.along.within.ruby, c.few_ruby);
-              class = omega (arith, w.0);
-              width = omega (arith, w.1);
-              before = omega (arith, w.2);
-              after = omega (arith, w.3);
-              flag = omega (arith, w.4);
-              narrow = c.narrow at.base left;
-              held = omega (arith, b.long, q.long, c.room);
-            }
+      abbrev row : Cell
+      row = plain_row job.profile at.base at.ruby at.left job.em job.class job.width job.before job.after job.flag
 
-        abbrev row : Cell
-        row = plain_row job.profile at.base at.ruby job.em job.class job.width job.before job.after job.flag
+      abbrev y : Piece
+      y = alone P 1 0 at
 
-        abbrev y : Piece
-        y = alone P 1 0 at
+      plain_row_lem : (i : ℕ) → i ≡ at.base → row ≡ row_of job y i
+      unfolding row_of sides.word_of word.word_of cuts
+      plain_row_lem i e = rw (e, one at.base, less at.base, add-zero (get_or job.width at.base 0), add-zero at.ruby, add-zero at.left)
+        where
+          one : (b : ℕ) → b + 1 - b ≡ 1
+          one b = omega arith
 
-        plain_row_lem : (i : ℕ) → i ≡ at.base → beside row (bare_row at.left) ≡ row_of job y i
-        unfolding row_of sides.word_of word.word_of cuts
-        plain_row_lem i e = rw (e, one at.base, less at.base, add-zero (get_or job.width at.base 0), add-zero at.ruby, add-zero at.left)
-          where
-            one : (b : ℕ) → b + 1 - b ≡ 1
-            one b = omega arith
+          less : (b : ℕ) → b + 1 - 1 ≡ b
+          less b = omega arith
 
-            less : (b : ℕ) → b + 1 - 1 ≡ b
-            less b = omega arith
+      laid : (v : List Cell) → v ≡ set t at.base row → Laid job y t v
+      unfolding words_in
+      laid v p =
+          let w = filled-one row at.base (at.base + 1) t v refl plain_ready.held p in
+          record { long = w.long; rows = (λ i a b. w.here i a b ∙ plain_row_lem i (omega arith), tt); other = w.other }
 
-        laid : (v : List ℕ) → Puts mid at.base row v → Laid job y t v
-        unfolding words_in
-        laid v p =
-            let w =
-            over_bared (λ i. row) at.left at.base (at.base + 1) t mid v (clear-upto (base_count job) (left_count job) (at.base + 1) t q.begins (omega arith)) b
-            (filled-one row at.base (at.base + 1) mid v refl p) in
-            record { long = w.long; head = w.head; lefts = w.lefts; rows = (λ i a b. w.here i a b ∙ plain_row_lem i (omega arith), tt); other = w.other }
-
-        pub walking_plain : (v : List ℕ) → Puts mid at.base row v → Walking job was v (k + 1) (past_plain at)
-        walking_plain v p =
-            let e = loop.piece job k at plain bare in
-            let on = ap (past at) e ∙ loop.past_plain_lem job k at plain bare in
-            subst (Walking job was v (k + 1)) on
-            (walking_next v (subst (λ z. Laid job z t v) (sym e) (laid v p)) (subst (Along job (k + 1)) (sym on) (loop.along-plain job k at plain bare stands left q.along)))
+      pub walking_plain : (v : List Cell) → v ≡ set t at.base row → Walking job was v (k + 1) (past_plain at)
+      walking_plain v p =
+          let e = loop.piece job k at plain bare in
+          let on = ap (past at) e ∙ loop.past_plain_lem job k at plain bare in
+          subst (Walking job was v (k + 1)) on
+          (walking_next v (subst (λ z. Laid job z t v) (sym e) (laid v p)) (subst (Along job (k + 1)) (sym on) (loop.along-plain job k at plain bare stands left q.along)))

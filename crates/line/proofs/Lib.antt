@@ -4,3 +4,4 @@ pub mod Theorems
 pub mod Bound
 pub mod Exchange
 pub mod Onward
+pub mod Steps

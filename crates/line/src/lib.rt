@@ -8,14 +8,15 @@ ghost use Rattle.std.specs.Prelude.{◌≡◌, not, ◌&&◌, ◌+◌, ◌-◌, 
 ghost use Rattle.line.specs.Setting.{from_in, reached, total, furthest, asks, origin, placed};
 ghost use Rattle.line.specs.Plain.{plain};
 
-// The two sides of a word. The rules are said over a side, once for both.
-#[derive(Clone, Copy)]
+/// The two sides of a word. The rules are said over a side, once for both.
+#[derive(Clone, Copy, Debug, PartialEq, Eq)]
 pub enum Side {
     Right,
     Left,
 }
 
-// A reading in its element's coordinates: [from, upto), where it is there.
+/// A reading in its element's coordinates: [from, upto), where it is there.
+// A flag with its numbers beside it and no Option: measured, an Option takes 63 instructions an element in the setting where this takes 56.
 #[derive(Clone, Copy)]
 pub struct Reading {
     pub there: bool,
@@ -23,16 +24,17 @@ pub struct Reading {
     pub upto: u32,
 }
 
-// No reading.
+/// No reading.
 pub const NO_READING: Reading = Reading {
     there: false,
     from: 0,
     upto: 0,
 };
 
-// One element as a line sees it, in its own coordinates, which count from the start of its longest string: its block is [front,
-// front + len), with a reading on either side. before and after are the depths to which a neighbour's ruby may lie on it from its
-// start and from its end.
+/// One element as a line sees it, in its own coordinates, which count from the start of its longest string: its block is [front,
+/// front + len), with a reading on either side. before and after are the depths to which a neighbour's ruby may lie on it from its
+/// start and from its end.
+// That its sums fit is asked by those who add, and no invariant: others take any numbers (`line_lists` judges them).
 #[derive(Clone, Copy)]
 pub struct Element {
     pub front: u32,
@@ -43,8 +45,8 @@ pub struct Element {
     pub after: u32,
 }
 
-// What the line so far asks of the next element: the end of its last block, the furthest end of the rubies of each side, and the
-// depth to which ruby may lie on its last element.
+/// What the line so far asks of the next element: the end of its last block, the furthest end of the rubies of each side, and the
+/// depth to which ruby may lie on its last element.
 #[derive(Clone, Copy)]
 pub struct State {
     pub end: u32,
@@ -53,7 +55,7 @@ pub struct State {
     pub room: u32,
 }
 
-// At the line's start nothing stands yet.
+/// At the line's start nothing stands yet.
 pub const START: State = State {
     end: 0,
     right: 0,
@@ -61,18 +63,11 @@ pub const START: State = State {
     room: 0,
 };
 
-// An element's origin, and the state after it.
+/// An element's origin, and the state after it.
 #[derive(Clone, Copy)]
 pub struct Placed {
     pub at: u32,
     pub st: State,
-}
-
-// a - b, or 0.
-fn less(a: u32, b: u32) -> u32
-    ensures { result ≡ a - b }
-{
-    if b <= a { a - b } else { 0 }
 }
 
 // Where e's reading r starts in its own coordinates; where it isn't there the block's end, from which nothing more is asked.
@@ -80,8 +75,7 @@ fn ruby_from(e: Element, r: Reading) -> u32
     requires { e.front + e.len ≤ 4294967295 }
     ensures { result ≡ from_in e r }
 {
-    let there = r.there;
-    if there { r.from } else { e.front + e.len }
+    if r.there { r.from } else { e.front + e.len }
 }
 
 // How far the rubies of a side reach, up to `reach` so far, once an element with the reading r there is at x: where it has none, as they did.
@@ -89,35 +83,36 @@ fn reach_with(reach: u32, x: u32, r: Reading) -> u32
     requires { reached reach x r ≤ 4294967295 }
     ensures { result ≡ reached reach x r }
 {
-    let there = r.there;
-    if there {
-        return basics::larger(reach, x + r.upto);
+    if r.there {
+        reach.max(x + r.upto)
+    } else {
+        reach
     }
-    reach
 }
 
 // The least origin of e after st for one side, whose rubies reach up to `reach` so far and on which e has the reading r: the largest
 // of four lower bounds, two on the block and two on the ruby.
+#[tactic(auto, unfolding(crate::specs::Setting::asks))]
 fn asked_by(st: State, e: Element, reach: u32, r: Reading) -> u32
     requires { e.front + e.len ≤ 4294967295 }
     ensures { result ≡ asks st e reach r }
 {
     let from = ruby_from(e, r);
-    let block = less(basics::larger(st.end, less(reach, e.before)), e.front);
-    let ruby = less(basics::larger(reach, less(st.end, st.room)), from);
-    basics::larger(block, ruby)
+    // from where on its block may stand, and its ruby
+    let block = st.end.max(reach.saturating_sub(e.before));
+    let ruby = reach.max(st.end.saturating_sub(st.room));
+    block.saturating_sub(e.front).max(ruby.saturating_sub(from))
 }
 
 // Whether the left side asks no more of e than the right one: e has no reading there, and none reaches past the last block.
 fn left_idle(st: State, e: Element) -> bool
     ensures { result ≡ (not e.left.there && leb st.left st.end) }
 {
-    let l = e.left;
-    let there = l.there;
-    if there { false } else { st.left <= st.end }
+    !e.left.there && st.left <= st.end
 }
 
 // The least origin of e after st that both sides allow. Most elements have no left reading, and then the right side decides alone.
+#[tactic(auto, using(crate::proofs::Steps::side_steps), unfolding(crate::specs::Setting::origin))]
 fn least_origin(st: State, e: Element) -> u32
     requires { e.front + e.len ≤ 4294967295 }
     ensures { result ≡ origin st e }
@@ -126,10 +121,11 @@ fn least_origin(st: State, e: Element) -> u32
     if left_idle(st, e) {
         return right;
     }
-    basics::larger(right, asked_by(st, e, st.left, e.left))
+    right.max(asked_by(st, e, st.left, e.left))
 }
 
-// e set after st. What stands and e's own length have to fit a number together; of a job they are far from it (proofs/Bounded of job).
+/// e set after st. What stands and e's own length have to fit a number together; of a job they are far from it (proofs/Bounded of job).
+#[tactic(auto, using(crate::proofs::Steps::fit_steps))]
 pub fn place(st: State, e: Element) -> Placed
     requires { furthest st + total e ≤ 4294967295 }
     ensures { result ≡ placed st e }
@@ -146,22 +142,23 @@ pub fn place(st: State, e: Element) -> Placed
     }
 }
 
-// A P after st: it has no reading, and ruby lies on it no deeper than it is long, so of the bounds those on its block are left; that by ruby is asked only where
-// some reaches past the last block.
+/// A P after st: it has no reading, and ruby lies on it no deeper than it is long, so of the bounds those on its block are left; that by ruby is asked only where
+/// some reaches past the last block.
+#[tactic(auto, using(crate::proofs::Steps::plain_steps))]
 pub fn place_plain(st: State, len: u32, before: u32, after: u32) -> Placed
     requires { (before ≤ len) × (furthest st + len ≤ 4294967295) }
     ensures { result ≡ placed st (plain len before after) }
 {
-    let reach = basics::larger(st.right, st.left);
+    let reach = st.right.max(st.left);
+    // What this arm does is right for every P; the test is for speed, 11 instructions a character of plain text.
     if st.end < reach {
-        let at = basics::larger(st.end, less(reach, before));
+        let at = st.end.max(reach.saturating_sub(before));
         return Placed {
             at,
             st: State {
                 end: at + len,
-                right: st.right,
-                left: st.left,
                 room: after,
+                ..st
             },
         };
     }
@@ -169,9 +166,8 @@ pub fn place_plain(st: State, len: u32, before: u32, after: u32) -> Placed
         at: st.end,
         st: State {
             end: st.end + len,
-            right: st.right,
-            left: st.left,
             room: after,
+            ..st
         },
     }
 }

@@ -1,17 +1,9 @@
 -- From the last state to the promise of `set_line`. The state's furthest end is the extent of the least setting, so each test of it decides
 -- whether some setting keeps the rules within that bound.
-use mathlib.Core.Path.{◌≡◌, refl, sym, ap, ◌∙◌}
-use mathlib.Core.Bool.{Bool, true, false, cond}
-use mathlib.Core.List.{List, ◌++◌}
-use mathlib.Core.Logic.{inl, inr}
-use Prim.Native.Nat.{ℕ, ◌*◌, ◌≤◌, ◌<◌}
-use native.Mathlib.Omega.{arith}
-use borrow.Author.Tests.{leb-true, leb-false}
-use lib.ListN.{length, drop}
+use Rattle.std.proofs.Common.{sym, ap, ◌∙◌, inl, inr, arith, leb-true, leb-false}
 use lib.Dec.{leb}
 use Rattle.refusal.specs.declared.Refusal.TheVariants.{Short}
-use Rattle.line_lists.specs.declared.Answer.{Answer}
-use Rattle.line_lists.specs.declared.Answer.TheVariants.{Set, Declined}
+use Rattle.std.specs.Prelude.{Result, Ok, Err, ◌≡◌, refl, Bool, true, false, cond, List, ◌++◌, ℕ, ◌*◌, ◌≤◌, ◌<◌, length, drop}
 use Rattle.line_lists.specs.declared.Why.{Why}
 use Rattle.line_lists.specs.declared.Why.TheVariants.{Refused, Unsound, Long}
 use Rattle.line.specs.Rules.{extent, Sounds}
@@ -29,46 +21,46 @@ module _ (m : ℕ) (t : List ℕ) where
   abbrev ext : ℕ
   ext = extent (line t) (settle (line t))
 
-  data Case : Answer → Type 0 where
-    long : 2 * m < ext → Case (Declined Long)
-    set : ext ≤ 2 * m → Case (Set ext)
+  data Case : Result ℕ Why → Type 0 where
+    long : 2 * m < ext → Case (Err Long)
+    set : ext ≤ 2 * m → Case (Ok ext)
 
   by-extent : Case (tried m (run start (line t)))
   by-extent = rw (← extent-state (line t)) (go _ refl)
     where
-      go : (b : Bool) → leb ext (2 * m) ≡ b → Case (cond b (Set ext) (Declined Long))
+      go : (b : Bool) → leb ext (2 * m) ≡ b → Case (cond b (Ok ext) (Err Long))
       go true q = set (leb-true _ _ q)
       go false q = long (leb-false _ _ q)
 
   record IsSet (x : ℕ) : Type 0 where
     pub fits : ext ≤ 2 * m
-    pub answer : Set x ≡ Set ext
+    pub answer : ◌≡◌ {A = Result ℕ Why} (Ok x) (Ok ext)
 
-  is_set : (x : ℕ) → Set x ≡ tried m (run start (line t)) → IsSet x
+  is_set : (x : ℕ) → Ok x ≡ tried m (run start (line t)) → IsSet x
   is_set x q = go _ by-extent (sym q)
     where
-      go : (r : Answer) → Case r → r ≡ Set x → IsSet x
-      go r (long k) d = absurd (let z : ◌≡◌ {A = ℕ} 0 1 = cc in omega arith)
+      go : (r : Result ℕ Why) → Case r → r ≡ Ok x → IsSet x
+      go r (long k) d = absurd cc
       go r (set k) d = record { fits = k; answer = sym d }
 
   module _ (was : List ℕ) where
-    pub promise-short : length was < rows t → Promise m t was was (Declined (Refused Short))
+    pub promise-short : length was < rows t → Promise m t was was (Err (Refused Short))
     promise-short h = inl (λ r. omega arith, record { answer = refl; untouched = refl })
 
     module _ (room : rows t ≤ length was) where
-      pub promise_unsound : (AllWithin t → ⊥) → Promise m t was was (Declined Unsound)
+      pub promise_unsound : (AllWithin t → ⊥) → Promise m t was was (Err Unsound)
       promise_unsound n = inr (room, inl (n, record { answer = refl; untouched = refl }))
 
       module _ (w : AllWithin t) where
-        pub promise-declined : (r : Answer) (why : Why) → r ≡ tried m (run start (line t)) → r ≡ Declined why → Promise m t was was r
+        pub promise-declined : (r : Result ℕ Why) (why : Why) → r ≡ tried m (run start (line t)) → r ≡ Err why → Promise m t was was r
         promise-declined r why q d = rw q (go _ by-extent (sym q ∙ d))
           where
-            go : (r : Answer) → Case r → r ≡ Declined why → Promise m t was was r
+            go : (r : Result ℕ Why) → Case r → r ≡ Err why → Promise m t was was r
             go r (long k) d = inr (room, inr (w, inl (λ p. omega (arith, (exact m (line t) (sounds t w)).1 p), record { answer = refl; untouched = refl })))
-            go r (set k) d = absurd (let z : ◌≡◌ {A = ℕ} 0 1 = cc in omega arith)
+            go r (set k) d = absurd cc
 
-        pub promise-set : (x : ℕ) → Set x ≡ tried m (run start (line t)) → (now : List ℕ) → now ≡ settle (line t) ++ drop (rows t) was →
-            Promise m t was now (Set x)
+        pub promise-set : (x : ℕ) → Ok x ≡ tried m (run start (line t)) → (now : List ℕ) → now ≡ settle (line t) ++ drop (rows t) was →
+            Promise m t was now (Ok x)
         promise-set x q now e =
             let i = is_set x q in
             inr (
@@ -86,3 +78,5 @@ module _ (m : ℕ) (t : List ℕ) where
                 ),
               ),
             )
+
+pub ruleset answer_steps = (promise-short, promise_unsound, promise-declined, promise-set)

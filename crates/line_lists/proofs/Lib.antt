@@ -1,4 +1,3 @@
 pub mod Rest
 pub mod Passes
 pub mod Answers
-pub mod Tests

@@ -1,25 +1,19 @@
 -- The invariants of the three passes, each at its start, over a turn and at its ways out. What is left to do gives what the whole gives.
-use mathlib.Core.Path.{◌≡◌, refl, sym, ap, ◌∙◌}
-use mathlib.Core.Bool.{true, false}
-use mathlib.Core.List.{List, ◌∷◌, ◌++◌}
-use Prim.Native.Nat.{ℕ, ◌+◌, ◌*◌, ◌≤◌, ◌<◌}
-use native.Mathlib.Omega.{arith}
-use native.Mathlib.Nat.{zero-add}
+use Rattle.std.proofs.Common.{sym, ap, ◌∙◌, arith, zero-add, le-leb, length-set}
 use native.Mathlib.Numerals.{add-one}
 use borrow.Author.Count.{below_more}
-use borrow.Author.Tests.{le-leb, lt-leb}
-use lib.ListN.{length, set, drop, length-set}
+use borrow.Author.Tests.{lt-leb}
 use lib.Seq.{sets, sets-eq}
 use Rattle.line.specs.declared.Element.{Element}
 use Rattle.line.specs.declared.State.{State}
 use Rattle.line.specs.declared.Placed.{Placed}
-use Rattle.line_lists.specs.declared.Answer.TheVariants.{Set, Declined}
+use Rattle.std.specs.Prelude.{Ok, Err, ◌≡◌, refl, List, ◌∷◌, ◌++◌, ℕ, ◌+◌, ◌*◌, ◌≤◌, ◌<◌, length, set, drop}
 use Rattle.line_lists.specs.declared.Why.TheVariants as why
 use Rattle.line.specs.Setting.{start, put, origin, settle_from, settle, run, furthest, placed, total}
 use Rattle.line.specs.Least.{settle-follows}
 use Rattle.line.proofs.Bound.{put_bound}
 use Rattle.line_lists.specs.Promise.{rows, element_at, line, most_elements, longest_element, WithinAt, AllWithin}
-use Rattle.line_lists.specs.Passes.{Tells, told, denied, tried, Ready}
+use Rattle.line_lists.specs.Passes.{tried, Ready}
 use Rattle.line_lists.proofs.Rest.{rest, rest-start, rest-step, rest_end, line-length}
 
 module _ (t : List ℕ) where
@@ -34,14 +28,8 @@ module _ (t : List ℕ) where
   pub checked_next : (i : ℕ) → Checked i → WithinAt t i → Checked (i + 1)
   checked_next i c s = record { few = c.few; sofar = below_more _ i c.sofar s }
 
-  pub checked_end : (i : ℕ) → Checked i → rows t ≤ i → Tells true (AllWithin t)
-  checked_end i c h = told (record { few = c.few; each = λ k g. c.sofar k (omega arith) })
-
-  pub checked_fails : (i : ℕ) → i < rows t → (WithinAt t i → ⊥) → Tells false (AllWithin t)
-  checked_fails i h f = denied (λ all. f (all.each i h))
-
-  pub too_many : most_elements < rows t → Tells false (AllWithin t)
-  too_many h = denied (λ all. omega (arith, all.few))
+  pub checked_end : (i : ℕ) → Checked i → rows t ≤ i → AllWithin t
+  checked_end i c h = record { few = c.few; each = λ k g. c.sofar k (omega arith) }
 
   -- the second: the state so far, from which the rest of the line ends where the whole does
   pub record Walked (st : State) (i : ℕ) : Type 0 where
@@ -119,8 +107,14 @@ module _ (t : List ℕ) where
 
 -- the answer by the last state
 module _ (m : ℕ) (st last : State) (e : st ≡ last) where
-  pub tried-long : 2 * m < furthest st → Declined why.Long ≡ tried m last
+  pub tried-long : 2 * m < furthest st → Err why.Long ≡ tried m last
   tried-long k = rw (← e, lt-leb (furthest st) (2 * m) k)
 
-  pub tried-set : (w : ℕ) → w ≡ furthest st → w ≤ 2 * m → Set w ≡ tried m last
+  pub tried-set : (w : ℕ) → w ≡ furthest st → w ≤ 2 * m → Ok w ≡ tried m last
   tried-set w q k = rw (← e, le-leb (furthest st) (2 * m) (omega arith), q)
+
+pub ruleset checked_steps = (checked_start, checked_next, checked_end)
+
+pub ruleset walked_steps = (walked_start, walked-fits, walked_next, walked_end, tried-long, tried-set)
+
+pub ruleset written_steps = (walked-fits, writes_start, writes_next, writes_end)

@@ -1,10 +1,8 @@
 -- The promise of `set_line` determines its answer and the lent list. A condition can't both hold and fail, so two that meet the promise meet
 -- the same case of it; a declined line leaves one list, and there is one least setting.
-use Rattle.std.specs.Prelude.{◌≡◌, List, ◌++◌, ◌↔◌, ℕ, ◌≤◌, length, drop}
-use Rattle.std.proofs.Common.{sym, ap, ◌∙◌, inl, inr, arith}
+use Rattle.std.specs.Prelude.{◌≡◌, List, ◌++◌, ◌↔◌, ℕ, ◌≤◌, length, drop, Result, Ok, Err}
+use Rattle.std.proofs.Common.{sym, ap, ◌∙◌, inl, inr}
 use Rattle.line.specs.declared.Element.{Element}
-use Rattle.line_lists.specs.declared.Answer.{Answer}
-use Rattle.line_lists.specs.declared.Answer.TheVariants.{Set, Declined}
 use Rattle.line_lists.specs.declared.Why.{Why}
 use Rattle.line_lists.specs.declared.Why.TheVariants.{Long}
 use Rattle.line.specs.Rules.{Clear, extent}
@@ -12,7 +10,7 @@ use Rattle.line.proofs.Theorems.{unique}
 use Rattle.line_lists.specs.Promise.{rows, line, AllWithin, Unless, Declines, Sets, Promise}
 
 -- one answer and one list
-pub record Same (r r' : Answer) (now now' : List ℕ) : Type 0 where
+pub record Same (r r' : Result ℕ Why) (now now' : List ℕ) : Type 0 where
   pub answer : r ≡ r'
   pub list : now ≡ now'
 
@@ -22,7 +20,7 @@ both f g (inl p) (inr q) = absurd (p.0 q.0)
 both f g (inr p) (inl q) = absurd (q.0 p.0)
 both f g (inr p) (inr q) = g p.1 q.1
 
-module _ (was : List ℕ) (r r' : Answer) (now now' : List ℕ) where
+module _ (was : List ℕ) (r r' : Result ℕ Why) (now now' : List ℕ) where
   declined : (why : Why) → Declines why was now r → Declines why was now' r' → Same r r' now now'
   declined why p q = record { answer = p.answer ∙ sym q.answer; list = p.untouched ∙ sym q.untouched }
 
@@ -30,7 +28,7 @@ module _ (was : List ℕ) (r r' : Answer) (now now' : List ℕ) where
   set m es p q =
       let same = unique m es p.origins q.origins p.setting q.setting in
       record {
-        answer = p.answer ∙ ap (λ xs. Set (extent es xs)) same ∙ sym q.answer;
+        answer = p.answer ∙ ap {B = Result ℕ Why} (λ xs. Ok (extent es xs)) same ∙ sym q.answer;
         list = p.written ∙ ap (λ xs. xs ++ drop (length es) was) same ∙ sym q.written;
       }
 
@@ -38,9 +36,9 @@ module _ (was : List ℕ) (r r' : Answer) (now now' : List ℕ) where
   determined m t = both (declined _) (both (declined _) (both (declined _) (set _ _)))
 
 -- A line of elements that are set within themselves is declined as too long exactly when no setting keeps the four rules.
-pub too_long : (m : ℕ) (t was now : List ℕ) (r : Answer) → rows t ≤ length was → AllWithin t → Promise m t was now r →
-    (r ≡ Declined Long) ↔ (((xs : List ℕ) × Clear m (line t) xs) → ⊥)
+pub too_long : (m : ℕ) (t was now : List ℕ) (r : Result ℕ Why) → rows t ≤ length was → AllWithin t → Promise m t was now r →
+    (r ≡ Err Long) ↔ (((xs : List ℕ) × Clear m (line t) xs) → ⊥)
 too_long m t was now r room w (inl p) = absurd (p.0 room)
 too_long m t was now r room w (inr (_, inl p)) = absurd (p.0 w)
 too_long m t was now r room w (inr (_, inr (_, inl p))) = (λ _. p.0, λ _. p.1.answer)
-too_long m t was now r room w (inr (_, inr (_, inr (c, p)))) = (λ d. absurd (let a = p.answer in let z : ◌≡◌ {A = ℕ} 0 1 = cc in omega arith), λ n. absurd (n c))
+too_long m t was now r room w (inr (_, inr (_, inr (c, p)))) = (λ d. (let a = p.answer in absurd cc), λ n. absurd (n c))

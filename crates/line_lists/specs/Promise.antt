@@ -1,11 +1,9 @@
 -- What `set_line` promises, in the rules' own terms: nothing here says how a setting is found.
-use Rattle.std.specs.Prelude.{◌≡◌, List, ◌++◌, map, ◌⊎◌, ℕ, ◌+◌, ◌*◌, ◌/◌, ◌≤◌, ◌<◌, length, get_or, drop, eqb}
+use Rattle.std.specs.Prelude.{◌≡◌, List, ◌++◌, map, ◌⊎◌, ℕ, ◌+◌, ◌*◌, ◌/◌, ◌≤◌, ◌<◌, length, get_or, drop, eqb, Result, Ok, Err}
 use Rattle.basics.specs.Lists.{count}
 use Rattle.refusal.specs.declared.Refusal.TheVariants.{Short}
 use Rattle.line.specs.declared.Element.{Element}
 use Rattle.line.specs.declared.Reading.{Reading}
-use Rattle.line_lists.specs.declared.Answer.{Answer}
-use Rattle.line_lists.specs.declared.Answer.TheVariants.{Set, Declined}
 use Rattle.line_lists.specs.declared.Why.{Why}
 use Rattle.line_lists.specs.declared.Why.TheVariants.{Refused, Unsound, Long}
 use Rattle.line.specs.Rules.{Clear, Least, extent, Sound}
@@ -68,19 +66,19 @@ abbrev pub Unless : (T : Type 0) → Type 0 → Type 0 → Type 0
 Unless T refused follows = ((T → ⊥) × refused) ⊎ (T × follows)
 
 -- the lent list is left as it was
-pub record Declines (why : Why) (was now : List ℕ) (r : Answer) : Type 0 where
-  pub answer : r ≡ Declined why
+pub record Declines (why : Why) (was now : List ℕ) (r : Result ℕ Why) : Type 0 where
+  pub answer : r ≡ Err why
   pub untouched : now ≡ was
 
 -- the origins of the least setting stand at the list's front, and the rest of it is left as it was
-pub record Sets (measure : ℕ) (es : List Element) (was now : List ℕ) (r : Answer) : Type 0 where
+pub record Sets (measure : ℕ) (es : List Element) (was now : List ℕ) (r : Result ℕ Why) : Type 0 where
   pub origins : List ℕ
   pub setting : Least measure es origins
-  pub answer : r ≡ Set (extent es origins)
+  pub answer : r ≡ Ok (extent es origins)
   pub written : now ≡ origins ++ drop (length es) was
 
 -- The answers in turn: a result list too short (12), elements that no line of a job has, too long (no setting keeps all four rules).
-abbrev pub Promise : (measure : ℕ) (t was now : List ℕ) → Answer → Type 0
+abbrev pub Promise : (measure : ℕ) (t was now : List ℕ) → Result ℕ Why → Type 0
 Promise measure t was now r =
     Unless (rows t ≤ length was) (Declines (Refused Short) was now r)
     (Unless (AllWithin t) (Declines Unsound was now r)

@@ -3,11 +3,11 @@
 // elements a job has, on basics for lists and on refusal for number 12.
 #![tactic(auto)]
 
-ghost use Rattle.std.specs.Prelude.{◌≡◌, drop, ◌++◌};
+ghost use Rattle.std.specs.Prelude.{◌≡◌, ◌↔◌, drop, ◌++◌, IsTrue};
 ghost use Rattle.basics.specs.Seen.{was};
 ghost use Rattle.line.specs.Setting.{start, run, settle};
 ghost use Rattle.line_lists.specs.Promise.{rows, element_at, line, WithinAt, AllWithin, Promise};
-ghost use Rattle.line_lists.specs.Passes.{Tells, Has, Ready, tried};
+ghost use Rattle.line_lists.specs.Passes.{Has, Ready, tried};
 
 use line::{Element, Reading, START, place};
 use refusal::Refusal;
@@ -17,24 +17,19 @@ mod within;
 use within::set_within;
 
 // How many numbers an element has, in turn: front and length of its block, its right reading (there, from, upto), its left one, and
-// the depths before and after. A rest of fewer, at the table's end, is not read.
+// the depths before and after. A rest of fewer, at the table's end, is not read. Numbers and not a typed row, since `set_line` is for who
+// holds a table of numbers, and says `Unsound` where an `Element` could not stand: a flag that is 2.
 const ROW: usize = 10;
 
-// A line's extent, or why it is not set.
-#[derive(Clone, Copy)]
-pub enum Answer {
-    Set(u32),
-    Declined(Why),
-}
-
+/// Why a line is not set.
 #[derive(Clone, Copy)]
 pub enum Why {
-    // 12 of the refusal list.
+    /// 12 of the refusal list.
     Refused(Refusal),
-    // An element is not set within itself, a flag of it is not 0 or 1, it is longer than any word of a job, or there are more
-    // elements than a job may have.
+    /// An element is not set within itself, a flag of it is not 0 or 1, it is longer than any word of a job, or there are more
+    /// elements than a job may have.
     Unsound,
-    // Too long: nothing that keeps the rules fits the measure.
+    /// Too long: nothing that keeps the rules fits the measure.
     Long,
 }
 
@@ -65,7 +60,7 @@ fn element_at(elements: &[u32], i: usize) -> Element
 // Whether element i is set within itself. The flags are judged as they stand in its row: an Element can't tell a 2 from a 0.
 fn within_at(elements: &[u32], i: usize) -> bool
     requires { Has i elements.now }
-    ensures { Tells result (WithinAt elements.now i) }
+    ensures { IsTrue result ↔ WithinAt elements.now i }
 {
     let e = element_at(elements, i);
     let at = ROW * i;
@@ -73,75 +68,68 @@ fn within_at(elements: &[u32], i: usize) -> bool
 }
 
 // Whether there are no more elements than a job may have, and all are set within themselves.
+#[tactic(auto, using(crate::proofs::Passes::checked_steps))]
 fn all_within(elements: &[u32]) -> bool
-    ensures { Tells result (AllWithin elements.now) }
+    ensures { IsTrue result ↔ AllWithin elements.now }
 {
-    if limits::MOST_ELEMENTS < elements.len() / ROW {
+    let n = elements.len() / ROW;
+    if limits::MOST_ELEMENTS < n {
         return false;
     }
-    let mut i: usize = 0;
-    while i < elements.len() / ROW {
+    for i in 0..n {
         if !within_at(elements, i) {
             return false;
         }
-        i += 1;
     }
     true
 }
 
 // The line set without a list to write to: its extent, or that it would pass the measure. Of the positions only the last state is
 // kept.
-fn try_line(measure: u32, elements: &[u32]) -> Answer
+#[tactic(auto, using(crate::proofs::Passes::walked_steps))]
+fn try_line(measure: u32, elements: &[u32]) -> Result<u32, Why>
     requires { AllWithin elements.now }
     ensures { result ≡ tried measure (run start (line elements.now)) }
 {
     let mut st = START;
-    let mut i: usize = 0;
-    while i < elements.len() / ROW {
-        let e = element_at(elements, i);
-        let p = place(st, e);
-        st = p.st;
-        i += 1;
+    for i in 0..elements.len() / ROW {
+        st = place(st, element_at(elements, i)).st;
     }
-    let extent = basics::larger(st.end, basics::larger(st.right, st.left));
+    let extent = st.end.max(st.right.max(st.left));
     if 2 * (measure as u64) < extent as u64 {
-        return Answer::Declined(Why::Long);
+        return Err(Why::Long);
     }
-    Answer::Set(extent)
+    Ok(extent)
 }
 
 // The origins of a line at the front of out.
+#[tactic(auto, using(crate::proofs::Passes::written_steps))]
 fn write_line(elements: &[u32], out: &mut [u32])
     requires { Ready elements.now out.old }
     ensures { out.new ≡ settle (line elements.now) ++ drop (rows elements.now) out.old }
 {
     let mut st = START;
-    let mut i: usize = 0;
-    while i < elements.len() / ROW {
-        let e = element_at(elements, i);
-        let p = place(st, e);
+    for i in 0..elements.len() / ROW {
+        let p = place(st, element_at(elements, i));
         out[i] = p.at;
         st = p.st;
-        i += 1;
     }
 }
 
-// A line of elements, a row of ROW numbers for each, set within the measure, which is in units (document 01, "Level two"). Whether an
-// element has a reading on a side is 0 or 1 in its row. The origins go to the front of out; a line that is not set leaves it as it
-// was, so the line is tried before anything is written.
-pub fn set_line(measure: u32, elements: &[u32], out: &mut [u32]) -> Answer
+/// A line of elements, a row of ROW numbers for each, set within the measure, which is in units (document 01, "Level two"): its extent, or
+/// why it is not set. Whether an element has a reading on a side is 0 or 1 in its row. The origins go to the front of out; a line that is
+/// not set leaves it as it was, so the line is tried before anything is written.
+#[tactic(auto, using(crate::proofs::Answers::answer_steps))]
+pub fn set_line(measure: u32, elements: &[u32], out: &mut [u32]) -> Result<u32, Why>
     ensures { Promise measure elements.now out.old out.new result }
 {
     if out.len() < elements.len() / ROW {
-        return Answer::Declined(Why::Refused(Refusal::Short));
+        return Err(Why::Refused(Refusal::Short));
     }
     if !all_within(elements) {
-        return Answer::Declined(Why::Unsound);
+        return Err(Why::Unsound);
     }
-    let tried = try_line(measure, elements);
-    let Answer::Set(extent) = tried else {
-        return tried;
-    };
+    let extent = try_line(measure, elements)?;
     write_line(elements, out);
-    Answer::Set(extent)
+    Ok(extent)
 }

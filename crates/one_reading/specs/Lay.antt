@@ -1,8 +1,9 @@
 -- An element without a left reading, laid: level one is asked by what it wants to know of its strings, and its rows are written; and a P.
-use Rattle.std.specs.Prelude.{◌≡◌, refl, Bool, true, false, cond, ◌||◌, List, [], ◌∷◌, ℕ, ◌+◌, ◌-◌, ◌≤◌, ◌<◌, eqb, length, get_or, take, drop}
+use Rattle.std.specs.Prelude.{◌≡◌, refl, Bool, true, false, cond, ◌||◌, List, [], ◌∷◌, ℕ, Result, Ok, Err, ⊤, ◌+◌, ◌-◌, ◌≤◌, ◌<◌, eqb, length, get_or, take, drop}
 use Rattle.std.proofs.Common.{sym, ap, ap₂, ◌∙◌, subst, add-zero, arith, lt-ltb, eqb-true}
 use Rattle.std.proofs.lemmas.Bool.{false≢true, eqb-false}
 use Rattle.basics.specs.Lists.{sum, any, other}
+use Rattle.refusal.specs.declared.Refusal.{Refusal}
 use Rattle.class.specs.Class.{depths_by}
 use Rattle.spread.specs.Ratio.{Ratios, Housed}
 use Rattle.word.specs.declared.Form.{Form}
@@ -13,34 +14,31 @@ use Rattle.word.specs.declared.Strand.{Strand}
 use Rattle.word.specs.declared.Answer.{Answer}
 use Rattle.word.specs.declared.Answer.TheVariants.{Set}
 use Rattle.word.specs.Given.{Given, is_g, is_j}
-use Rattle.word.specs.declared.Row.{Row}
-use Rattle.word.specs.declared.Row.TheVariants.{None, Holds}
 use Rattle.word.specs.Word.{plain, word_of}
 use Rattle.word.specs.Kinds.{sort_of}
 use Rattle.word.specs.Numbers.{Measured}
 use Rattle.word.specs.Answer.{answer}
 use Rattle.word.specs.Summed.{strand_of, given_base, mono_by, mono_by_lem, group_by, group_by_lem, jukugo_judged, answered_by, jukugo_judged_lem, single_by, single_by_lem}
 use Rattle.cells.specs.declared.Cell.{Cell}
-use Rattle.cells.specs.Cells.{size, ratios_at}
+use Rattle.cells.specs.Cells.{beside}
 use Rattle.door.specs.declared.Piece.{Piece}
-use Rattle.door.specs.declared.Step.{Step}
 use Rattle.door.specs.Job.{Job, entries, given}
 use Rattle.door.specs.Entries.{part_of, length-entries}
 use Rattle.join.specs.Rows.{none}
-use Rattle.word_rows.specs.Table.{Filled, filled_as}
+use Rattle.word_rows.specs.Table.{Filled, filled_as, bare_row}
 use Rattle.word_rows.specs.Runs.{runs_only, HasRuns, jukugo_row}
 use Rattle.word_rows.specs.Word.{word_row, WordReady, Judged, judged-goes, judged_as}
 
--- its rows, by level one's answer
-abbrev pub FilledBy : Answer → (Word → ℕ → Cell) → Piece → List ℕ → List ℕ → Step → Type 0
-FilledBy a row x was t s = Judged a (λ w. Filled (row w) x.base (x.base + x.bases) was t) x was t s
+-- its rows, by level one's answer; there is no left reading beside them, and the next left characters begin at `left`
+abbrev pub FilledBy : Answer → (Word → ℕ → Cell) → ℕ → Piece → List Cell → List Cell → Result Piece Refusal → Type 0
+FilledBy a row left x was t s = Judged a (λ w. Filled (λ i. beside (row w i) (bare_row left)) x.base (x.base + x.bases) was t) x was t s
 
 -- An M: level one is asked by the sums of its strings.
 
 mono-width : (job : Job) (x : Piece) → x.bases ≡ 1 → sum (given job x).width ≡ get_or job.width x.base 0
 mono-width job x e = rw e (add-zero (get_or job.width x.base 0))
 
-module _ (k : ℕ) (job : Job) (x : Piece) {t : List ℕ} (h : WordReady job x t) (one : x.bases ≡ 1) where
+module _ (k : ℕ) (job : Job) (x : Piece) {t : List Cell} (h : WordReady job x t) (one : x.bases ≡ 1) where
   pub mono-small : (get_or job.width x.base 0 ≤ 131072) × (sum (take (x.ruby + x.rubies - x.ruby) (drop x.ruby job.ruby_width)) ≤ 262144)
   mono-small =
       (omega (arith, mono-width job x one, h.small.narrow), rw (part_of job.ruby_width x.ruby x.rubies h.ruby_width) h.small.narrow_ruby)
@@ -89,25 +87,25 @@ module _ (x : Piece) (ruby_class ruby_width : List ℕ) (h : RubyReady x ruby_cl
       rw (part_of ruby_width x.ruby x.rubies h.width) (omega (arith, length-entries ruby_width x.ruby x.rubies, h.short), h.narrow)
 
 -- A G or a J by what level one asks of its base, with its ruby in lists, and room for its rows.
-pub record BasedReady (em : ℕ) (base : Base) (x : Piece) (ruby_class ruby_width t : List ℕ) : Type 0 where
+pub record BasedReady (ratios : Ratios) (em : ℕ) (base : Base) (x : Piece) (ruby_class ruby_width : List ℕ) (t : List Cell) : Type 0 where
   pub few : x.base + x.bases ≤ 1024
   pub some : 0 < base.string.count
   pub short : base.string.count ≤ 4096
   pub narrow : base.string.width ≤ 131072
   pub ruby : RubyReady x ruby_class ruby_width
-  pub house : Housed (ratios_at t)
-  pub room : size (x.base + x.bases) ≤ length t
+  pub house : Housed ratios
+  pub room : x.base + x.bases ≤ length t
 
-module _ {em : ℕ} {base : Base} {x : Piece} {ruby_class ruby_width t : List ℕ} (h : BasedReady em base x ruby_class ruby_width t) where
-  pub measured : {r : Strand} → r ≡ ruby_of x ruby_class ruby_width → Measured base.string.width base.string.count r.string.width r.string.count
+module _ {ratios : Ratios} {em : ℕ} {base : Base} {x : Piece} {ruby_class ruby_width : List ℕ} {t : List Cell} (h : BasedReady ratios em base x ruby_class ruby_width t) where
+  pub measured : {r : Strand} → r ≡ ruby_of x ruby_class ruby_width → Measured base.string r.string
   measured {r} e =
       let u = h.ruby in
       let n = length-entries ruby_width x.ruby x.rubies in
-      subst (λ s. Measured base.string.width base.string.count s.string.width s.string.count) (sym e)
+      subst (λ s. Measured base.string s.string) (sym e)
       (record { some = h.some; few = h.short; narrow = h.narrow; reads = omega (arith, n, u.some); few_ruby = omega (arith, n, u.short); narrow_ruby = u.narrow })
 
 -- of a J also its runs, and that it is as wide as one em where each of its characters is
-pub record RunsReady (em : ℕ) (base : Base) (x : Piece) (ruby_class ruby_width run t : List ℕ) : Type 0 where
+pub record RunsReady (em : ℕ) (base : Base) (x : Piece) (ruby_class ruby_width run : List ℕ) (t : List Cell) : Type 0 where
   pub some : 0 < x.bases
   pub ems : base.uneven ≡ false → em ≤ base.string.width
   pub runs : HasRuns (runs_only em ruby_class ruby_width run) x t
@@ -126,31 +124,31 @@ abbrev pub based_row : Job → Piece → Word → Bool → ℕ → Cell
 based_row job x w ends i = cond (is_j x.form) (jukugo_row job x w ends i) (word_row x w ends 0 0 i)
 
 -- That is document 01's answer to what level one is given: the lists whose base is this, with this ruby.
-pub record Gives (form : Form) (em : ℕ) (base : Base) (x : Piece) (rc rw rn t : List ℕ) (g : Given) : Type 0 where
+pub record Gives (form : Form) (ratios : Ratios) (em : ℕ) (base : Base) (x : Piece) (rc rw rn : List ℕ) (g : Given) : Type 0 where
   pub ems : g.em ≡ em
-  pub house : g.ratios ≡ ratios_at t
+  pub house : g.ratios ≡ ratios
   pub summed : base ≡ given_base form g
   pub ruby_class : g.ruby_class ≡ entries rc x.ruby x.rubies
   pub ruby_width : g.ruby_width ≡ entries rw x.ruby x.rubies
   pub run : is_j form ≡ true → g.run ≡ entries rn x.run x.bases
 
-module _ (place : ℕ) {em : ℕ} {base : Base} {x : Piece} {rc rw rn t : List ℕ} {g : Given} where
-  same-ruby : {form : Form} → Gives form em base x rc rw rn t g → ruby_of x rc rw ≡ strand_of g.ruby_class g.ruby_width
+module _ (place : ℕ) {ratios : Ratios} {em : ℕ} {base : Base} {x : Piece} {rc rw rn : List ℕ} {g : Given} where
+  same-ruby : {form : Form} → Gives form ratios em base x rc rw rn g → ruby_of x rc rw ≡ strand_of g.ruby_class g.ruby_width
   same-ruby v = ap₂ strand_of (sym v.ruby_class) (sym v.ruby_width)
 
-  group-told : Gives G em base x rc rw rn t g → group_by place (ratios_at t) em base (ruby_of x rc rw) ≡ answer G place g
+  group-told : Gives G ratios em base x rc rw rn g → group_by place ratios em base (ruby_of x rc rw) ≡ answer G place g
   group-told v =
       ap₂ (λ h z. group_by place h z base (ruby_of x rc rw)) (sym v.house) (sym v.ems)
       ∙ ap₂ (group_by place g.ratios g.em) v.summed (same-ruby v)
       ∙ sym (group_by_lem place g)
 
-  single-told : Gives J em base x rc rw rn t g → x.bases ≡ 1 → get_or rn x.run 0 ≡ x.rubies → single_by place (ratios_at t) em base (ruby_of x rc rw) ≡ answer J place g
+  single-told : Gives J ratios em base x rc rw rn g → x.bases ≡ 1 → get_or rn x.run 0 ≡ x.rubies → single_by place ratios em base (ruby_of x rc rw) ≡ answer J place g
   single-told v one whole =
       ap₂ (λ h z. single_by place h z base (ruby_of x rc rw)) (sym v.house) (sym v.ems)
       ∙ ap₂ (single_by place g.ratios g.em) v.summed (same-ruby v)
       ∙ sym (single_by_lem place g (v.run refl ∙ ap (entries rn x.run) one ∙ ap (λ n. n ∷ []) (whole ∙ sym (length-entries rw x.ruby x.rubies) ∙ ap length (sym v.ruby_width))))
 
-  cut-told : Gives J em base x rc rw rn t g → answered_by (jukugo_judged place base (ruby_of x rc rw).sort) (word_of J g) ≡ answer J place g
+  cut-told : Gives J ratios em base x rc rw rn g → answered_by (jukugo_judged place base (ruby_of x rc rw).sort) (word_of J g) ≡ answer J place g
   cut-told v =
       ap₂ (λ b r. answered_by (jukugo_judged place b r) (word_of J g)) v.summed (ap sort_of (sym v.ruby_class))
       ∙ sym (jukugo_judged_lem place g)
@@ -159,34 +157,35 @@ module _ (place : ℕ) {em : ℕ} {base : Base} {x : Piece} {rc rw rn t : List �
 cut-row : (job : Job) (x : Piece) (v w : Word) (ends : Bool) (i : ℕ) → 1 < x.bases → jukugo_row job x v ends i ≡ jukugo_row job x w ends i
 cut-row job x v w ends i h = rw (lt-ltb 1 x.bases h)
 
-cut_as : (job : Job) (x : Piece) (ends : Bool) {was t : List ℕ} {s : Step} (q : Row) (w : Word) → 1 < x.bases →
-    FilledBy (answered_by q none) (λ v. jukugo_row job x v ends) x was t s → FilledBy (answered_by q w) (λ v. jukugo_row job x v ends) x was t s
-cut_as job x ends (Holds why) w h j = j
-cut_as job x ends {was} {t} None w h j =
+cut_as : (job : Job) (x : Piece) (ends : Bool) {left : ℕ} {was t : List Cell} {s : Result Piece Refusal} (q : Result ⊤ Refusal) (w : Word) → 1 < x.bases →
+    FilledBy (answered_by q none) (λ v. jukugo_row job x v ends) left x was t s → FilledBy (answered_by q w) (λ v. jukugo_row job x v ends) left x was t s
+cut_as job x ends (Err why) w h j = j
+cut_as job x ends {left} {was} {t} (Ok tt) w h j =
     let g = j.goes none refl in
-    subst (FilledBy (Set w) (λ v. jukugo_row job x v ends) x was t) (sym g.0)
+    subst (FilledBy (Set w) (λ v. jukugo_row job x v ends) left x was t) (sym g.0)
     (judged-goes refl j.long
-    (filled_as (jukugo_row job x none ends) (jukugo_row job x w ends) x.base (x.base + x.bases) was t (λ i l m. cut-row job x none w ends i h) g.1))
+    (filled_as (λ i. beside (jukugo_row job x none ends i) (bare_row left)) (λ i. beside (jukugo_row job x w ends i) (bare_row left)) x.base (x.base + x.bases) was t
+    (λ i l m. ap (λ c. beside c (bare_row left)) (cut-row job x none w ends i h)) g.1))
 
-pub based-told : (place : ℕ) (job : Job) (x : Piece) (ends : Bool) {em : ℕ} {base : Base} {rc rw rn was t : List ℕ} {g : Given} {s : Step} →
-    is_based x.form ≡ true → (is_j x.form ≡ true → RunsReady em base x rc rw rn was) → Gives x.form em base x rc rw rn was g →
-    FilledBy (based_by x.form x.bases place (ratios_at was) em base (ruby_of x rc rw)) (λ w. based_row job x w ends) x was t s →
-    FilledBy (answer x.form place g) (λ w. based_row job x w ends) x was t s
-based-told place job x ends {em} {base} {rc} {rw} {rn} {was} {t} {g} {s} h runs v j = go x.form h runs v j
+pub based-told : (place : ℕ) (job : Job) (x : Piece) (ends : Bool) {ratios : Ratios} {em : ℕ} {base : Base} {rc rw rn : List ℕ} {left : ℕ} {was t : List Cell} {g : Given} {s : Result Piece Refusal} →
+    is_based x.form ≡ true → (is_j x.form ≡ true → RunsReady em base x rc rw rn was) → Gives x.form ratios em base x rc rw rn g →
+    FilledBy (based_by x.form x.bases place ratios em base (ruby_of x rc rw)) (λ w. based_row job x w ends) left x was t s →
+    FilledBy (answer x.form place g) (λ w. based_row job x w ends) left x was t s
+based-told place job x ends {ratios} {em} {base} {rc} {rw} {rn} {left} {was} {t} {g} {s} h runs v j = go x.form h runs v j
   where
     Row-of : Form → Word → ℕ → Cell
     Row-of f w i = cond (is_j f) (jukugo_row job x w ends i) (word_row x w ends 0 0 i)
 
-    jukugo : RunsReady em base x rc rw rn was → Gives J em base x rc rw rn was g → (b : Bool) → eqb x.bases 1 ≡ b →
-        FilledBy (cond b (single_by place (ratios_at was) em base (ruby_of x rc rw)) (answered_by (jukugo_judged place base (ruby_of x rc rw).sort) none)) (λ w. jukugo_row job x w ends) x was t s →
-        FilledBy (answer J place g) (λ w. jukugo_row job x w ends) x was t s
+    jukugo : RunsReady em base x rc rw rn was → Gives J ratios em base x rc rw rn g → (b : Bool) → eqb x.bases 1 ≡ b →
+        FilledBy (cond b (single_by place ratios em base (ruby_of x rc rw)) (answered_by (jukugo_judged place base (ruby_of x rc rw).sort) none)) (λ w. jukugo_row job x w ends) left x was t s →
+        FilledBy (answer J place g) (λ w. jukugo_row job x w ends) left x was t s
     jukugo r v true e j = let one = eqb-true x.bases 1 e in judged_as (single-told place v one (r.whole one)) (λ w d f. f) j
     jukugo r v false e j =
         judged_as (cut-told place v) (λ w d f. f)
         (cut_as job x ends (jukugo_judged place base (ruby_of x rc rw).sort) (word_of J g) (omega (arith, eqb-false x.bases 1 e, r.some)) j)
 
-    go : (f : Form) → is_based f ≡ true → (is_j f ≡ true → RunsReady em base x rc rw rn was) → Gives f em base x rc rw rn was g →
-        FilledBy (based_by f x.bases place (ratios_at was) em base (ruby_of x rc rw)) (Row-of f) x was t s → FilledBy (answer f place g) (Row-of f) x was t s
+    go : (f : Form) → is_based f ≡ true → (is_j f ≡ true → RunsReady em base x rc rw rn was) → Gives f ratios em base x rc rw rn g →
+        FilledBy (based_by f x.bases place ratios em base (ruby_of x rc rw)) (Row-of f) left x was t s → FilledBy (answer f place g) (Row-of f) left x was t s
     go P h r v j = absurd (false≢true h)
     go M h r v j = absurd (false≢true h)
     go G h r v j = judged_as (group-told place v) (λ w d f. f) j
@@ -194,7 +193,7 @@ based-told place job x ends {em} {base} {rc} {rw} {rn} {was} {t} {g} {s} h runs 
 
 -- A P.
 
-pub record PlainReady (b r : ℕ) (cs ws bs ss fs t : List ℕ) : Type 0 where
+pub record PlainReady (b r : ℕ) (cs ws bs ss fs : List ℕ) (t : List Cell) : Type 0 where
   pub few : b < 4096
   pub few_ruby : r ≤ 4096
   pub class : b < length cs
@@ -203,11 +202,11 @@ pub record PlainReady (b r : ℕ) (cs ws bs ss fs t : List ℕ) : Type 0 where
   pub after : b < length ss
   pub flag : b < length fs
   pub narrow : get_or ws b 0 ≤ 4096
-  pub held : size (b + 1) ≤ length t
+  pub held : b < length t
 
--- the row of base character b, a P before which r ruby characters were taken
-abbrev pub plain_row : ℕ → ℕ → ℕ → ℕ → List ℕ → List ℕ → List ℕ → List ℕ → List ℕ → Cell
-plain_row profile b r em class width before after flag =
+-- the row of base character b, a P before which r ruby characters and l left ones were taken
+abbrev pub plain_row : ℕ → ℕ → ℕ → ℕ → ℕ → List ℕ → List ℕ → List ℕ → List ℕ → List ℕ → Cell
+plain_row profile b r l em class width before after flag =
     let d = depths_by profile (eqb b 0) (get_or class b 0) (get_or width b 0) (get_or before b 0) (get_or after b 0) em in
     record {
       bases = 1;
@@ -218,7 +217,7 @@ plain_row profile b r em class width before after flag =
       after = d.after;
       ruby = r;
       rubies = 0;
-      left = 0;
+      left = l;
       lefts = 0;
       own = 0;
       wide = 0;

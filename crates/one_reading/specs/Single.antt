@@ -19,11 +19,11 @@ first_reads side job x h some =
     subst (λ r. RunReads (widths_of side job) r (get_or (runs_of side job) (run_of side x) 0)) (add-zero (first_of side x))
     (subst (λ n. RunReads (widths_of side job) (first_at side job x 0) (get_or (runs_of side job) n 0)) (add-zero (run_of side x)) (run-reads side job x h 0 some))
 
-pub first-class : (job : Job) (x : Piece) (t : List ℕ) → HasRuns job x t → 0 < x.bases → x.ruby < length job.ruby_class
+pub first-class : (job : Job) (x : Piece) (t : List Cell) → HasRuns job x t → 0 < x.bases → x.ruby < length job.ruby_class
 first-class job x t h some = omega (arith, taken-held Right job x h.own 0 some, h.class, (run-reads Right job x h.own 0 some).some)
 
 -- em has no part in where the runs lie
-pub runs-any : {em e : ℕ} {ruby_class ruby_width run : List ℕ} {x : Piece} {t : List ℕ} → HasRuns (runs_only em ruby_class ruby_width run) x t → HasRuns (runs_only e ruby_class ruby_width run) x t
+pub runs-any : {em e : ℕ} {ruby_class ruby_width run : List ℕ} {x : Piece} {t : List Cell} → HasRuns (runs_only em ruby_class ruby_width run) x t → HasRuns (runs_only e ruby_class ruby_width run) x t
 runs-any h =
     let r = h.own in
     record {

@@ -1,17 +1,18 @@
-// An element without a left reading, laid: level one's answer by its form, taken apart, and its rows written or its refusal handed up; and the row of a P, which has no refusal. It writes no
-// left rows, and leaves those that are there. It relies on `word` for level one, on `class` for depths, and on `word_rows` and `cells` for rows.
+// An element without a left reading, laid: level one's answer by its form, taken apart, and its rows written or its refusal handed up; and the row of a P, which has no
+// refusal. It relies on `word` for level one, on `class` for depths, and on `word_rows` and `cells` for rows.
 #![tactic(auto)]
 
-ghost use Rattle.std.specs.Prelude.{◌≡◌, true, ◌<◌, eqb, length, get_or};
+ghost use Rattle.std.specs.Prelude.{◌≡◌, true, ◌<◌, eqb, length, get_or, set};
 ghost use Rattle.class.specs.Class.{depths_by};
+ghost use Rattle.spread.specs.Ratio.{ratios_of};
 ghost use Rattle.word.specs.declared.Form.TheVariants as Form;
 ghost use Rattle.word.specs.Given.{is_j};
 ghost use Rattle.word.specs.Answer.{answer};
 ghost use Rattle.word.specs.Summed.{given_base, group_by, single_by, jukugo_judged, answered_by};
 ghost use Rattle.door.specs.Job.{given};
-ghost use Rattle.cells.specs.Cells.{ratios_at};
-ghost use Rattle.cells.specs.Put.{Puts};
+ghost use Rattle.cells.specs.Cells.{beside};
 ghost use Rattle.join.specs.Rows.{none};
+ghost use Rattle.word_rows.specs.Table.{bare_row};
 ghost use Rattle.word_rows.specs.Base.{BaseReady, bases_now, bases_was};
 ghost use Rattle.word_rows.specs.Runs.{HasRuns, jukugo_row};
 ghost use Rattle.word_rows.specs.Word.{word_row, WordReady, flagged};
@@ -20,51 +21,43 @@ ghost use Rattle.one_reading.specs.Single.{single_row};
 ghost use Rattle.one_reading.specs.Lay.{RubyReady, ruby_of, BasedReady, RunsReady, is_based, based_by, based_row, PlainReady, plain_row, FilledBy};
 ghost use Rattle.one_reading.specs.Seen.{mono_now, mono_was};
 
+use cells::Cell;
 use refusal::Refusal;
 
 // The row of a J of one character, which no line cuts.
 fn put_single(
-    t: &mut [u32],
+    rows: &mut [Cell],
     p: door::Piece,
+    left: u32,
     w: word::Word,
     ends: bool,
     rclass: &[u32],
     rwidth: &[u32],
     runs: &[u32],
 )
-    requires { (p.bases ≡ 1) × HasRuns (runs_now 0 rclass rwidth runs) p t.old }
-    ensures { Puts t.old p.base (single_row p w ends rclass.now rwidth.now runs.now) t.new }
+    requires { (p.bases ≡ 1) × HasRuns (runs_now 0 rclass rwidth runs) p rows.old }
+    ensures { rows.new ≡ set rows.old p.base (beside (single_row p w ends rclass.now rwidth.now runs.now) (bare_row left)) }
 {
     let u = p.run;
     let run = runs[u];
     let r = p.ruby;
     let own = word_rows::run_width(r, r + run as usize, rwidth);
     let western = class::is_western(rclass[r]);
-    cells::put_cell(
-        t,
-        p.base,
-        cells::Cell {
-            bases: 1,
-            cut: false,
-            ends,
-            word: w,
-            before: 0,
-            after: 0,
-            ruby: r as u32,
-            rubies: run,
-            left: 0,
-            lefts: 0,
-            own,
-            wide: 0,
-            over: 0,
-            western,
-            ownleft: 0,
-            more: false,
-        },
-    );
+    let row = Cell {
+        bases: 1,
+        ends,
+        word: w,
+        ruby: r as u32,
+        rubies: run,
+        own,
+        western,
+        ..cells::NO_CELL
+    };
+    rows[p.base] = cells::with_left(row, word_rows::bare(left));
 }
 
 // How deep ruby may lie on base character b, a P. Of most nothing is read but the class.
+#[tactic(auto, using(class::specs::Laws::no_depths))]
 fn depths_at(
     b: usize,
     em: u32,
@@ -86,11 +79,12 @@ fn depths_at(
     }
 }
 
-// The row of a P, base character b, before which r ruby characters were taken.
+/// The row of a P, base character b, before which r ruby characters and `left` left ones were taken.
 pub fn put_plain(
-    t: &mut [u32],
+    rows: &mut [Cell],
     b: usize,
     r: usize,
+    left: u32,
     em: u32,
     profile: u32,
     class: &[u32],
@@ -99,51 +93,40 @@ pub fn put_plain(
     after: &[u32],
     flag: &[u32],
 )
-    requires { PlainReady b r class.now width.now before.now after.now flag.now t.old }
-    ensures { Puts t.old b (plain_row profile b r em class.now width.now before.now after.now flag.now) t.new }
+    requires { PlainReady b r class.now width.now before.now after.now flag.now rows.old }
+    ensures { rows.new ≡ set rows.old b (plain_row profile b r left em class.now width.now before.now after.now flag.now) }
 {
     let answer = word::plain_answer(width[b]);
     let word::Answer::Set(w) = answer else {
         return; // unreachable: level one has no row for a P
     };
     let d = depths_at(b, em, profile, class, width, before, after);
-    cells::put_cell(
-        t,
-        b,
-        cells::Cell {
-            bases: 1,
-            cut: false,
-            ends: flag[b] == 1,
-            word: w,
-            before: d.before,
-            after: d.after,
-            ruby: r as u32,
-            rubies: 0,
-            left: 0,
-            lefts: 0,
-            own: 0,
-            wide: 0,
-            over: 0,
-            western: false,
-            ownleft: 0,
-            more: false,
-        },
-    );
+    rows[b] = Cell {
+        bases: 1,
+        ends: flag[b] == 1,
+        word: w,
+        before: d.before,
+        after: d.after,
+        ruby: r as u32,
+        left,
+        ..cells::NO_CELL
+    };
 }
 
-// An M: its row, or its refusal. `place` is the element's index. Neither ratio nor em is asked, since an M is always solid.
+/// An M: its row, or its refusal. `place` is the element's index. Neither ratio nor em is asked, since an M is always solid.
 pub fn lay_mono(
-    t: &mut [u32],
+    rows: &mut [Cell],
     place: u32,
     p: door::Piece,
+    left: u32,
     width: &[u32],
     before: &[u32],
     after: &[u32],
     flag: &[u32],
     rwidth: &[u32],
-) -> door::Step
-    requires { let job = mono_now width before after flag rwidth in (p.bases ≡ 1) × WordReady job p t.old }
-    ensures { let job = mono_was width before after flag rwidth in FilledBy (answer Form.M place (given job p)) (λ w. word_row p w (flagged job p) 0 0) p t.old t.new result }
+) -> Result<door::Piece, Refusal>
+    requires { let job = mono_now width before after flag rwidth in (p.bases ≡ 1) × WordReady job p rows.old }
+    ensures { let job = mono_was width before after flag rwidth in FilledBy (answer Form.M place (given job p)) (λ w. word_row p w (flagged job p) 0 0) left p rows.old rows.new result }
 {
     let b = p.base;
     let e = b + 1;
@@ -156,11 +139,11 @@ pub fn lay_mono(
         return word_rows::refused(place, answer);
     };
     let ends = word_rows::ends_behind(p, flag);
-    word_rows::put_word(t, p, w, ends);
-    door::Step::Next(p)
+    word_rows::put_word(rows, p, w, ends, word_rows::bare(left));
+    Ok(p)
 }
 
-// The base of an element, as level one asks for it.
+/// The base of an element, as level one asks for it.
 pub fn base_at(
     p: door::Piece,
     em: u32,
@@ -195,103 +178,125 @@ fn ruby_at(p: door::Piece, rclass: &[u32], rwidth: &[u32]) -> word::Strand
     word::strand_of(&rclass[r..s], &rwidth[r..s])
 }
 
-// A G: its rows, or its refusal. A line may end behind it where `ends`. The ratios are those at the table's head.
+// A G: its rows, or its refusal. A line may end behind it where `ends`. What `BasedReady` asks is of base, lists and rows together, so that no one of them could have it as its type's.
 fn lay_group(
-    t: &mut [u32],
+    rows: &mut [Cell],
     place: u32,
     p: door::Piece,
+    left: u32,
+    ratios: [[u32; 3]; 2],
     em: u32,
     base: word::Base,
     ends: bool,
     rclass: &[u32],
     rwidth: &[u32],
-) -> door::Step
-    requires { BasedReady em base p rclass.now rwidth.now t.old }
-    ensures { let ruby = ruby_of p rclass.now rwidth.now in FilledBy (group_by place (ratios_at t.old) em base ruby) (λ w. word_row p w ends 0 0) p t.old t.new result }
+) -> Result<door::Piece, Refusal>
+    requires { BasedReady (ratios_of ratios) em base p rclass.now rwidth.now rows.old }
+    ensures { let ruby = ruby_of p rclass.now rwidth.now in FilledBy (group_by place (ratios_of ratios) em base ruby) (λ w. word_row p w ends 0 0) left p rows.old rows.new result }
 {
     let ruby = ruby_at(p, rclass, rwidth);
-    let answer = word::group_answer(place, cells::ratios_at(t), em, base, ruby);
+    let answer = word::group_answer(place, ratios, em, base, ruby);
     let word::Answer::Set(w) = answer else {
         return word_rows::refused(place, answer);
     };
-    word_rows::put_word(t, p, w, ends);
-    door::Step::Next(p)
+    word_rows::put_word(rows, p, w, ends, word_rows::bare(left));
+    Ok(p)
 }
 
 // A J of one character: its row, or its refusal.
 fn lay_single(
-    t: &mut [u32],
+    rows: &mut [Cell],
     place: u32,
     p: door::Piece,
+    left: u32,
+    ratios: [[u32; 3]; 2],
     em: u32,
     base: word::Base,
     ends: bool,
     rclass: &[u32],
     rwidth: &[u32],
     runs: &[u32],
-) -> door::Step
-    requires { (p.bases ≡ 1) × BasedReady em base p rclass.now rwidth.now t.old × RunsReady em base p rclass.now rwidth.now runs.now t.old }
-    ensures { let ruby = ruby_of p rclass.now rwidth.now in let job = runs_was em rclass rwidth runs in FilledBy (single_by place (ratios_at t.old) em base ruby) (λ w. jukugo_row job p w ends) p t.old t.new result }
+) -> Result<door::Piece, Refusal>
+    requires { (p.bases ≡ 1) × BasedReady (ratios_of ratios) em base p rclass.now rwidth.now rows.old × RunsReady em base p rclass.now rwidth.now runs.now rows.old }
+    ensures { let ruby = ruby_of p rclass.now rwidth.now in let job = runs_was em rclass rwidth runs in FilledBy (single_by place (ratios_of ratios) em base ruby) (λ w. jukugo_row job p w ends) left p rows.old rows.new result }
 {
     let ruby = ruby_at(p, rclass, rwidth);
-    let answer = word::single_answer(place, cells::ratios_at(t), em, base, ruby);
+    let answer = word::single_answer(place, ratios, em, base, ruby);
     let word::Answer::Set(w) = answer else {
         return word_rows::refused(place, answer);
     };
-    put_single(t, p, w, ends, rclass, rwidth, runs);
-    door::Step::Next(p)
+    put_single(rows, p, left, w, ends, rclass, rwidth, runs);
+    Ok(p)
 }
 
 // A J of two characters or more: its rows, or its refusal. Level one is asked for its judgement alone, since such a J is measured by its runs, as they are written, and no row holds its word.
 fn lay_cut(
-    t: &mut [u32],
+    rows: &mut [Cell],
     place: u32,
     p: door::Piece,
+    left: u32,
+    ratios: [[u32; 3]; 2],
     em: u32,
     base: word::Base,
     ends: bool,
     rclass: &[u32],
     rwidth: &[u32],
     runs: &[u32],
-) -> door::Step
-    requires { (1 < p.bases) × BasedReady em base p rclass.now rwidth.now t.old × RunsReady em base p rclass.now rwidth.now runs.now t.old }
-    ensures { let ruby = ruby_of p rclass.now rwidth.now in let job = runs_was em rclass rwidth runs in FilledBy (answered_by (jukugo_judged place base ruby.sort) none) (λ w. jukugo_row job p w ends) p t.old t.new result }
+) -> Result<door::Piece, Refusal>
+    requires { (1 < p.bases) × BasedReady (ratios_of ratios) em base p rclass.now rwidth.now rows.old × RunsReady em base p rclass.now rwidth.now runs.now rows.old }
+    ensures { let ruby = ruby_of p rclass.now rwidth.now in let job = runs_was em rclass rwidth runs in FilledBy (answered_by (jukugo_judged place base ruby.sort) none) (λ w. jukugo_row job p w ends) left p rows.old rows.new result }
 {
     let ruby = ruby_at(p, rclass, rwidth);
     let sort = ruby.sort;
     let row = word::judge_jukugo(place, base, sort);
-    let word::Row::None = row else {
+    let Ok(()) = row else {
         return word_rows::held(place, row);
     };
-    word_rows::put_runs(t, p, word_rows::NONE, ends, em, rclass, rwidth, runs);
-    door::Step::Next(p)
+    word_rows::put_runs(
+        rows,
+        p,
+        word_rows::NONE,
+        ends,
+        word_rows::bare(left),
+        em,
+        rclass,
+        rwidth,
+        runs,
+    );
+    Ok(p)
 }
 
-// A G or a J without a left reading, whose counts and characters are there: numbers 7 to 10 as level one gives them, or its rows.
+/// A G or a J without a left reading, whose counts and characters are there: numbers 7 to 10 as level one gives them, or its rows.
 pub fn lay_based(
-    t: &mut [u32],
+    rows: &mut [Cell],
     place: u32,
     p: door::Piece,
+    left: u32,
+    ratios: [[u32; 3]; 2],
     em: u32,
     base: word::Base,
     ends: bool,
     rclass: &[u32],
     rwidth: &[u32],
     runs: &[u32],
-) -> door::Step
-    requires { (is_based p.form ≡ true) × BasedReady em base p rclass.now rwidth.now t.old × (is_j p.form ≡ true → RunsReady em base p rclass.now rwidth.now runs.now t.old) }
-    ensures { let ruby = ruby_of p rclass.now rwidth.now in let job = runs_was em rclass rwidth runs in FilledBy (based_by p.form p.bases place (ratios_at t.old) em base ruby) (λ w. based_row job p w ends) p t.old t.new result }
+) -> Result<door::Piece, Refusal>
+    requires { (is_based p.form ≡ true) × BasedReady (ratios_of ratios) em base p rclass.now rwidth.now rows.old × (is_j p.form ≡ true → RunsReady em base p rclass.now rwidth.now runs.now rows.old) }
+    ensures { let ruby = ruby_of p rclass.now rwidth.now in let job = runs_was em rclass rwidth runs in FilledBy (based_by p.form p.bases place (ratios_of ratios) em base ruby) (λ w. based_row job p w ends) left p rows.old rows.new result }
 {
     let form = p.form;
     match form {
-        word::Form::P => door::Step::Stop(Refusal::Element(place)), // unreachable: a P is laid by `put_plain`
-        word::Form::M => door::Step::Stop(Refusal::Element(place)), // unreachable: an M by `lay_mono`
-        word::Form::G => lay_group(t, place, p, em, base, ends, rclass, rwidth),
+        word::Form::P => Err(Refusal::Element(place)), // unreachable: a P is laid by `put_plain`
+        word::Form::M => Err(Refusal::Element(place)), // unreachable: an M by `lay_mono`
+        word::Form::G => lay_group(rows, place, p, left, ratios, em, base, ends, rclass, rwidth),
         word::Form::J => {
             if p.bases == 1 {
-                lay_single(t, place, p, em, base, ends, rclass, rwidth, runs)
+                lay_single(
+                    rows, place, p, left, ratios, em, base, ends, rclass, rwidth, runs,
+                )
             } else {
-                lay_cut(t, place, p, em, base, ends, rclass, rwidth, runs)
+                lay_cut(
+                    rows, place, p, left, ratios, em, base, ends, rclass, rwidth, runs,
+                )
             }
         }
     }

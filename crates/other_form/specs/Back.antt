@@ -1,6 +1,6 @@
 -- There and back (document 02, R-6: "to form two and back to the same bytes"): a sheet that form one can hold, written in the other form, is a sound sheet of that form with the same numbers, if it
 -- is not over-long; so its own other form is the first sheet. Form one is never longer than form two.
-use Rattle.std.specs.Prelude.{false, List, [], ◌∷◌, ◌++◌, ◌≡◌, refl, ℕ, ◌+◌, ◌≤◌}
+use Rattle.std.specs.Prelude.{false, List, [], ◌∷◌, ◌++◌, ◌≡◌, refl, ℕ, ◌+◌, ◌≤◌, Ok}
 use Rattle.std.proofs.Common.{true≢false, ◌∙◌, ap₂, arith, length-append}
 use Rattle.std.proofs.Math.Path.{ap, sym, subst}
 use Rattle.std.proofs.Math.ListN.{length}
@@ -11,7 +11,6 @@ use Rattle.elements.specs.declared.SheetForm.{SheetForm}
 use Rattle.elements.specs.declared.SheetForm.TheVariants.{One, Two}
 use Rattle.elements.specs.Print.{Entry, P, word, none, mono, group, jukugo, right_text, left_text, element_text, elements_text, LeftFit, Fit}
 use Rattle.sheet.specs.declared.Counts.{Counts}
-use Rattle.sheet.specs.declared.Reading.TheVariants.{Sound}
 use Rattle.sheet.specs.Sheet.{Sheet, plain, reading}
 use Rattle.sheet.specs.Form.{Written, InForm, Shown, sheet_text, sheet_of, written_of}
 use Rattle.sheet.specs.Reads.{sheet-reads}
@@ -132,7 +131,7 @@ other_by_lem s = refl
 
 -- a sheet that has another form: it is sound, form one can hold it, and the other sheet is not over-long
 pub record Goes (s : List ℕ) (n : Counts) : Type 0 where
-  pub sound : (reading s).end ≡ Sound n
+  pub sound : (reading s).end ≡ Ok n
   pub holds : Holds (written_of (reading s))
   pub short : length (other_text s) ≤ 65535
 
@@ -164,7 +163,7 @@ module _ {s : List ℕ} {n : Counts} (goes : Goes s n) where
       swap Two = alike r
 
 -- the way back is never over-long
-pub back-short : (s : List ℕ) (n : Counts) → (reading s).end ≡ Sound n → Holds (written_of (reading s)) → (reading s).form ≡ Two → length (other_text s) ≤ 65535
+pub back-short : (s : List ℕ) (n : Counts) → (reading s).end ≡ Ok n → Holds (written_of (reading s)) → (reading s).form ≡ Two → length (other_text s) ≤ 65535
 unfolding other
 back-short s n e h two =
     let r = written_of (reading s) in

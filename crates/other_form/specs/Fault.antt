@@ -1,7 +1,8 @@
 -- The first line at fault, by the tables that a sheet was read to: they hold its numbers column by column, so that it is the one that the document means (`line_by_lem`).
-use Rattle.std.specs.Prelude.{Bool, true, false, cond, ◌||◌, ◌≡◌, refl, ℕ, suc, ◌+◌, ◌-◌, ◌≤◌, ◌<◌, eqb, ltb, length, get_or, drop}
+use Rattle.std.proofs.lemmas.Bool.Decides.{nat_tests}
+use Rattle.std.specs.Prelude.{Bool, true, false, cond, ◌||◌, ◌≡◌, refl, ℕ, suc, ◌+◌, ◌-◌, ◌≤◌, ◌<◌, eqb, ltb, length, get_or, drop, Ok, Option, Some, None}
 use mathlib.Core.List.{List, [], ◌∷◌, ◌++◌}
-use Rattle.std.proofs.Common.{◌∙◌, sym, arith, eq-eqb, ne_eqb, drop_of_length-le, take_all}
+use Rattle.std.proofs.Common.{◌∙◌, sym, arith, eq-eqb, ne_eqb, eqb-true, drop_of_length-le, take_all}
 use Rattle.std.proofs.Math.Path.{ap}
 use Rattle.std.proofs.lemmas.List.{length-map}
 use Rattle.text.specs.Places.{drop_at}
@@ -12,7 +13,6 @@ use Rattle.elements.specs.declared.SheetForm.{SheetForm}
 use Rattle.elements.specs.declared.SheetForm.TheVariants.{One, Two}
 use Rattle.elements.specs.Print.{Entry, P, word, none, mono, group, jukugo, element_of, rows_of, rows-many, rows-wide}
 use Rattle.sheet.specs.declared.Counts.{Counts}
-use Rattle.sheet.specs.declared.Reading.TheVariants.{Sound}
 use Rattle.sheet.specs.Sheet.{Sheet, plain, singles, reading, Tables, Into}
 use Rattle.sheet.specs.Form.{Written, Shown, sheet_of, written_of}
 use Rattle.sheet.specs.Reads.{single-wide}
@@ -27,6 +27,10 @@ unfoldable pub line_by : Counts → List ℕ → List ℕ → ℕ
 unfolding unlike
 line_by n set elem =
     first_or 0 (unlike 4 (drop 2 set) plain ++ cond (ltb 0 n.lefts || any (other 78) (part 3072 (3072 + n.elements) elem)) (left_line n.bases n.rubies ∷ []) [])
+
+-- as the code tells it: none where there is no such line, since lines are counted from 1
+unfoldable pub line_told : ℕ → Option ℕ
+line_told line = cond (eqb line 0) None (Some line)
 
 -- One step, for the code: a number that is the one of form one, and one that is not.
 module _ (set : List ℕ) (line i : ℕ) (in_set : i + 2 < length set) (in-plain : i < 7) where
@@ -47,6 +51,14 @@ pub unlike-none : (set : List ℕ) (line i : ℕ) → length set ≡ 9 → 7 ≤
 unfolding unlike
 unlike-none set line i h g = let e : drop (i + 2) set ≡ [] = drop_of_length-le set {i = i + 2} (omega arith) in rw e
 
+-- the same by the index of the number
+pub unlike_next : (set : List ℕ) (i : ℕ) → i + 2 < length set → i < 7 → get_or set (i + 2) 0 ≡ get_or plain i 0 →
+    unlike (i + 4) (drop (i + 2) set) (drop i plain) ≡ unlike (i + 1 + 4) (drop (i + 1 + 2) set) (drop (i + 1) plain)
+unlike_next set i l h e = unlike-on set (i + 4) i l h e ∙ ap (λ q. unlike q (drop (i + 1 + 2) set) (drop (i + 1) plain)) (shift i)
+  where
+    shift : (i : ℕ) → i + 4 + 1 ≡ i + 1 + 4
+    shift i = omega arith
+
 -- lines at fault have numbers over 0
 some-line : (line : ℕ) (vs ps : List ℕ) → 0 < line → first_or 0 (unlike line vs ps) ≡ 0 → unlike line vs ps ≡ []
 unfolding unlike
@@ -58,6 +70,18 @@ some-line line (v ∷ vs) (p ∷ ps) h e = go (eqb v p) (unlike (line + 1) vs ps
     go true rest f e = f e
     go false rest f e = absurd (omega arith)
 
+some-told : (line : ℕ) → 0 < line → Some line ≡ line_told line
+unfolding line_told
+some-told line h = rw (ne_eqb line 0 (λ e. absurd (omega arith)))
+
+zero-told : (line : ℕ) → None ≡ line_told line → line ≡ 0
+unfolding line_told
+zero-told line e = go (eqb line 0) refl e
+  where
+    go : (t : Bool) → eqb line 0 ≡ t → None ≡ cond t None (Some line) → line ≡ 0
+    go true z e = eqb-true line 0 z
+    go false z e = absurd (let z : ◌≡◌ {A = ℕ} 0 1 = cc in omega arith)
+
 -- the numbers at fault are first, then the line `left`
 module _ (n : Counts) (set elem : List ℕ) where
   abbrev found : List ℕ
@@ -66,25 +90,25 @@ module _ (n : Counts) (set elem : List ℕ) where
   abbrev letter : Bool
   letter = any (other 78) (part 3072 (3072 + n.elements) elem)
 
-  pub by_number : {l : ℕ} → l ≡ first_or 0 found → (l ≡ 0 → ⊥) → l ≡ line_by n set elem
-  unfolding line_by
-  by_number {l} e h = go found e (cond (ltb 0 n.lefts || letter) (left_line n.bases n.rubies ∷ []) [])
+  pub by_number : {l : ℕ} → Some l ≡ line_told (first_or 0 found) → Some l ≡ line_told (line_by n set elem)
+  unfolding line_by line_told
+  by_number {l} e = go found e (cond (ltb 0 n.lefts || letter) (left_line n.bases n.rubies ∷ []) [])
     where
-      go : (fs : List ℕ) → l ≡ first_or 0 fs → (rest : List ℕ) → l ≡ first_or 0 (fs ++ rest)
-      go [] e rest = absurd (h e)
+      go : (fs : List ℕ) → Some l ≡ line_told (first_or 0 fs) → (rest : List ℕ) → Some l ≡ line_told (first_or 0 (fs ++ rest))
+      go [] e rest = absurd (let z : ◌≡◌ {A = ℕ} 0 1 = cc in omega arith)
       go (f ∷ fs) e rest = e
 
-  -- no number is at fault where the first line found is 0: the lines begin with 4
-  none_found : {l : ℕ} → l ≡ first_or 0 found → l ≡ 0 → found ≡ []
-  none_found e z = some-line 4 (drop 2 set) plain (omega arith) (sym e ∙ z)
+  -- no number is at fault where none was found: the lines begin with 4
+  none_found : None ≡ line_told (first_or 0 found) → found ≡ []
+  none_found z = some-line 4 (drop 2 set) plain (omega arith) (zero-told (first_or 0 found) z)
 
-  pub by_left : {l : ℕ} → l ≡ first_or 0 found → l ≡ 0 → (ltb 0 n.lefts || letter) ≡ true → left_line n.bases n.rubies ≡ line_by n set elem
+  pub by_left : None ≡ line_told (first_or 0 found) → (ltb 0 n.lefts || letter) ≡ true → Some (left_line n.bases n.rubies) ≡ line_told (line_by n set elem)
   unfolding line_by
-  by_left e z t = rw (none_found e z, t)
+  by_left z t = rw (none_found z, t) (some-told (left_line n.bases n.rubies) (omega arith))
 
-  pub by-none : {l : ℕ} → l ≡ first_or 0 found → l ≡ 0 → (ltb 0 n.lefts || letter) ≡ false → 0 ≡ line_by n set elem
-  unfolding line_by
-  by-none e z t = rw (none_found e z, t)
+  pub by-none : None ≡ line_told (first_or 0 found) → (ltb 0 n.lefts || letter) ≡ false → None ≡ line_told (line_by n set elem)
+  unfolding line_by line_told
+  by-none z t = rw (none_found z, t)
 
 -- a letter
 letters-any : (es : List Entry) → any (other 78) (column 3 (rows_of es)) ≡ any has_left es
@@ -103,7 +127,7 @@ house-seven One r h = ap length h.0
 house-seven Two r h = h.0
 
 -- The tables of a sound sheet.
-module _ {s : List ℕ} {was t : Tables} {n : Counts} (into : Into s was (Sound n) t) (nine : length was.set ≡ 9) (long : length was.elem ≡ 5120) where
+module _ {s : List ℕ} {was t : Tables} {n : Counts} (into : Into s was (Ok n) t) (nine : length was.set ≡ 9) (long : length was.elem ≡ 5120) where
   abbrev r : Written
   r = written_of (reading s)
 
@@ -149,3 +173,7 @@ module _ {s : List ℕ} {was t : Tables} {n : Counts} (into : Into s was (Sound 
   pub line_by_lem : line_by n t.set t.elem ≡ fault_line r
   unfolding line_by fault_line faults
   line_by_lem = rw (set_holds_lem, letters_hold, letters-any r.elem, k.lefts, k.bases, k.rubies)
+
+pub ruleset unlike_steps = (unlike-here, unlike_next, unlike-none)
+
+pub ruleset fault_steps = (by_number, by_left, by-none, nat_tests)

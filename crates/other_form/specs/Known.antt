@@ -1,5 +1,6 @@
 -- What a sound reading says of a sheet: its bytes are the text of its numbers, which are in form, and the counts are theirs. So it is known where each part of it stands.
-use Rattle.std.specs.Prelude.{List, [], ◌∷◌, ◌++◌, ◌≡◌, refl, ℕ, ◌+◌, length, drop}
+use Rattle.refusal.specs.declared.Refusal.{Refusal}
+use Rattle.std.specs.Prelude.{Result, List, [], ◌∷◌, ◌++◌, ◌≡◌, refl, ℕ, ◌+◌, length, drop, Ok}
 use Rattle.std.proofs.Common.{◌∙◌, ap, sym, subst, add-zero, arith, append-nil}
 use Rattle.std.proofs.Math.Seq.{drop-length}
 use Rattle.text.specs.Print.{bytes}
@@ -9,7 +10,6 @@ use Rattle.elements.specs.declared.SheetForm.{SheetForm}
 use Rattle.elements.specs.declared.SheetForm.TheVariants.{One, Two}
 use Rattle.elements.specs.Print.{elements_text}
 use Rattle.sheet.specs.declared.Counts.{Counts}
-use Rattle.sheet.specs.declared.Reading.TheVariants.{Sound}
 use Rattle.sheet.specs.Sheet.{Sheet, plain, singles, reading}
 use Rattle.sheet.specs.Form.{Written, sheet_text, InForm, sheet_of, written_of}
 use Rattle.sheet.specs.Reads.{sheet-reads}
@@ -26,10 +26,10 @@ pub record Known (s : List ℕ) (n : Counts) : Type 0 where
   pub lefts : n.lefts ≡ length (written_of (reading s)).left
   pub elements : n.elements ≡ length (written_of (reading s)).elem
 
-sound-one : {a b : Counts} → Sound a ≡ Sound b → a ≡ b
+sound-one : {a b : Counts} → ◌≡◌ {A = Result Counts Refusal} (Ok a) (Ok b) → a ≡ b
 sound-one e = cc
 
-pub known : {s : List ℕ} {n : Counts} → (reading s).end ≡ Sound n → Known s n
+pub known : {s : List ℕ} {n : Counts} → (reading s).end ≡ Ok n → Known s n
 unfolding sheet_of
 known {s} {n} e =
     let f = (reading s).form in

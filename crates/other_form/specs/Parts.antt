@@ -43,3 +43,5 @@ pub length-parts : (k : Cuts) (s first house left : List ℕ) →
     length (parts_text k s first house left) ≡ length first + (length (part 6 k.a s) + (length house + (length (part k.a2 k.b s) + (length left + length (part k.b2 k.c s)))))
 unfolding parts_text
 length-parts k s first house left = simp length-append
+
+pub ruleset cut_steps = (cut-a, cut-b, cuts_are)

@@ -1,9 +1,9 @@
 -- What the functions that write the other sheet ask for.
-use Rattle.std.specs.Prelude.{List, ◌≡◌, ℕ, ◌+◌, ◌-◌, ◌≤◌, length}
+use Rattle.std.specs.Prelude.{List, ◌≡◌, ℕ, ◌+◌, ◌-◌, ◌≤◌, length, Ok}
 use Rattle.std.proofs.Common.{◌∙◌}
+use Rattle.text.specs.Written.{same-long, then}
 use Rattle.elements.specs.declared.SheetForm.{SheetForm}
 use Rattle.sheet.specs.declared.Counts.{Counts}
-use Rattle.sheet.specs.declared.Reading.TheVariants.{Sound}
 use Rattle.sheet.specs.Sheet.{reading}
 use Rattle.sheet.specs.Form.{written_of}
 use Rattle.other_form.specs.declared.Cuts.{Cuts}
@@ -47,7 +47,7 @@ parts-size {k} {s} {first} {house} {left} q =
 
 -- the reading is sound, form one can hold it, and there is room for the other sheet
 pub record OtherReady (s : List ℕ) (n : Counts) (out : List ℕ) : Type 0 where
-  pub sound : (reading s).end ≡ Sound n
+  pub sound : (reading s).end ≡ Ok n
   pub holds : Holds (written_of (reading s))
   pub room : length (other_text s) ≤ length out
 
@@ -62,3 +62,5 @@ pub record FaultReady (n : Counts) (set elem : List ℕ) : Type 0 where
   pub long : length elem ≡ 5120
   pub few : n.bases + n.rubies ≤ 65535
   pub elements : n.elements ≤ 1024
+
+pub ruleset part_steps = (parts-size, same-long, length_part, then)

@@ -2,6 +2,7 @@
 use Rattle.std.specs.Prelude.{Bool, true, false, cond, List, [], ◌∷◌, ◌++◌, ◌≡◌, refl, ℕ, zero, suc, ◌+◌, ◌-◌, ◌≤◌, ◌<◌, eqb, length, get_or, drop}
 use Rattle.std.proofs.Common.{◌∙◌, ap, sym, add-zero, arith, eq-eqb, ne_eqb, length-append, drop_of_length-le, get_or-drop}
 use Rattle.std.proofs.lemmas.List.Edits.{sets}
+use Rattle.std.proofs.lemmas.Bool.Decides.{nat_tests}
 use Rattle.basics.specs.Laws.{sets_append}
 use Rattle.text.specs.Print.{Wrote}
 use Rattle.text.specs.Places.{drop_at}
@@ -96,3 +97,13 @@ write_done {t} {to} {all} {u} {p} now e w = record { next = omega (arith, w.plac
 -- nothing written
 pub wrote_none : (t : List ℕ) (at : ℕ) (xs : List ℕ) → xs ≡ [] → Wrote t at xs at t
 wrote_none t at xs e = record { next = omega (arith, ap length e); holds = sym (ap (λ l. sets t at l) e) }
+
+pub ruleset past_steps = (past-step, past-none, past_end, nat_tests)
+
+pub ruleset on_cases = (on-other, on-plain, on-letter)
+
+pub ruleset off_cases = (off-letter, off-other, off-before, off-space, wrote_none)
+
+pub ruleset on_steps = (on_step, on_end, write_all, write_step, write_done, length-append)
+
+pub ruleset off_steps = (off-step, off-end, write_all, write_step, write_done, length-append)

@@ -11,34 +11,28 @@ ghost use Rattle.other_form.specs.Other.{other_text, unlike, first_or, left_line
 ghost use Rattle.other_form.specs.Bytes.{past_lines, on_by, letters_on, off_by, letters_off};
 ghost use Rattle.other_form.specs.Parts.{part, parts_text, cuts_of};
 ghost use Rattle.other_form.specs.Ready.{LettersReady, CutsReady, PartReady, PartsReady, SheetReady, OtherReady, FaultReady};
-ghost use Rattle.other_form.specs.Fault.{line_by};
+ghost use Rattle.other_form.specs.Fault.{line_by, line_told};
 
-// How many lines are left to count past a byte: "each line ended by LF".
-fn fewer(k: usize, b: u8) -> usize
-    requires { 0 < k }
-    ensures { result ≡ cond (eqb b 10) (k - 1) k }
-{
-    if b == b'\n' { k - 1 } else { k }
-}
-
-// The place past n lines from a place on.
+// The place past n lines from a place on: "each line ended by LF".
+#[tactic(auto, using(crate::specs::Steps::past_steps))]
 fn lines_past(s: &[u8], from: usize, n: usize) -> usize
     requires { from ≤ length s.now }
     ensures { result ≡ past_lines n (drop from s.now) from }
 {
-    let mut at = from;
     let mut k = n;
-    while at < s.len() {
+    for at in from..s.len() {
         if k == 0 {
             return at;
         }
-        k = fewer(k, s[at]);
-        at += 1;
+        if s[at] == b'\n' {
+            k -= 1;
+        }
     }
-    at
+    s.len()
 }
 
 // A byte of a line of `elem` after the byte `last`, in form two: the letter N goes before the LF.
+#[tactic(auto, using(crate::specs::Steps::on_cases))]
 fn put_on(out: &mut [u8], at: usize, last: u8, b: u8) -> usize
     requires { at + length (on_by last b) ≤ length out.old }
     ensures { Wrote out.old at (on_by last b) result out.new }
@@ -53,23 +47,22 @@ fn put_on(out: &mut [u8], at: usize, last: u8, b: u8) -> usize
 }
 
 // "each M, G and J line ends in a letter for the left kind": N on the lines from a place on.
+#[tactic(auto, using(crate::specs::Steps::on_steps))]
 fn letters_on(s: &[u8], from: usize, out: &mut [u8], to: usize) -> usize
     requires { LettersReady (letters_on 10 (drop from s.now)) s.now from out.old to }
     ensures { Wrote out.old to (letters_on 10 (drop from s.now)) result out.new }
 {
-    let mut at = from;
     let mut p = to;
-    let mut last: u8 = b'\n';
-    while at < s.len() {
-        let b = s[at];
-        p = put_on(out, p, last, b);
-        last = b;
-        at += 1;
+    let mut last = b'\n';
+    for at in from..s.len() {
+        p = put_on(out, p, last, s[at]);
+        last = s[at];
     }
     p
 }
 
 // A byte of a line of `elem` before the byte `next`, in form one: N goes, and the space before it.
+#[tactic(auto, using(crate::specs::Steps::off_cases))]
 fn put_off(out: &mut [u8], at: usize, b: u8, next: u8) -> usize
     requires { at + length (off_by b next) ≤ length out.old }
     ensures { Wrote out.old at (off_by b next) result out.new }
@@ -87,16 +80,14 @@ fn put_off(out: &mut [u8], at: usize, b: u8, next: u8) -> usize
 }
 
 // The lines from a place on without the letter N.
+#[tactic(auto, using(crate::specs::Steps::off_steps))]
 fn letters_off(s: &[u8], from: usize, out: &mut [u8], to: usize) -> usize
     requires { LettersReady (letters_off (drop from s.now)) s.now from out.old to }
     ensures { Wrote out.old to (letters_off (drop from s.now)) result out.new }
 {
-    let mut at = from;
     let mut p = to;
-    while at < s.len() {
-        let next = at + 1;
-        p = put_off(out, p, s[at], elements::byte_at(s, next));
-        at = next;
+    for at in from..s.len() {
+        p = put_off(out, p, s[at], elements::byte_at(s, at + 1));
     }
     p
 }
@@ -112,6 +103,7 @@ struct Cuts {
 }
 
 // These places, where x bytes stand before `base` and y before `elem` that form one does not have.
+#[tactic(auto, using(crate::specs::Parts::cut_steps))]
 fn cuts_of(s: &[u8], n: sheet::Counts, x: usize, y: usize) -> Cuts
     requires { CutsReady s.now n x y }
     ensures { result ≡ cuts_of s.now n x y }
@@ -126,6 +118,7 @@ fn cuts_of(s: &[u8], n: sheet::Counts, x: usize, y: usize) -> Cuts
 }
 
 // The bytes of a sheet from one place up to another.
+#[tactic(auto, using(crate::specs::Parts::length_part))]
 fn put_part(out: &mut [u8], at: usize, s: &[u8], from: usize, upto: usize) -> usize
     requires { PartReady s.now from upto out.old at }
     ensures { Wrote out.old at (part from upto s.now) result out.new }
@@ -134,6 +127,7 @@ fn put_part(out: &mut [u8], at: usize, s: &[u8], from: usize, upto: usize) -> us
 }
 
 // The three parts that both forms have, each behind a word: the first line, the seven numbers, the line `left`.
+#[tactic(auto, using(crate::specs::Ready::part_steps), unfolding(crate::specs::Parts::parts_text))]
 fn put_parts(s: &[u8], cuts: Cuts, first: &[u8], house: &[u8], left: &[u8], out: &mut [u8]) -> usize
     requires { PartsReady cuts s.now first.now house.now left.now out.old }
     ensures { Wrote out.old 0 (parts_text cuts s.now first.now house.now left.now) result out.new }
@@ -173,7 +167,7 @@ fn to_one(s: &[u8], n: sheet::Counts, out: &mut [u8]) -> usize
     letters_off(s, cuts.c, out, p)
 }
 
-// Writes a sound sheet in the other form; the answer is how many bytes it has. Form two begins with `set 9`.
+/// Writes a sound sheet in the other form; the answer is how many bytes it has. Form two begins with `set 9`.
 pub fn write_other(s: &[u8], n: sheet::Counts, out: &mut [u8]) -> usize
     requires { OtherReady s.now n out.old }
     ensures { Wrote out.old 0 (other_text s.now) result out.new }
@@ -188,23 +182,18 @@ pub fn write_other(s: &[u8], n: sheet::Counts, out: &mut [u8]) -> usize
 // What form one does not show behind em and measure: "both ratios are 1:2:1 and the profile is 0".
 const PLAIN: [u32; 7] = [1, 2, 1, 1, 2, 1, 0];
 
-// The first line of a ratio or of the profile that form one can't hold, 0 if it can: line 4 has the first of these numbers.
-fn number_line(set: &[u32]) -> u32
+// The first line of a ratio or of the profile that form one can't hold: line 4 has the first of these numbers.
+#[tactic(auto, using(crate::specs::Fault::unlike_steps), unfolding(crate::specs::Fault::line_told))]
+fn number_line(set: &[u32]) -> Option<u32>
     requires { length set.now ≡ 9 }
-    ensures { result ≡ first_or 0 (unlike 4 (drop 2 set.now) plain) }
+    ensures { result ≡ line_told (first_or 0 (unlike 4 (drop 2 set.now) plain)) }
 {
-    let plain = PLAIN;
-    let mut line: u32 = 4;
-    let mut i: usize = 0;
-    while i < 7 {
-        let at = i + 2;
-        if set[at] != plain[i] {
-            return line;
+    for i in 0..7 {
+        if set[i + 2] != PLAIN[i] {
+            return Some(i as u32 + 4);
         }
-        line += 1;
-        i += 1;
     }
-    0
+    None
 }
 
 // The number of the line `left`.
@@ -215,21 +204,18 @@ fn left_line(n: sheet::Counts) -> u32
     (n.bases + n.rubies + 13) as u32
 }
 
-// "17, a form two sheet that form one can't hold, .. place the first line at fault": its number by the tables that a sound sheet was read to, 0 if form one can hold it.
-pub fn fault_line(n: sheet::Counts, set: &[u32], elem: &[u32]) -> u32
+/// "17, a form two sheet that form one can't hold, .. place the first line at fault": its number by the tables that a sound sheet was read to, and none if form one can hold it.
+#[tactic(auto, using(crate::specs::Fault::fault_steps))]
+pub fn fault_line(n: sheet::Counts, set: &[u32], elem: &[u32]) -> Option<u32>
     requires { FaultReady n set.now elem.now }
-    ensures { result ≡ line_by n set.now elem.now }
+    ensures { result ≡ line_told (line_by n set.now elem.now) }
 {
-    let line = number_line(set);
-    if line != 0 {
-        return line;
+    if let Some(line) = number_line(set) {
+        return Some(line);
     }
-    if 0 < n.lefts {
-        return left_line(n);
+    let end = limits::ELEMENT_LEFT_KIND + n.elements;
+    if 0 < n.lefts || basics::any_but(limits::LEFT_NONE, &elem[limits::ELEMENT_LEFT_KIND..end]) {
+        return Some(left_line(n));
     }
-    let e = limits::ELEMENT_LEFT_KIND + n.elements;
-    if basics::any_but(limits::LEFT_NONE, &elem[limits::ELEMENT_LEFT_KIND..e]) {
-        return left_line(n);
-    }
-    0
+    None
 }

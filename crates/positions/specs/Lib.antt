@@ -4,6 +4,7 @@ pub mod Lists
 pub mod Ready
 pub mod Runs
 pub mod Piece
+pub mod Word
 pub mod Walk
 pub mod Line
 pub mod Lines

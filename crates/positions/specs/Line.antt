@@ -11,7 +11,7 @@ use Rattle.line.specs.declared.Side.TheVariants.{Right, Left}
 use Rattle.line.specs.declared.State.{State}
 use Rattle.line.specs.Setting.{start, origin, furthest}
 use Rattle.line.proofs.Bound.{origin_bound}
-use Rattle.cells.specs.Cells.{size, cell_at, next, stop, Advances}
+use Rattle.cells.specs.Cells.{cell_at, next, stop, Advances}
 use Rattle.cells.specs.Sound.{advances}
 use Rattle.cells.specs.Walk.{next-near, stop-whole}
 use Rattle.positions.specs.Positions.{Sheet, lent, widths_of, first, word_of, reading_of, piece_of, reading_by, base_put, side_put, put_from, base_of, side_of}
@@ -108,7 +108,7 @@ module _ {g : Sheet} {s e : ℕ} {was wasRuby wasLeft : List ℕ} (ready : LineR
       reads : (v : Side) → SideFits v g ready.n (pick ready.m ready.l v) i (stop g.t i e)
       reads v = side-here ready.table e ready.within ready.permits i h v (q.begins h)
 
-      pub held : size (i + 1) ≤ length g.t
+      pub held : i < length g.t.rows
       held = omega (arith, in_table, ready.table.sound.long)
 
       pub few : (i < 1024) × (0 < (cell_at g.t i).bases) × ((cell_at g.t i).bases ≤ 32)

@@ -12,7 +12,8 @@ use Rattle.word.specs.declared.Reading.{Reading}
 use Rattle.word.specs.Word.{base_starts}
 use Rattle.line.specs.declared.Side.{Side}
 use Rattle.line.specs.declared.Side.TheVariants.{Right, Left}
-use Rattle.cells.specs.Cells.{size, cell_at, share_of}
+use Rattle.cells.specs.Rows.{Rows}
+use Rattle.cells.specs.Cells.{cell_at, share_of}
 use Rattle.cells.specs.Sound.{cut_word, part-bare}
 use Rattle.positions.specs.Positions.{Sheet, lent, widths_of, first, run_end, reading_end, reading_lent, runs_put, reading_by, word_of, reading_of, base_put, side_put}
 use Rattle.positions.specs.Lists.{lent-long}
@@ -20,10 +21,10 @@ use Rattle.positions.specs.Ready.{StringReady, Runs, Fits, SideFits, pick, Writa
 use Rattle.positions.specs.Runs.{RunsReady, runs-long}
 
 -- What the writing of a piece's reading asks for, v where it has one and x its origin.
-pub record ReadingReady (side : Side) (t : List ℕ) (i c : ℕ) (v : Reading) (x : ℕ) (ws out : List ℕ) : Type 0 where
+pub record ReadingReady (side : Side) (t : Rows) (i c : ℕ) (v : Reading) (x : ℕ) (ws out : List ℕ) : Type 0 where
   pub ahead : i < c
   pub rows : c ≤ 1024
-  pub held : size c ≤ length t
+  pub held : c ≤ length t.rows
   pub runs : v.there ≡ true → v.runs ≡ true → RunsReady side t i c x ws out
   pub string : v.there ≡ true → v.runs ≡ false → StringReady (x + v.from) v.within (first side t i) (reading_end side t i c) ws out
 

@@ -10,16 +10,18 @@ use Rattle.line.specs.declared.Side.{Side}
 use Rattle.line.specs.declared.Side.TheVariants.{Right, Left}
 use Rattle.line.specs.declared.State.{State}
 use Rattle.line.specs.Setting.{start, origin}
-use Rattle.cells.specs.Cells.{em_at, cell_at, share_of, word_at, piece, next, stop}
+use Rattle.cells.specs.Rows.{Rows}
+use Rattle.cells.specs.Rows.{Rows}
+use Rattle.cells.specs.Cells.{cell_at, share_of, word_at, piece, next, stop}
 
 -- a table, and the lists that are read beside it: the widths of base characters, and of those of either side
 pub record Sheet : Type 0 where
-  pub t : List ℕ
+  pub t : Rows
   pub width : List ℕ
   pub ruby_width : List ℕ
   pub left_width : List ℕ
 
-abbrev pub sheet : List ℕ → List ℕ → List ℕ → List ℕ → Sheet
+abbrev pub sheet : Rows → List ℕ → List ℕ → List ℕ → Sheet
 sheet t width ruby_width left_width = record { t = t; width = width; ruby_width = ruby_width; left_width = left_width }
 
 abbrev pub widths_of : Side → Sheet → List ℕ
@@ -35,33 +37,33 @@ abbrev pub over : List ℕ → List ℕ → List ℕ
 over new was = new ++ drop (length new) was
 
 -- Of one side: the first character of row i and the end of its share; and the end of the piece from i up to c, which is its last row's where its element may be cut.
-abbrev pub first : Side → List ℕ → ℕ → ℕ
+abbrev pub first : Side → Rows → ℕ → ℕ
 first side t i = (share_of side (cell_at t i)).first
 
-abbrev pub own : Side → List ℕ → ℕ → ℕ
+abbrev pub own : Side → Rows → ℕ → ℕ
 own side t i = (share_of side (cell_at t i)).own
 
-abbrev pub run_end : Side → List ℕ → ℕ → ℕ
+abbrev pub run_end : Side → Rows → ℕ → ℕ
 run_end side t i = first side t i + (share_of side (cell_at t i)).many
 
-abbrev pub reading_end : Side → List ℕ → ℕ → ℕ → ℕ
+abbrev pub reading_end : Side → Rows → ℕ → ℕ → ℕ
 reading_end side t i c = cond (cell_at t i).cut (run_end side t (c - 1)) (run_end side t i)
 
 -- the widths of a row's share, and of a piece's
-abbrev pub run_lent : Side → List ℕ → List ℕ → ℕ → List ℕ
+abbrev pub run_lent : Side → Rows → List ℕ → ℕ → List ℕ
 run_lent side t ws i = lent ws (first side t i) (run_end side t i)
 
-abbrev pub reading_lent : Side → List ℕ → List ℕ → ℕ → ℕ → List ℕ
+abbrev pub reading_lent : Side → Rows → List ℕ → ℕ → ℕ → List ℕ
 reading_lent side t ws i c = lent ws (first side t i) (reading_end side t i c)
 
 -- the runs of k rows from i on, each solid over its own character of one em, the first of which starts at x
-unfoldable pub runs_put : Side → List ℕ → List ℕ → ℕ → ℕ → ℕ → List ℕ
+unfoldable pub runs_put : Side → Rows → List ℕ → ℕ → ℕ → ℕ → List ℕ
 unfolding starts
 runs_put side t ws zero i x = []
-runs_put side t ws (suc k) i x = starts 0 (x + (em_at t - own side t i)) (run_lent side t ws i) ++ runs_put side t ws k (i + 1) (x + 2 * em_at t)
+runs_put side t ws (suc k) i x = starts 0 (x + (t.em - own side t i)) (run_lent side t ws i) ++ runs_put side t ws k (i + 1) (x + 2 * t.em)
 
 -- the reading v of the piece from i up to c, the origin of its word at x: run by run, or as one string
-unfoldable pub reading_by : Side → List ℕ → List ℕ → Reading → ℕ → ℕ → ℕ → List ℕ
+unfoldable pub reading_by : Side → Rows → List ℕ → Reading → ℕ → ℕ → ℕ → List ℕ
 unfolding starts runs_put
 reading_by side t ws v i c x = cond v.there (cond v.runs (runs_put side t ws (c - i) i x) (starts v.within (x + v.from) (reading_lent side t ws i c))) []
 

@@ -3,7 +3,8 @@ use Rattle.std.specs.Prelude.{◌≡◌, true, false, ◌⊎◌, List, [], ◌�
 use Rattle.basics.specs.Lists.{sum}
 use Rattle.line.specs.declared.Side.{Side}
 use Rattle.line.specs.declared.Side.TheVariants.{Right, Left}
-use Rattle.cells.specs.Cells.{em_at, cell_at, share_of, may_end}
+use Rattle.cells.specs.Rows.{Rows}
+use Rattle.cells.specs.Cells.{cell_at, share_of, may_end}
 use Rattle.cells.specs.Sound.{Sound}
 use Rattle.positions.specs.Positions.{Sheet, lent, widths_of, first, own, run_end, reading_end, run_lent, reading_lent, word_of, reading_of}
 
@@ -18,14 +19,14 @@ pub record StringReady (at within a e : ℕ) (ws out : List ℕ) : Type 0 where
   pub near : at + 2 * sum (lent ws a e) + within ≤ 4294967295
 
 -- The run of row i on one side, of m characters there in all: it is no longer than one em.
-pub record Run (side : Side) (t ws : List ℕ) (m i : ℕ) : Type 0 where
+pub record Run (side : Side) (t : Rows) (ws : List ℕ) (m i : ℕ) : Type 0 where
   pub few : (share_of side (cell_at t i)).many ≤ 64
   pub within : run_end side t i ≤ m
   pub long : sum (run_lent side t ws i) ≡ own side t i
-  pub short : own side t i ≤ em_at t
+  pub short : own side t i ≤ t.em
 
 -- The runs of the rows i up to c follow each other.
-pub record Runs (side : Side) (t ws : List ℕ) (m i c : ℕ) : Type 0 where
+pub record Runs (side : Side) (t : Rows) (ws : List ℕ) (m i c : ℕ) : Type 0 where
   pub each : (k : ℕ) → i ≤ k → k < c → Run side t ws m k
   pub follows : (k : ℕ) → i ≤ k → k + 1 < c → first side t (k + 1) ≡ run_end side t k
 
@@ -48,10 +49,10 @@ pub record SideFits (side : Side) (g : Sheet) (n m i c : ℕ) : Type 0 where
   pub follows : c < n → first side g.t c ≡ reading_end side g.t i c
 
 -- a piece may begin at i, where an element begins or inside one that may be cut; it ends with its element, or inside such a one
-abbrev pub Begins : List ℕ → ℕ → Type 0
+abbrev pub Begins : Rows → ℕ → Type 0
 Begins t i = ((cell_at t i).cut ≡ true) ⊎ ((i ≡ 0) ⊎ ((cell_at t (i - 1)).bases ≡ 1))
 
-abbrev pub Stops : List ℕ → ℕ → ℕ → Type 0
+abbrev pub Stops : Rows → ℕ → ℕ → Type 0
 Stops t i c = ((cell_at t i).cut ≡ true) ⊎ (c ≡ i + (cell_at t i).bases)
 
 -- one of two numbers, by the side
@@ -83,7 +84,7 @@ pub record LineReady (g : Sheet) (s e : ℕ) (base ruby left : List ℕ) : Type 
   pub permits : may_end g.t n e ≡ true
 
 -- lines from s on, each of which ends where one may
-abbrev pub Chained : List ℕ → ℕ → ℕ → List ℕ → Type 0
+abbrev pub Chained : Rows → ℕ → ℕ → List ℕ → Type 0
 Chained t n s [] = Unit
 Chained t n s (e ∷ es) = (s < e) × (e ≤ n) × (may_end t n e ≡ true) × Chained t n e es
 

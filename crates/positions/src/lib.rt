@@ -4,16 +4,17 @@
 // for rows and pieces, on `spread` for the characters of a string, and on `line`.
 #![tactic(auto)]
 
-ghost use Rattle.std.specs.Prelude.{◌≡◌, ◌+◌, ◌-◌, ◌*◌, ◌≤◌, ◌<◌, min, length, take};
+ghost use Rattle.std.specs.Prelude.{◌≡◌, ◌+◌, ◌-◌, ◌*◌, ◌≤◌, ◌<◌, length, take};
 ghost use Rattle.std.proofs.lemmas.List.Edits.{sets};
 ghost use Rattle.spread.specs.Gap.{starts};
 ghost use Rattle.word.specs.Word.{base_starts};
 ghost use Rattle.line.specs.declared.Side.TheVariants.{Right, Left};
-ghost use Rattle.cells.specs.Cells.{size};
 ghost use Rattle.positions.specs.Positions.{sheet, lent, over, first, reading_end, runs_put, reading_by, base_of, ruby_of, left_of, base_over, side_over, lines_over};
 ghost use Rattle.positions.specs.Ready.{StringReady, LineReady, LinesReady};
 ghost use Rattle.positions.specs.Runs.{RunsReady};
 ghost use Rattle.positions.specs.Piece.{ReadingReady};
+ghost use Rattle.positions.specs.Word.{WordReady, WordPut};
+ghost use Rattle.cells.specs.Cells.{word_at};
 
 // The starts of the characters a up to e, the first of them at `at`, with `within` half units of space within the string.
 fn put_string(at: u32, within: u32, a: usize, e: usize, ws: &[u32], out: &mut [u32])
@@ -24,6 +25,7 @@ fn put_string(at: u32, within: u32, a: usize, e: usize, ws: &[u32], out: &mut [u
 }
 
 // The base characters i up to c, the origin of their word w at `at`.
+#[tactic(auto, unfolding(word::specs::Word::base_starts))]
 fn put_base(w: word::Word, at: u32, i: usize, c: usize, width: &[u32], base: &mut [u32])
     requires { StringReady (at + w.front) w.inbase i c width.now base.old }
     ensures { base.new ≡ sets base.old i (base_starts w at (lent width.now i c)) }
@@ -32,29 +34,35 @@ fn put_base(w: word::Word, at: u32, i: usize, c: usize, width: &[u32], base: &mu
 }
 
 // One side's runs of a J from i up to c, each solid over its own character of one em, the first of which starts at `at`.
-fn put_runs(t: &[u32], i: usize, c: usize, side: line::Side, at: u32, ws: &[u32], out: &mut [u32])
+fn put_runs(
+    t: &cells::Table,
+    i: usize,
+    c: usize,
+    side: line::Side,
+    at: u32,
+    ws: &[u32],
+    out: &mut [u32],
+)
     requires { RunsReady side t.now i c at ws.now out.old }
     ensures { let u = t.now in out.new ≡ sets out.old (first side u i) (runs_put side u ws.now (c - i) i at) }
 {
-    let em = cells::em_at(t);
+    let em = t.em();
     let mut x = at;
-    let mut k = i;
-    while k < c {
+    for k in i..c {
         let own = cells::share_at(t, k, side);
         let r = own.first as usize;
         let e = r + own.many as usize;
         put_string(x + (em - own.own), 0, r, e, ws, out);
         x += 2 * em;
-        k += 1;
     }
 }
 
-// Where the characters of one side of the piece from i up to c end.
-pub fn reading_upto(t: &[u32], i: usize, c: usize, side: line::Side) -> usize
-    requires { (i < c) × (c ≤ 1024) × (size c ≤ length t.now) }
+/// Where the characters of one side of the piece from i up to c end.
+pub fn reading_upto(t: &cells::Table, i: usize, c: usize, side: line::Side) -> usize
+    requires { (i < c) × (c ≤ 1024) × (c ≤ length t.now.rows) }
     ensures { result ≡ reading_end side t.now i c }
 {
-    let a = cells::cell_at(t, i);
+    let a = t.row(i);
     if a.cut {
         let z = cells::share_at(t, c - 1, side);
         return z.first as usize + z.many as usize;
@@ -64,8 +72,9 @@ pub fn reading_upto(t: &[u32], i: usize, c: usize, side: line::Side) -> usize
 }
 
 // The reading v on one side of the piece from i up to c, where it has one, the origin of its word at `at`.
+#[tactic(auto, unfolding(crate::specs::Positions::reading_by))]
 fn put_reading(
-    t: &[u32],
+    t: &cells::Table,
     i: usize,
     c: usize,
     side: line::Side,
@@ -89,10 +98,55 @@ fn put_reading(
     }
 }
 
-fn fewer(a: usize, b: usize) -> usize
-    ensures { result ≡ min a b }
+// A word of the piece from i up to c, its origin at `at`.
+#[inline(always)]
+fn put_word(
+    t: &cells::Table,
+    i: usize,
+    c: usize,
+    w: &word::Word,
+    at: u32,
+    width: &[u32],
+    rwidth: &[u32],
+    lwidth: &[u32],
+    base: &mut [u32],
+    ruby: &mut [u32],
+    left: &mut [u32],
+)
+    requires { WordReady t.now i c w.now at width.now rwidth.now lwidth.now base.old ruby.old left.old }
+    ensures { WordPut t.now i c w.now at width.now rwidth.now lwidth.now base.old ruby.old left.old base.new ruby.new left.new }
 {
-    if a <= b { a } else { b }
+    put_base(*w, at, i, c, width, base);
+    put_reading(t, i, c, line::Side::Right, w.right, at, rwidth, ruby);
+    put_reading(t, i, c, line::Side::Left, w.left, at, lwidth, left);
+}
+
+// The word of the piece from i up to c, which is w. That of a piece that is not cut is read in its row, so that none of it is kept beside the line's state.
+#[inline(always)]
+fn put_piece(
+    t: &cells::Table,
+    i: usize,
+    c: usize,
+    w: word::Word,
+    at: u32,
+    width: &[u32],
+    rwidth: &[u32],
+    lwidth: &[u32],
+    base: &mut [u32],
+    ruby: &mut [u32],
+    left: &mut [u32],
+)
+    requires { (i < length t.now.rows) × (w ≡ word_at t.now i c) × WordReady t.now i c w at width.now rwidth.now lwidth.now base.old ruby.old left.old }
+    ensures { WordPut t.now i c w at width.now rwidth.now lwidth.now base.old ruby.old left.old base.new ruby.new left.new }
+{
+    let a = t.row(i);
+    if a.cut {
+        put_word(t, i, c, &w, at, width, rwidth, lwidth, base, ruby, left);
+    } else {
+        put_word(
+            t, i, c, &a.word, at, width, rwidth, lwidth, base, ruby, left,
+        );
+    }
 }
 
 // The base characters of a line: from the first up to where the next line begins.
@@ -104,7 +158,7 @@ struct Span {
 
 // A line. A piece without ruby is a P, one character at its origin.
 fn put_line(
-    t: &[u32],
+    t: &cells::Table,
     l: Span,
     width: &[u32],
     rwidth: &[u32],
@@ -119,18 +173,16 @@ fn put_line(
     let e = l.upto;
     let mut i = l.first;
     let mut st = line::START;
+    // From piece to piece: a row says where the next one begins.
     while i < e {
-        let a = cells::cell_at(t, i);
+        let a = t.row(i);
         let end = i + a.bases as usize;
-        let c = fewer(e, end);
+        let c = e.min(end);
         let step = cells::advance(t, i, c, st);
         let w = step.word;
         let over = w.right;
         if over.there {
-            put_base(w, step.at, i, c, width, base);
-            let under = w.left;
-            put_reading(t, i, c, line::Side::Right, over, step.at, rwidth, ruby);
-            put_reading(t, i, c, line::Side::Left, under, step.at, lwidth, left);
+            put_piece(t, i, c, w, step.at, width, rwidth, lwidth, base, ruby, left);
         } else {
             base[i] = step.at;
         }
@@ -139,9 +191,9 @@ fn put_line(
     }
 }
 
-// The positions of all characters, in lines that end where `ends` says.
+/// The positions of all characters, in lines that end where `ends` says.
 pub fn put_lines(
-    t: &[u32],
+    t: &cells::Table,
     ends: &[u32],
     width: &[u32],
     rwidth: &[u32],
@@ -154,24 +206,18 @@ pub fn put_lines(
     ensures { let g = sheet t.now width.now rwidth.now lwidth.now in let es = ends.now in (base.new ≡ lines_over (base_of g) es base.old) × (ruby.new ≡ lines_over (ruby_of g) es ruby.old) × (left.new ≡ lines_over (left_of g) es left.old) }
 {
     let mut s: usize = 0;
-    let mut l: usize = 0;
-    while l < ends.len() {
-        let e = ends[l] as usize;
+    for end in ends {
+        let e = *end as usize;
         let line = Span { first: s, upto: e };
         put_line(t, line, width, rwidth, lwidth, base, ruby, left);
         s = e;
-        l += 1;
     }
 }
 
-// The ends of n lines: "for each line the count of base characters up to its end".
+/// The ends of n lines: "for each line the count of base characters up to its end".
 pub fn put_ends(n: usize, ends: &[u32], lines: &mut [u32])
     requires { (n ≤ 1024) × (n ≤ length ends.now) × (n ≤ length lines.old) }
     ensures { lines.new ≡ over (take n ends.now) lines.old }
 {
-    let mut l: usize = 0;
-    while l < n {
-        lines[l] = ends[l];
-        l += 1;
-    }
+    lines[0..n].copy_from_slice(&ends[0..n]);
 }

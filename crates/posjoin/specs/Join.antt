@@ -7,6 +7,7 @@ use Rattle.std.proofs.Math.Seq.{append_snoc}
 use Rattle.line.specs.declared.Side.{Side}
 use Rattle.line.specs.declared.State.{State}
 use Rattle.line.specs.Setting.{start, origin}
+use Rattle.cells.specs.Rows.{Rows}
 use Rattle.cells.specs.Cells.{cell_at, next, stop}
 use Rattle.door.specs.declared.Piece.{Piece}
 use Rattle.door.specs.Job.{Job, base_count}
@@ -45,7 +46,7 @@ opens job x at s (inr z) k j = by (dec_lt x.base s)
     by (yes m) = absurd (uncut job x at j s z m k)
     by (no m) = omega arith
 
-module _ (job : Job) (passed : Passed job) (t : List ℕ) (table : Holds job t) where
+module _ (job : Job) (passed : Passed job) (t : Rows) (table : Holds job t) where
   abbrev g : Sheet
   g = sheet_of job t
 

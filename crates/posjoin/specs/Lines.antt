@@ -14,6 +14,7 @@ use Rattle.job.proofs.Pieces.{is_word}
 use Rattle.job.specs.Promise.{Chain, Filled}
 use Rattle.job.proofs.Filled.{chain-few}
 use Rattle.job.proofs.Declined.{filled}
+use Rattle.cells.specs.Rows.{Rows}
 use Rattle.join.specs.Rows.{Holds}
 use Rattle.join.specs.Join as join
 use Rattle.positions.specs.Positions.{over, first, base_of, side_of, by_line}
@@ -23,7 +24,7 @@ use Rattle.posjoin.specs.Piece.{sheet_of}
 use Rattle.posjoin.specs.Ready.{first-row, writable}
 use Rattle.posjoin.specs.Join.{bases-join, readings-join}
 
-module _ (job : Job) (passed : Passed job) (t : List ℕ) (table : Holds job t) where
+module _ (job : Job) (passed : Passed job) (t : Rows) (table : Holds job t) where
   -- the first row's characters are the job's first, on either side
   first-reading : 0 < base_count job → (side : Side) → first side t 0 ≡ 0
   first-reading some side = go (words job) refl (words-tiled job passed) (readings-tiled job passed side)
@@ -40,7 +41,7 @@ module _ (job : Job) (passed : Passed job) (t : List ℕ) (table : Holds job t) 
       (a.ahead, a.within, join.may_join job passed t table e (omega (arith, a.ahead)) a.within ∙ a.permits, chained e es d c.1)
 
 -- The job passes the door, the table holds it, `found` has at its front the ends of its k lines, no line is refused, and no result list is too short (12).
-module _ (job : Job) (passed : Passed job) (t : List ℕ) (table : Holds job t) (k : ℕ) (found : List ℕ) (is : take k found ≡ ends job) (many : k ≡ length (ends job))
+module _ (job : Job) (passed : Passed job) (t : Rows) (table : Holds job t) (k : ℕ) (found : List ℕ) (is : take k found ≡ ends job) (many : k ≡ length (ends job))
     (fault : lines_faults job ≡ []) where
   all : Filled job (ends job)
   all = filled job passed fault

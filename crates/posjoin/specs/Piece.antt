@@ -24,6 +24,7 @@ use Rattle.readings.specs.Standing.{base-moved, right-moved, left-moved}
 use Rattle.readings.specs.Parts.{part-has}
 use Rattle.line.specs.declared.Side.{Side}
 use Rattle.line.specs.declared.Side.TheVariants.{Right, Left}
+use Rattle.cells.specs.Rows.{Rows}
 use Rattle.cells.specs.Cells.{cell_at, share_of, word_at}
 use Rattle.door.specs.declared.Piece.{Piece}
 use Rattle.door.specs.Job.{Job, entries, left_by_runs, given, gloss_of}
@@ -46,7 +47,7 @@ use Rattle.positions.specs.Ready.{Runs}
 use Rattle.posjoin.specs.Runs.{Shared, right-shared, left-shared, reading-within, end_is, runs_put_lem, runs_fit}
 
 -- a table and the lists of a job
-abbrev pub sheet_of : Job → List ℕ → Sheet
+abbrev pub sheet_of : Job → Rows → Sheet
 sheet_of job t = sheet t job.width job.ruby_width job.left_width
 
 -- a word's reading on one side, and the runs that it is given
@@ -59,13 +60,13 @@ runs_in Right job p = (given job p).run
 runs_in Left job p = (gloss_of job p).run
 
 -- The runs of a piece by rows are those that level one is given.
-pub record ByRuns (side : Side) (job : Job) (t : List ℕ) (i c : ℕ) (p : Piece) : Type 0 where
+pub record ByRuns (side : Side) (job : Job) (t : Rows) (i c : ℕ) (p : Piece) : Type 0 where
   pub fit : Runs side t (widths_of side job) (count_of side job) i c
   pub last : reading_end side t i c ≡ run_end side t (c - 1)
   pub put : (x : ℕ) → runs_put side t (widths_of side job) (c - i) i x ≡ word.run_starts job.em x (strings.split (runs_in side job p) (widths_in side job p))
 
 -- A piece of the job by the numbers of its rows.
-pub record Same (job : Job) (t : List ℕ) (i c : ℕ) (p : Piece) : Type 0 where
+pub record Same (job : Job) (t : Rows) (i c : ℕ) (p : Piece) : Type 0 where
   pub base : p.base ≡ i
   pub bases : p.bases ≡ c - i
   pub first : (side : Side) → first_of side p ≡ first side t i
@@ -75,7 +76,7 @@ pub record Same (job : Job) (t : List ℕ) (i c : ℕ) (p : Piece) : Type 0 wher
   pub single : has_ruby p.form ≡ false → p.bases ≡ 1
   pub runs : (side : Side) → (on side (word_of job p)).there ≡ true → (on side (word_of job p)).runs ≡ true → ByRuns side job t i c p
 
-module _ (job : Job) (passed : Passed job) (t : List ℕ) (table : Holds job t) (x : Piece) (at : IsWord job x) (i c : ℕ)
+module _ (job : Job) (passed : Passed job) (t : Rows) (table : Holds job t) (x : Piece) (at : IsWord job x) (i c : ℕ)
     (from : x.base ≤ i) (ahead : i < c) (within : c ≤ x.base + x.bases) where
   in_it : i < x.base + x.bases
   in_it = omega arith
@@ -323,7 +324,7 @@ plain-stands M w g h f l x = absurd (true≢false h)
 plain-stands G w g h f l x = absurd (true≢false h)
 plain-stands J w g h f l x = absurd (true≢false h)
 
-module _ {job : Job} {t : List ℕ} {i c : ℕ} {p : Piece} (q : Same job t i c p) where
+module _ {job : Job} {t : Rows} {i c : ℕ} {p : Piece} (q : Same job t i c p) where
   abbrev w : Word
   w = word_of job p
 

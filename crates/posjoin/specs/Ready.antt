@@ -10,6 +10,7 @@ use Rattle.word.specs.Given.{has_ruby}
 use Rattle.word.specs.Kept.{Kept}
 use Rattle.line.specs.declared.Side.{Side}
 use Rattle.line.specs.declared.Side.TheVariants.{Right, Left}
+use Rattle.cells.specs.Rows.{Rows}
 use Rattle.cells.specs.Cells.{cell_at, word_at}
 use Rattle.door.specs.declared.Piece.{Piece}
 use Rattle.door.specs.Job.{Job, base_count, ruby_count, left_count, given, gloss_of}
@@ -35,7 +36,7 @@ use Rattle.posjoin.specs.Runs.{reading-within}
 use Rattle.posjoin.specs.Piece.{sheet_of, on, ByRuns, Same, same, there-is, base-lent, reading_lent_lem}
 
 -- what a piece asks for
-fits : {job : Job} {t : List ℕ} {i c : ℕ} {p : Piece} → Same job t i c p → i < c → Fits (sheet_of job t) i c
+fits : {job : Job} {t : Rows} {i c : ℕ} {p : Piece} → Same job t i c p → i < c → Fits (sheet_of job t) i c
 fits {job} {t} {i} {c} {p} q l =
     record {
       plain = λ e. omega (arith, q.bases, q.single (no_ruby e), l);
@@ -50,7 +51,7 @@ fits {job} {t} {i} {c} {p} q l =
     no_ruby e = sym k.right.is ∙ rw q.word at e
 
 -- and its reading on one side, but for where the next one's begins
-module _ {job : Job} {t : List ℕ} {i c : ℕ} {p : Piece} (q : Same job t i c p) where
+module _ {job : Job} {t : Rows} {i c : ℕ} {p : Piece} (q : Same job t i c p) where
   w : Word
   w = word_of job p
 
@@ -96,7 +97,7 @@ module _ {job : Job} {t : List ℕ} {i c : ℕ} {p : Piece} (q : Same job t i c 
       by : (positions.reading_of side (sheet_of job t) i c).there ≡ true → (positions.reading_of side (sheet_of job t) i c).runs ≡ true → ByRuns side job t i c p
       by e r = q.runs side (sym (ap (λ (v : Reading). v.there) (own side)) ∙ e) (sym (ap (λ (v : Reading). v.runs) (own side)) ∙ r)
 
-module _ (job : Job) (passed : Passed job) (t : List ℕ) (table : Holds job t) where
+module _ (job : Job) (passed : Passed job) (t : Rows) (table : Holds job t) where
   -- a word's first row has its first character of either side
   starts-at : (side : Side) (x : Piece) (b : Bool) → first_at side job x (cond b (x.base - x.base) 0) ≡ first_of side x
   starts-at side x true = ap (first_at side job x) (zero_of x.base) ∙ add-zero (first_of side x)

@@ -1,6 +1,6 @@
 -- The runs of a J that is cut by its rows, of either side: row by row each is the run of its own base character, so they are level one's runs, and none is longer than one em where
 -- level one found none.
-use Rattle.std.specs.Prelude.{◌≡◌, true, false, List, ◌++◌, map, ltb, length}
+use Rattle.std.specs.Prelude.{◌≡◌, true, false, ◌++◌, map, ltb, length}
 use Rattle.std.proofs.Math.Path.{refl, ap, ap₂}
 use Rattle.std.proofs.Common.{sym, ◌∙◌, subst, ltb-false}
 use Prim.Native.Nat.{ℕ, zero, suc, ◌+◌, ◌-◌, ◌*◌, ◌≤◌, ◌<◌}
@@ -15,6 +15,7 @@ use Rattle.line.specs.declared.Side.{Side}
 use Rattle.line.specs.declared.Side.TheVariants.{Right, Left}
 use Rattle.word.specs.Alone as alone
 use Rattle.word.specs.Word as word
+use Rattle.cells.specs.Rows.{Rows}
 use Rattle.cells.specs.Cells.{cell_at, share_of}
 use Rattle.door.specs.declared.Piece.{Piece}
 use Rattle.door.specs.Job.{Job, entries}
@@ -51,7 +52,7 @@ pub reading-within : (side : Side) (job : Job) → count_of side job ≤ length 
 reading-within Right job = (ruby-within job).1
 reading-within Left job = (left-within job).1
 
-module _ (job : Job) (passed : Passed job) (t : List ℕ) (table : Holds job t) (x : Piece) (at : IsWord job x) (cut : cuts job x ≡ true) where
+module _ (job : Job) (passed : Passed job) (t : Rows) (table : Holds job t) (x : Piece) (at : IsWord job x) (cut : cuts job x ≡ true) where
   back : (b k : ℕ) → b + k - b ≡ k
   back b k = omega arith
 

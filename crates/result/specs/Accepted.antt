@@ -5,6 +5,7 @@ use Rattle.std.proofs.Math.Path.{sym, ap₂}
 use Rattle.std.proofs.Common.{ap, ◌∙◌, inl, inr, arith}
 use Rattle.std.proofs.Math.Seq.{take-append_seam}
 use Rattle.line.specs.Setting.{furthest}
+use Rattle.cells.specs.Rows.{Rows}
 use Rattle.cells.specs.Cells.{state_at}
 use Rattle.door.specs.Job.{Job, base_count, ruby_count, left_count}
 use Rattle.door.specs.Passed.{Passed}
@@ -24,7 +25,7 @@ use Rattle.result.specs.Lines.{TextReady}
 use Rattle.result.specs.Shown.{line-shown}
 use Rattle.result.specs.Short.{longest, result-short}
 
-module _ (job : Job) (passed : Passed job) (t : List ℕ) (table : Holds job t) (base ruby left : List ℕ) where
+module _ (job : Job) (passed : Passed job) (t : Rows) (table : Holds job t) (base ruby left : List ℕ) where
   line_text_lem : (s e : ℕ) → Begins job s → s < e → e ≤ base_count job → permitted job e ≡ true → line_text t base ruby left (furthest (state_at t s e)) s e ≡ of_line job base ruby left s e
   unfolding line_text of_line
   line_text_lem s e b l u p =

@@ -8,7 +8,8 @@ use native.Mathlib.Omega.{arith}
 use Rattle.std.proofs.Math.Decide.{dec_lt}
 use Rattle.text.specs.Print.{Wrote}
 use Rattle.line.specs.declared.Side.{Side}
-use Rattle.cells.specs.Cells.{size, cell_at, share_of, may_end}
+use Rattle.cells.specs.Rows.{Rows}
+use Rattle.cells.specs.Cells.{cell_at, share_of, may_end}
 use Rattle.cells.specs.Sound.{Sound}
 use Rattle.cells.specs.Walk.{stop-whole}
 use Rattle.positions.specs.Positions.{Sheet, first, reading_end}
@@ -19,24 +20,24 @@ use Rattle.result.specs.Rows.{RowsReady}
 use Rattle.result.specs.ByRows.{behind, last_from, last_piece, side_rows}
 
 -- a sound table, in which a line ends at e
-pub record Table (t : List ℕ) (e : ℕ) : Type 0 where
+pub record Table (t : Rows) (e : ℕ) : Type 0 where
   pub n : ℕ
   pub sound : Sound t n
   pub within : e ≤ n
 
 -- what the printing of one side asks for
-pub record SideReady (side : Side) (t : List ℕ) (i z c : ℕ) (positions out : List ℕ) (from : ℕ) : Type 0 where
+pub record SideReady (side : Side) (t : Rows) (i z c : ℕ) (positions out : List ℕ) (from : ℕ) : Type 0 where
   pub low : i ≤ z
   pub ahead : z < c
   pub few : c ≤ 1024
-  pub held : size c ≤ length t
+  pub held : c ≤ length t.rows
   pub onward : first side t i ≤ reading_end side t z c
   pub within : reading_end side t z c ≤ length positions
   pub small : reading_end side t z c ≤ 4096
   pub none : z ≡ i → (share_of side (cell_at t i)).many ≡ 0 → reading_end side t z c ≡ first side t i
   pub room : from + length (side_rows side t positions i z c) ≤ length out
 
-module _ {side : Side} {t : List ℕ} {i z c : ℕ} {positions out : List ℕ} {from : ℕ} (ready : SideReady side t i z c positions out from) where
+module _ {side : Side} {t : Rows} {i z c : ℕ} {positions out : List ℕ} {from : ℕ} (ready : SideReady side t i z c positions out from) where
   -- of one piece without characters there are none
   pub no_rows : z ≡ i → (share_of side (cell_at t i)).many ≡ 0 → Wrote out from (side_rows side t positions i z c) from out
   unfolding side_rows rows
@@ -57,9 +58,9 @@ module _ {side : Side} {t : List ℕ} {i z c : ℕ} {positions out : List ℕ} {
 
 -- The last piece.
 
-module _ {t : List ℕ} {e : ℕ} (table : Table t e) where
+module _ {t : Rows} {e : ℕ} (table : Table t e) where
   -- a row of the line, and the next piece of its element
-  pub row-held : (i : ℕ) → i < e → (i ≤ 1024) × (size (i + 1) ≤ length t)
+  pub row-held : (i : ℕ) → i < e → (i ≤ 1024) × (i < length t.rows)
   row-held i h = let s = table.sound in (omega (arith, table.within, s.few), omega (arith, table.within, s.long))
 
   pub behind-ahead : (i : ℕ) → i < e → i < behind t i e
@@ -94,7 +95,7 @@ module _ {t : List ℕ} {e : ℕ} (table : Table t e) where
 
 -- a line of the table that goes up to e, where it may end
 module _ {g : Sheet} {n m l : ℕ} (table : Writable g n m l) {e : ℕ} (within : e ≤ n) (permits : may_end g.t n e ≡ true) where
-  abbrev t : List ℕ
+  abbrev t : Rows
   t = g.t
 
   pub table_of : Table t e
@@ -138,3 +139,5 @@ module _ {g : Sheet} {n m l : ℕ} (table : Writable g n m l) {e : ℕ} (within 
   pub reaches : (i : ℕ) → i < e → Begins t i → Reaches i (last_piece t i e)
   unfolding last_piece
   reaches i h b = reaches-from (e - i) i i (record { low = omega arith; high = h; begins = b; onward = λ side. omega arith })
+
+pub ruleset piece_steps = (row-held, behind-ahead, last-next, last-here)

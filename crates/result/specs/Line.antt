@@ -8,7 +8,8 @@ use Rattle.text.specs.Print.{Wrote}
 use Rattle.text.specs.Written.{then}
 use Rattle.line.specs.declared.Side.{Side}
 use Rattle.line.specs.declared.Side.TheVariants.{Right, Left}
-use Rattle.cells.specs.Cells.{size, cell_at, share_of, stop}
+use Rattle.cells.specs.Rows.{Rows}
+use Rattle.cells.specs.Cells.{cell_at, share_of, stop}
 use Rattle.cells.specs.Walk.{stop-whole}
 use Rattle.positions.specs.Positions.{Sheet, sheet, first}
 use Rattle.positions.specs.Ready.{Begins, SideFits, pick}
@@ -22,7 +23,7 @@ use Rattle.result.specs.ByRows.{last_piece, closes, side_rows, of_rows, elements
 use Rattle.result.specs.Element.{Table, SideReady, table_of, Reaches, reaches}
 
 -- Its pieces are those that a line may have, and there is room for their text.
-pub record LineReady (t : List ℕ) (s e : ℕ) (base ruby left out : List ℕ) (from : ℕ) : Type 0 where
+pub record LineReady (t : Rows) (s e : ℕ) (base ruby left out : List ℕ) (from : ℕ) : Type 0 where
   pub width : List ℕ
   pub ruby_width : List ℕ
   pub left_width : List ℕ
@@ -30,17 +31,17 @@ pub record LineReady (t : List ℕ) (s e : ℕ) (base ruby left out : List ℕ) 
   pub room : from + length (elements_text t base ruby left (e - s) s e) ≤ length out
 
 -- Before the element of row i.
-pub record Printing (t : List ℕ) (s e : ℕ) (base ruby left was : List ℕ) (from i at : ℕ) (out : List ℕ) : Type 0 where
+pub record Printing (t : Rows) (s e : ℕ) (base ruby left was : List ℕ) (from i at : ℕ) (out : List ℕ) : Type 0 where
   pub ready : LineReady t s e base ruby left was from
   pub low : s ≤ i
   pub begins : i < e → Begins t i
   pub rest : Rest was from (elements_text t base ruby left (e - s) s e) out at (elements_text t base ruby left (e - i) i e)
 
-pub printing_first : {t : List ℕ} {s e : ℕ} {base ruby left was : List ℕ} {from : ℕ} → LineReady t s e base ruby left was from → Printing t s e base ruby left was from s from was
+pub printing_first : {t : Rows} {s e : ℕ} {base ruby left was : List ℕ} {from : ℕ} → LineReady t s e base ruby left was from → Printing t s e base ruby left was from s from was
 printing_first ready = record { ready = ready; low = omega arith; begins = λ _. ready.line.begins; rest = left-first ready.room }
 
 -- An element of the line, from i up to c; its last piece begins at z.
-module _ {t : List ℕ} {s e : ℕ} {base ruby left was : List ℕ} {from : ℕ} (ready : LineReady t s e base ruby left was from) where
+module _ {t : Rows} {s e : ℕ} {base ruby left was : List ℕ} {from : ℕ} (ready : LineReady t s e base ruby left was from) where
   abbrev g : Sheet
   g = sheet t ready.width ready.ruby_width ready.left_width
 
@@ -54,7 +55,7 @@ module _ {t : List ℕ} {s e : ℕ} {base ruby left was : List ℕ} {from : ℕ}
     at_last : Reaches ln.table ln.within ln.permits i z
     at_last = subst (Reaches ln.table ln.within ln.permits i) (sym last) (reaches ln.table ln.within ln.permits i h b)
 
-    pub last-held : (z ≤ 1024) × (size (z + 1) ≤ length t)
+    pub last-held : (z ≤ 1024) × (z < length t.rows)
     last-held = let s = ln.table.sound in let r = at_last in (omega (arith, r.high, ln.within, s.few), omega (arith, r.high, ln.within, s.long))
 
     last-ends : (z < c) × (c ≤ z + (cell_at t z).bases) × (c ≤ e)
@@ -96,7 +97,7 @@ module _ {t : List ℕ} {s e : ℕ} {base ruby left was : List ℕ} {from : ℕ}
         past e y l = omega arith
 
 -- so many elements are enough
-enough : {t : List ℕ} {s e : ℕ} {base ruby left was : List ℕ} {from : ℕ} → LineReady t s e base ruby left was from → (k m i : ℕ) → (i < e → Begins t i) → e ≤ i + k → e ≤ i + m →
+enough : {t : Rows} {s e : ℕ} {base ruby left was : List ℕ} {from : ℕ} → LineReady t s e base ruby left was from → (k m i : ℕ) → (i < e → Begins t i) → e ≤ i + k → e ≤ i + m →
     elements_text t base ruby left k i e ≡ elements_text t base ruby left m i e
 unfolding elements_text
 enough ready zero zero i b h g = refl
@@ -110,7 +111,7 @@ enough {t} {s} {e} {base} {ruby} {left} ready (suc k) (suc m) i b h g =
     go (no u) f = rw (le-ltb i e (omega arith))
     go (yes u) f = rw (lt-ltb i e u) (ap (λ l. of_rows t base ruby left i e ++ l) (f u))
 
-module _ {t : List ℕ} {s e : ℕ} {base ruby left was : List ℕ} {from i at : ℕ} {out : List ℕ} (q : Printing t s e base ruby left was from i at out) where
+module _ {t : Rows} {s e : ℕ} {base ruby left was : List ℕ} {from i at : ℕ} {out : List ℕ} (q : Printing t s e base ruby left was from i at out) where
   abbrev whole : List ℕ
   whole = elements_text t base ruby left (e - s) s e
 

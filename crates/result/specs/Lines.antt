@@ -1,4 +1,5 @@
 -- The text of all lines by rows: what is asked for, and the loop over the lines.
+use Rattle.cells.specs.Rows.{Rows}
 use Rattle.std.specs.Prelude.{◌≡◌, ℕ, zero, suc, ◌+◌, ◌-◌, ◌≤◌, ◌<◌, length, get_or, take, drop}
 use Rattle.std.proofs.Math.Path.{refl, ap₂}
 use Rattle.std.proofs.Common.{sym, ap, ◌∙◌, subst, inl, inr, zero-add, arith, length-take-le}
@@ -14,7 +15,7 @@ use Rattle.result.specs.ByRows.{elements_text, line_text, lines_text, rows_text}
 use Rattle.result.specs.Line.{LineReady}
 
 -- `ends` and `extents` have at their front the ends and extents of n lines of a table that can be written, and there is room for the text.
-pub record TextReady (t : List ℕ) (n : ℕ) (ends extents base ruby left out : List ℕ) : Type 0 where
+pub record TextReady (t : Rows) (n : ℕ) (ends extents base ruby left out : List ℕ) : Type 0 where
   pub width : List ℕ
   pub ruby_width : List ℕ
   pub left_width : List ℕ
@@ -44,7 +45,7 @@ take_more : (n l : ℕ) (xs : List ℕ) → l < n → n ≤ length xs → drop l
 take_more n l xs h k = drop_more l (take n xs) (omega (arith, length-take-le n xs k)) ∙ ap (λ z. z ∷ drop (suc l) (take n xs)) (get_take n l xs h)
 
 -- Before line l, which begins at base character s; the lines' text begins at `start`.
-pub record Going (t : List ℕ) (n : ℕ) (ends extents base ruby left was : List ℕ) (start s l r : ℕ) (out : List ℕ) : Type 0 where
+pub record Going (t : Rows) (n : ℕ) (ends extents base ruby left was : List ℕ) (start s l r : ℕ) (out : List ℕ) : Type 0 where
   pub width : List ℕ
   pub ruby_width : List ℕ
   pub left_width : List ℕ
@@ -54,7 +55,7 @@ pub record Going (t : List ℕ) (n : ℕ) (ends extents base ruby left was : Lis
   pub chained : Chained t lines.n s (drop l (take n ends))
   pub rest : Rest was start (lines_text t base ruby left 0 (take n ends) (take n extents)) out r (lines_text t base ruby left s (drop l (take n ends)) (drop l (take n extents)))
 
-module _ {t : List ℕ} {n : ℕ} {ends extents base ruby left was : List ℕ} (ready : TextReady t n ends extents base ruby left was) where
+module _ {t : Rows} {n : ℕ} {ends extents base ruby left was : List ℕ} (ready : TextReady t n ends extents base ruby left was) where
   abbrev head : List ℕ
   head = line_one (bytes "lines") n
 
@@ -96,7 +97,7 @@ module _ {t : List ℕ} {n : ℕ} {ends extents base ruby left was : List ℕ} (
         subst (λ xs. Wrote was 0 xs r out) (sym same)
         (then first (left_end (subst (λ xs. Rest begun start body out r (lines_text t base ruby left s xs (drop l (take n extents)))) none q.rest)))
 
-module _ {t : List ℕ} {n : ℕ} {ends extents base ruby left was : List ℕ} {start s l r : ℕ} {out : List ℕ} (q : Going t n ends extents base ruby left was start s l r out) (h : l < n) where
+module _ {t : Rows} {n : ℕ} {ends extents base ruby left was : List ℕ} {start s l r : ℕ} {out : List ℕ} (q : Going t n ends extents base ruby left was start s l r out) (h : l < n) where
   abbrev e : ℕ
   e = get_or ends l 0
 

@@ -1,5 +1,6 @@
 -- What is written says which answer it is: a text `refused N P` is that of a refusal with the number N, and no result is such a text.
 use Rattle.std.specs.Prelude.{List, [], ◌∷◌, ◌++◌, ◌≡◌, ℕ, ◌≤◌, length, get_or, take, drop}
+use Rattle.std.proofs.lemmas.Option.{some_pair_parts}
 use Rattle.std.proofs.Common.{append_assoc, ◌∙◌, ap, sym, arith, length-append}
 use Rattle.std.proofs.Math.Seq.{take-append_seam, drop-append_seam}
 use Rattle.text.specs.Text.{most, number}
@@ -16,7 +17,7 @@ same_number n m xs ys hn hm e =
     let a = number-back n 32 0 xs hn (omega arith) in
     let b = number-back m 32 0 ys hm (omega arith) in
     let c = sym a ∙ (ap (λ l. number l 32 0) e ∙ b) in
-    let f : n ≡ m = cc in
+    let f = (some_pair_parts _ _ _ _ c).0 in
     (f, rest (rw f at e))
   where
     rest : decimal m ++ (32 ∷ xs) ≡ decimal m ++ (32 ∷ ys) → xs ≡ ys

@@ -4,6 +4,7 @@ use Rattle.std.proofs.Common.{subst, length-append}
 use Prim.Native.Nat.{ℕ, zero, suc, ◌+◌, ◌-◌, ◌*◌, ◌≤◌, ◌<◌, zero-le}
 use Rattle.std.proofs.Math.Numerals.{add-one}
 use native.Mathlib.Omega.{arith}
+use Rattle.text.specs.Written.{same-long}
 use Rattle.text.specs.Print.{decimal, Wrote}
 use Rattle.text.specs.Written.{decimal_le, decimal-below}
 use Rattle.result.specs.Text.{line_one, line_two, rows}
@@ -77,3 +78,7 @@ rows_short word positions i (suc n) e h =
       decimal_le p,
       rows_short word positions (suc i) n e (omega arith),
     )
+
+pub ruleset size_steps = (length-one, length_two, same-long)
+
+pub ruleset row_steps = (going_first, row_fits, going_next, going_end)

@@ -12,6 +12,7 @@ use Rattle.basics.specs.Lists.{each, All}
 use Rattle.line.specs.declared.Side.{Side}
 use Rattle.line.specs.declared.Side.TheVariants.{Right, Left}
 use Rattle.word.specs.Both.{apart}
+use Rattle.cells.specs.Rows.{Rows}
 use Rattle.cells.specs.Cells.{cell_at, stop}
 use Rattle.door.specs.declared.Piece.{Piece}
 use Rattle.door.specs.Job.{Job, base_count, elements}
@@ -32,26 +33,26 @@ use Rattle.result.specs.ByRows.{behind, last_piece, closes, side_rows, of_rows, 
 use Rattle.result.specs.Element.{Table, last-next, last-here}
 
 -- A piece by the numbers of its rows, from i up to c; the last of those that it is made of begins at z.
-record Shown (t : List ℕ) (i z c : ℕ) (p : Piece) : Type 0 where
+record Shown (t : Rows) (i z c : ℕ) (p : Piece) : Type 0 where
   pub base : p.base ≡ i
   pub bases : p.bases ≡ c - i
   pub first : (side : Side) → first_of side p ≡ first side t i
   pub end : (side : Side) → first_of side p + many_of side p ≡ reading_end side t z c
 
 -- then their rows are the same
-side-text : {t : List ℕ} {i z c : ℕ} {p : Piece} → Shown t i z c p → (side : Side) (positions : List ℕ) → side_rows side t positions i z c ≡ of_reading side positions p
+side-text : {t : Rows} {i z c : ℕ} {p : Piece} → Shown t i z c p → (side : Side) (positions : List ℕ) → side_rows side t positions i z c ≡ of_reading side positions p
 unfolding side_rows of_reading
 side-text {t} {i} {z} {c} {p} q side positions = ap₂ (rows (letter side) positions) (sym (q.first side)) (less (q.first side) (q.end side))
   where
     less : {r y a n : ℕ} → a ≡ r → a + n ≡ y → y - r ≡ n
     less e f = omega arith
 
-element_text : (e : ℕ) {t : List ℕ} {i c : ℕ} {p : Piece} → closes t i e ≡ c → Shown t i (last_piece t i e) c p → (base ruby left : List ℕ) → of_rows t base ruby left i e ≡ of_piece base ruby left p
+element_text : (e : ℕ) {t : Rows} {i c : ℕ} {p : Piece} → closes t i e ≡ c → Shown t i (last_piece t i e) c p → (base ruby left : List ℕ) → of_rows t base ruby left i e ≡ of_piece base ruby left p
 unfolding of_rows of_piece
 element_text e {t} {i} {c} {p} k q base ruby left =
     rw k (ap₂ (λ x y. x ++ y) (ap₂ (rows (bytes "b") base) (sym q.base) (sym q.bases)) (ap₂ (λ x y. x ++ y) (side-text q Right ruby) (side-text q Left left)))
 
-module _ (job : Job) (passed : Passed job) (t : List ℕ) (table : Holds job t) (s e : ℕ) (begins : Begins job s) (within : e ≤ base_count job) (permits : permitted job e ≡ true) where
+module _ (job : Job) (passed : Passed job) (t : Rows) (table : Holds job t) (s e : ℕ) (begins : Begins job s) (within : e ≤ base_count job) (permits : permitted job e ≡ true) where
   whole-table : Table t e
   whole-table = record { n = base_count job; sound = join.sound job passed t table; within = within }
 

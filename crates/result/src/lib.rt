@@ -5,7 +5,7 @@
 
 ghost use Rattle.std.specs.Prelude.{◌≡◌, ◌+◌, ◌-◌, ◌≤◌, ◌<◌, length};
 ghost use Rattle.text.specs.Print.{Wrote};
-ghost use Rattle.cells.specs.Cells.{size, stop};
+ghost use Rattle.cells.specs.Cells.{stop};
 ghost use Rattle.result.specs.Text.{line_one, line_two, rows, refusal_text};
 ghost use Rattle.result.specs.Rows.{RowsReady};
 ghost use Rattle.result.specs.ByRows.{behind, last_piece, side_rows, elements_text, rows_text};
@@ -14,30 +14,33 @@ ghost use Rattle.result.specs.Line.{LineReady};
 ghost use Rattle.result.specs.Lines.{TextReady};
 
 // A word and its number, on a line.
+#[tactic(auto, using(crate::specs::Rows::size_steps))]
 fn put_one(out: &mut [u8], from: usize, word: &[u8], n: u32) -> usize
     requires { from + length (line_one word.now n) ≤ length out.old }
     ensures { Wrote out.old from (line_one word.now n) result out.new }
 {
     let a = text::print::put_word(out, from, word);
-    let b = text::print::put_byte(out, a, 32);
+    let b = text::print::put_byte(out, a, b' ');
     let c = text::print::put_number(out, b, n);
-    text::print::put_byte(out, c, 10)
+    text::print::put_byte(out, c, b'\n')
 }
 
 // A word and its two numbers, on a line.
+#[tactic(auto, using(crate::specs::Rows::size_steps))]
 fn put_two(out: &mut [u8], from: usize, word: &[u8], i: u32, p: u32) -> usize
     requires { from + length (line_two word.now i p) ≤ length out.old }
     ensures { Wrote out.old from (line_two word.now i p) result out.new }
 {
     let a = text::print::put_word(out, from, word);
-    let b = text::print::put_byte(out, a, 32);
+    let b = text::print::put_byte(out, a, b' ');
     let c = text::print::put_number(out, b, i);
-    let d = text::print::put_byte(out, c, 32);
+    let d = text::print::put_byte(out, c, b' ');
     let e = text::print::put_number(out, d, p);
-    text::print::put_byte(out, e, 10)
+    text::print::put_byte(out, e, b'\n')
 }
 
 // A row for each of n characters from the i-th on.
+#[tactic(auto, using(crate::specs::Rows::row_steps))]
 fn put_rows(
     out: &mut [u8],
     from: usize,
@@ -49,32 +52,31 @@ fn put_rows(
     requires { RowsReady out.old from word.now i n positions.now }
     ensures { Wrote out.old from (rows word.now positions.now i n) result out.new }
 {
-    let end = i + n;
     let mut at = from;
-    let mut k = i;
-    while k < end {
+    for k in i..i + n {
         at = put_two(out, at, word, k as u32, positions[k]);
-        k += 1;
     }
     at
 }
 
 // Where the element of row i goes on behind the piece there, or e where it does not.
-fn behind(t: &[u32], i: usize, e: usize) -> usize
-    requires { (i ≤ 1024) × (size (i + 1) ≤ length t.now) }
+fn behind(t: &cells::Table, i: usize, e: usize) -> usize
+    requires { (i ≤ 1024) × (i < length t.now.rows) }
     ensures { result ≡ behind t.now i e }
 {
-    let a = cells::cell_at(t, i);
+    let a = t.row(i);
     if a.more { i + a.bases as usize } else { e }
 }
 
 // Where the last piece begins that the element of row i has in the line up to e. Only a J with a mono left reading has more than one.
-fn last_piece(t: &[u32], i: usize, e: usize) -> usize
+#[tactic(auto, using(crate::specs::Element::piece_steps))]
+fn last_piece(t: &cells::Table, i: usize, e: usize) -> usize
     requires { (i < e) × (Table t.now e) }
     ensures { result ≡ last_piece t.now i e }
 {
     let mut z = i;
     let mut next = behind(t, i, e);
+    // From piece to piece of one element: a row says where the next one begins.
     while next < e {
         z = next;
         next = behind(t, next, e);
@@ -83,17 +85,18 @@ fn last_piece(t: &[u32], i: usize, e: usize) -> usize
 }
 
 // Where the piece from i ends in the line up to e.
-fn piece_end(t: &[u32], i: usize, e: usize) -> usize
-    requires { (i ≤ 1024) × (size (i + 1) ≤ length t.now) }
+fn piece_end(t: &cells::Table, i: usize, e: usize) -> usize
+    requires { (i ≤ 1024) × (i < length t.now.rows) }
     ensures { result ≡ stop t.now i e }
 {
-    let a = cells::cell_at(t, i);
-    door::fewer(e, i + a.bases as usize)
+    let a = t.row(i);
+    e.min(i + a.bases as usize)
 }
 
-// The rows of one side of an element from i up to c, whose last piece begins at z. Of one piece without characters there are none.
+// The rows of one side of an element from i up to c, whose last piece begins at z. Of one piece without characters there are none. The sides
+// differ by a letter.
 fn put_side(
-    t: &[u32],
+    t: &cells::Table,
     i: usize,
     z: usize,
     c: usize,
@@ -119,7 +122,7 @@ fn put_side(
 
 // The line from s up to e, element by element, "base before ruby", and the left rows last.
 fn put_line(
-    t: &[u32],
+    t: &cells::Table,
     s: usize,
     e: usize,
     base: &[u32],
@@ -133,6 +136,7 @@ fn put_line(
 {
     let mut at = from;
     let mut i = s;
+    // From element to element: a row says where the next one begins.
     while i < e {
         let z = last_piece(t, i, e);
         let c = piece_end(t, z, e);
@@ -144,10 +148,10 @@ fn put_line(
     at
 }
 
-// The result of an accepted job whose n lines end where the front of `ends` says and have the extents that the front of `extents` has; `base`, `ruby` and `left` have
-// its characters' positions, and `t` its rows. The answer is the text's length.
+/// The result of an accepted job whose n lines end where the front of `ends` says and have the extents that the front of `extents` has; `base`, `ruby` and `left` have
+/// its characters' positions, and `t` its rows. The answer is the text's length.
 pub fn write_result(
-    t: &[u32],
+    t: &cells::Table,
     n: usize,
     ends: &[u32],
     extents: &[u32],
@@ -161,27 +165,20 @@ pub fn write_result(
 {
     let mut at = put_one(out, 0, b"lines", n as u32);
     let mut s: usize = 0;
-    let mut l: usize = 0;
-    while l < n {
+    for l in 0..n {
         let e = ends[l] as usize;
         let told = put_one(out, at, b"line", extents[l]);
         at = put_line(t, s, e, base, ruby, left, out, told);
         s = e;
-        l += 1;
     }
     at
 }
 
-// A refusal, by the paper's number and place. The answer is the text's length.
+/// A refusal, by the paper's number and place. The answer is the text's length.
+#[tactic(auto, unfolding(crate::specs::Text::refusal_text))]
 pub fn write_refusal(why: refusal::Refusal, out: &mut [u8]) -> usize
     requires { length (refusal_text why) ≤ length out.old }
     ensures { Wrote out.old 0 (refusal_text why) result out.new }
 {
-    put_two(
-        out,
-        0,
-        b"refused",
-        refusal::number(why),
-        refusal::place(why),
-    )
+    put_two(out, 0, b"refused", why.number(), why.place())
 }

@@ -1,7 +1,7 @@
 -- Sections of numbers one after the other, each given by its word, the numbers in a line, its maximum and its place in a refusal 2 (documents 01 and 02, "Sections in a fixed order"). What
 -- `Printed` and `Breaks` say of one section holds of a chain of any of them: read exactly where its text stands (`chain-is`, `stands-chain`), refused with 2 exactly where a count over its maximum
 -- is the first fault (`over-chain`), and with 13 by the line on which the form is broken (`stuck-chain`).
-use Rattle.std.specs.Prelude.{List, [], ◌∷◌, ◌++◌, ◌≡◌, refl, ℕ, ◌+◌, ◌≤◌, ◌<◌, length}
+use Rattle.std.specs.Prelude.{List, [], ◌∷◌, ◌++◌, ◌≡◌, refl, ℕ, ◌+◌, ◌≤◌, ◌<◌, length, Err, Result}
 use Rattle.std.proofs.Common.{◌∙◌, ap, sym, subst, add-zero, arith}
 use Rattle.basics.specs.Lists.{All}
 use Rattle.refusal.specs.declared.Refusal.{Refusal}
@@ -9,7 +9,7 @@ use Rattle.refusal.specs.declared.Refusal.TheVariants.{Form, Count}
 use Rattle.text.specs.Text.{most}
 use Rattle.text.specs.Stands.{Stands, stands-none, stands-then, stands-cut}
 use Rattle.rows.specs.declared.Part.{Part}
-use Rattle.rows.specs.declared.Part.TheVariants.{Read, Refused}
+use Rattle.rows.specs.Read.{Read}
 use Rattle.rows.specs.Section.{on_part, Rows, head_of, rows_of, section}
 use Rattle.rows.specs.Print.{section_text, Kept, Counted}
 use Rattle.rows.specs.Printed as rows
@@ -25,13 +25,13 @@ pub record Section : Type 0 where
 -- what is read of each, and how the reading ended
 pub record Chained : Type 0 where
   pub tables : List (List (List ℕ))
-  pub end : Part
+  pub end : Result Part Refusal
 
-abbrev pub section_by : Section → List ℕ → Part → Rows
+abbrev pub section_by : Section → List ℕ → Result Part Refusal → Rows
 section_by x s last = section x.word x.wide x.top x.which s last
 
 -- each section begins where the one before it ended
-unfoldable pub chain : List Section → List ℕ → Part → Chained
+unfoldable pub chain : List Section → List ℕ → Result Part Refusal → Chained
 unfolding rows_of head_of
 chain [] s last = record { tables = []; end = last }
 chain (x ∷ xs) s last =
@@ -71,19 +71,19 @@ pub data ChainBreaks (s : List ℕ) (l : ℕ) : List Section → ℕ → ℕ →
       ChainBreaks s l xs p (line + 1 + length t) → ChainBreaks s l (x ∷ xs) at line
 
 -- a refusal is handed on
-pub section_handed : (w : List ℕ) (k top which : ℕ) (s : List ℕ) (last : Part) (q : Refusal) → last ≡ Refused q → (section w k top which s last).end ≡ Refused q
+pub section_handed : (w : List ℕ) (k top which : ℕ) (s : List ℕ) (last : Result Part Refusal) (q : Refusal) → last ≡ Err q → (section w k top which s last).end ≡ Err q
 unfolding rows_of head_of on_part
 section_handed w k top which s last q e = rw e
 
-pub chain_handed : (xs : List Section) (s : List ℕ) (last : Part) (q : Refusal) → last ≡ Refused q → (chain xs s last).end ≡ Refused q
+pub chain_handed : (xs : List Section) (s : List ℕ) (last : Result Part Refusal) (q : Refusal) → last ≡ Err q → (chain xs s last).end ≡ Err q
 unfolding chain
 chain_handed [] s last q e = e
 chain_handed (x ∷ xs) s last q e = chain_handed xs s (section_by x s last).end q (section_handed x.word x.wide x.top x.which s last q e)
 
 -- a chain as it was read: its form is broken, or a count is over its maximum, or it stands there
 pub data ChainIs (xs : List Section) (s : List ℕ) (at line : ℕ) (c : Chained) : Type 0 where
-  broken : (l : ℕ) → ChainBreaks s l xs at line → c.end ≡ Refused (Form l) → ChainIs xs s at line c
-  over : (which : ℕ) → ChainOver s xs at which → c.end ≡ Refused (Count which) → ChainIs xs s at line c
+  broken : (l : ℕ) → ChainBreaks s l xs at line → c.end ≡ Err (Form l) → ChainIs xs s at line c
+  over : (which : ℕ) → ChainOver s xs at which → c.end ≡ Err (Count which) → ChainIs xs s at line c
   stands : (n next : ℕ) → ChainKept xs c.tables → Stands s at (chain_text xs c.tables) next → c.end ≡ Read n next (line + lines_in c.tables) → ChainIs xs s at line c
 
 -- the maxima are numbers that a sheet can show
@@ -145,7 +145,7 @@ stands-chain (y ∷ xs) (t ∷ ts) s m at line next h k x =
       end = ap (λ (i : Rows). (chain xs s i.end).end) e ∙ (r.end ∙ ap (λ i. Read r.count next i) (count-lines line (length t) (lines_in ts)));
     }
 
-pub over-chain : {s : List ℕ} {xs : List Section} {at which : ℕ} (m line : ℕ) → Tops xs → ChainOver s xs at which → (chain xs s (Read m at line)).end ≡ Refused (Count which)
+pub over-chain : {s : List ℕ} {xs : List Section} {at which : ℕ} (m line : ℕ) → Tops xs → ChainOver s xs at which → (chain xs s (Read m at line)).end ≡ Err (Count which)
 unfolding chain
 over-chain {s} m line h (here x xs at n next c g) =
     chain_handed xs s (section_by x s (Read m at line)).end (Count x.which) (over-section x.word x.wide x.top x.which s m at line n next c g)
@@ -153,7 +153,7 @@ over-chain {s} m line h (behind x xs at which t p k y o) =
     ap (λ (i : Rows). (chain xs s i.end).end) (stands-section x.word x.wide x.top x.which s m at line p t h.0 k y)
     ∙ over-chain (length t) (line + 1 + length t) h.1 o
 
-pub stuck-chain : {s : List ℕ} {l : ℕ} {xs : List Section} {at line : ℕ} (m : ℕ) → Tops xs → ChainBreaks s l xs at line → (chain xs s (Read m at line)).end ≡ Refused (Form l)
+pub stuck-chain : {s : List ℕ} {l : ℕ} {xs : List Section} {at line : ℕ} (m : ℕ) → Tops xs → ChainBreaks s l xs at line → (chain xs s (Read m at line)).end ≡ Err (Form l)
 unfolding chain
 stuck-chain {s} {l} m h (here x xs at line b) =
     chain_handed xs s (section_by x s (Read m at line)).end (Form l) (stuck-section x.word x.wide x.top x.which s m at line l b)

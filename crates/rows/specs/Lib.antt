@@ -1,3 +1,4 @@
+pub mod Read
 pub mod Section
 pub mod Table
 pub mod Reading

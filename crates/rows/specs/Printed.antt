@@ -1,15 +1,11 @@
 -- Theorems: a section is read exactly where its text stands (`section-is`, `stands-section`), its numbers are those that were read, and its count is refused exactly where a count over
 -- the maximum stands (`over-section`). Generic in the word, in k and in the maximum.
-use Rattle.std.specs.Prelude.{Bool, true, false, cond, List, [], ◌∷◌, ◌++◌, map, ◌≡◌, refl, ℕ, zero, suc, ◌+◌, ◌*◌, ◌≤◌, ◌<◌, eqb, ltb, length, drop}
+use Rattle.std.specs.Prelude.{Ok, Bool, true, false, cond, List, [], ◌∷◌, ◌++◌, map, ◌≡◌, refl, ℕ, zero, suc, ◌+◌, ◌*◌, ◌≤◌, ◌<◌, eqb, ltb, length, drop, Err, None, Option, Result, Some}
 use Rattle.std.proofs.Common.{append_assoc, ◌∙◌, ap, ap₂, sym, add-zero, arith, ltb-true, ltb-false, lt-ltb, le-ltb, length-append}
 use Rattle.std.proofs.Math.Dec.{eqb-suc-zero}
 use Rattle.basics.specs.Lists.{All}
 use Rattle.refusal.specs.declared.Refusal.{Refusal}
 use Rattle.refusal.specs.declared.Refusal.TheVariants.{Form, Count}
-use Rattle.text.specs.declared.Number.{Number}
-use Rattle.text.specs.declared.Number.TheVariants.{Is, Fault}
-use Rattle.text.specs.declared.Place.{Place}
-use Rattle.text.specs.declared.Place.TheVariants.{At, Off}
 use Rattle.text.specs.Text.{most, number, word, stop_of}
 use Rattle.text.specs.Print.{decimal}
 use Rattle.text.specs.Written.{length-decimal}
@@ -17,25 +13,25 @@ use Rattle.text.specs.Back.{wide}
 use Rattle.text.specs.Unique.{ended}
 use Rattle.text.specs.Stands.{Stands, stands-none, stands-then, stands-cut, number-stands, stands-number, word_stands, stands_word}
 use Rattle.rows.specs.declared.Part.{Part}
-use Rattle.rows.specs.declared.Part.TheVariants.{Read, Refused}
+use Rattle.rows.specs.Read.{Read, read_once}
 use Rattle.rows.specs.Section.{on_number, on_place, on_part, word_at, number_at, Fields, fields, Rows, lines, head_of, rows_of, section}
 use Rattle.rows.specs.Whole.{fields-count, lines-whole}
 use Rattle.rows.specs.Print.{spaced, numbers_text, line_text, head_text, rows_text, section_text, Small, Kept, Counted}
 
 -- What is read of a word or a number and then goes on: P holds of the whole if it holds where nothing is read, and wherever the word or the number stands.
 module _ {A : Type 0} (P : A → Type 0) (off : A) (none : P off) (s : List ℕ) (at : ℕ) where
-  placed : (w : List ℕ) (f : ℕ → A) (x : Place) → word w (drop at s) at ≡ x → ((p : ℕ) → Stands s at w p → P (f p)) → P (on_place x off f)
+  placed : (w : List ℕ) (f : ℕ → A) (x : Option ℕ) → word w (drop at s) at ≡ x → ((p : ℕ) → Stands s at w p → P (f p)) → P (on_place x off f)
   unfolding on_place
-  placed w f (At p) e on = on p (word_stands w s at p e)
-  placed w f Off e on = none
+  placed w f (Some p) e on = on p (word_stands w s at p e)
+  placed w f None e on = none
 
   pub on_word : (w : List ℕ) (f : ℕ → A) → ((p : ℕ) → Stands s at w p → P (f p)) → P (on_place (word_at w s at) off f)
   on_word w f on = placed w f (word w (drop at s) at) refl on
 
-  numbered : (stop : ℕ) (f : ℕ → ℕ → A) (x : Number) → number (drop at s) stop at ≡ x → ((v p : ℕ) → v ≤ most → Stands s at (ended v stop) p → P (f v p)) → P (on_number x off f)
+  numbered : (stop : ℕ) (f : ℕ → ℕ → A) (x : Option (ℕ × ℕ)) → number (drop at s) stop at ≡ x → ((v p : ℕ) → v ≤ most → Stands s at (ended v stop) p → P (f v p)) → P (on_number x off f)
   unfolding on_number
-  numbered stop f (Is v p) e on = let o = number-stands s at v stop p e in on v p o.0 o.1
-  numbered stop f Fault e on = none
+  numbered stop f (Some read) e on = let o = number-stands s at read.0 stop read.1 e in on read.0 read.1 o.0 o.1
+  numbered stop f None e on = none
 
   pub on_number_lem : (stop : ℕ) (f : ℕ → ℕ → A) → ((v p : ℕ) → v ≤ most → Stands s at (ended v stop) p → P (f v p)) → P (on_number (number_at s stop at) off f)
   on_number_lem stop f on = numbered stop f (number (drop at s) stop at) refl on
@@ -70,19 +66,19 @@ pub record NumbersStand (last : ℕ) (s : List ℕ) (at : ℕ) (values : List �
   pub small : Small values
   pub text : Stands s at (numbers_text last values) next
 
-fields-more : (last k : ℕ) (s : List ℕ) (at next : ℕ) (x : Number) → number (drop at s) (stop_of last k) at ≡ x → (f : ℕ → Fields) → ((p : ℕ) → (f p).end ≡ At next → length (f p).values ≡ k) →
-    ((p : ℕ) → (f p).end ≡ At next → NumbersStand last s p (f p).values next) →
-    let g = on_number {A = Fields} x (record { values = []; end = Off }) (λ v p. record { values = v ∷ (f p).values; end = (f p).end }) in
-    g.end ≡ At next → NumbersStand last s at g.values next
+fields-more : (last k : ℕ) (s : List ℕ) (at next : ℕ) (x : Option (ℕ × ℕ)) → number (drop at s) (stop_of last k) at ≡ x → (f : ℕ → Fields) → ((p : ℕ) → (f p).end ≡ Some next → length (f p).values ≡ k) →
+    ((p : ℕ) → (f p).end ≡ Some next → NumbersStand last s p (f p).values next) →
+    let g = on_number {A = Fields} x (record { values = []; end = None }) (λ v p. record { values = v ∷ (f p).values; end = (f p).end }) in
+    g.end ≡ Some next → NumbersStand last s at g.values next
 unfolding on_number
-fields-more last k s at next (Is v p) h f count on e =
-    let o = number-stands s at v (stop_of last k) p h in
-    let t = on p e in
-    record { small = (o.0, t.small); text = rw (numbers-cons last v (f p).values, count p e) (stands-then o.1 t.text) }
-fields-more last k s at next Fault h f count on e = absurd (let z : ◌≡◌ {A = ℕ} 0 1 = cc in omega arith)
+fields-more last k s at next (Some read) h f count on e =
+    let o = number-stands s at read.0 (stop_of last k) read.1 h in
+    let t = on read.1 e in
+    record { small = (o.0, t.small); text = rw (numbers-cons last read.0 (f read.1).values, count read.1 e) (stands-then o.1 t.text) }
+fields-more last k s at next None h f count on e = absurd (let z : ◌≡◌ {A = ℕ} 0 1 = cc in omega arith)
 
 -- numbers that were read stand there
-pub fields-stands : (last k : ℕ) (s : List ℕ) (at next : ℕ) → (fields last k s at).end ≡ At next → NumbersStand last s at (fields last k s at).values next
+pub fields-stands : (last k : ℕ) (s : List ℕ) (at next : ℕ) → (fields last k s at).end ≡ Some next → NumbersStand last s at (fields last k s at).values next
 unfolding fields numbers_text
 fields-stands last zero s at next e =
     let f : at ≡ next = cc in
@@ -92,9 +88,9 @@ fields-stands last (suc k) s at next e =
 
 -- and numbers that stand there are read
 pub stands-fields : (last : ℕ) (vs s : List ℕ) (at next : ℕ) → last < 48 → Small vs → Stands s at (numbers_text last vs) next →
-    fields last (length vs) s at ≡ record { values = vs; end = At next }
+    fields last (length vs) s at ≡ record { values = vs; end = Some next }
 unfolding fields numbers_text on_number
-stands-fields last [] s at next h a x = ap (λ q. record { values = []; end = At q }) (sym (x.past ∙ add-zero at))
+stands-fields last [] s at next h a x = ap (λ q. record { values = []; end = Some q }) (sym (x.past ∙ add-zero at))
 stands-fields last (v ∷ vs) s at next h a x =
     let c = stands-cut (ended v (stop_of last (length vs))) (numbers_text last vs) (rw (numbers-cons last v vs) at x) in
     let n = stands-number s at v (stop_of last (length vs)) c.mid (stop-small last (length vs) h) a.0 c.first in
@@ -107,26 +103,26 @@ pub record RowsStand (s : List ℕ) (at : ℕ) (rows : List (List ℕ)) (next : 
   pub small : All Small rows
   pub text : Stands s at (rows_text rows) next
 
-lines_more : (s : List ℕ) (at : ℕ) (r : List ℕ) (x : Place) → ((p : ℕ) → x ≡ At p → NumbersStand 10 s at r p) → (f : ℕ → Rows) (broken : Rows) (q : Refusal) → broken.end ≡ Refused q → (m next l : ℕ) →
+lines_more : (s : List ℕ) (at : ℕ) (r : List ℕ) (x : Option ℕ) → ((p : ℕ) → x ≡ Some p → NumbersStand 10 s at r p) → (f : ℕ → Rows) (broken : Rows) (q : Refusal) → broken.end ≡ Err q → (m next l : ℕ) →
     ((p : ℕ) → (f p).end ≡ Read m next l → RowsStand s p (f p).rows next) →
     let g = on_place x broken (λ p. record { rows = r ∷ (f p).rows; end = (f p).end }) in
     g.end ≡ Read m next l → RowsStand s at g.rows next
 unfolding on_place rows_text
-lines_more s at r (At p) h f broken q b m next l on e =
+lines_more s at r (Some p) h f broken q b m next l on e =
     let t = on p e in
     let u = h p refl in
     record { small = (u.small, t.small); text = stands-then u.text t.text }
-lines_more s at r Off h f broken q b m next l on e = absurd (let z : ◌≡◌ {A = ℕ} 0 1 = cc in omega arith)
+lines_more s at r None h f broken q b m next l on e = absurd (let z : ◌≡◌ {A = ℕ} 0 1 = cc in omega arith)
 
 -- lines that were read are the lines of their numbers
 pub lines-stands : (k n left : ℕ) (s : List ℕ) (at line m next l : ℕ) → (lines k n left s at line).end ≡ Read m next l → RowsStand s at (lines k n left s at line).rows next
 unfolding lines rows_text
 lines-stands k n zero s at line m next l e =
-    let f : at ≡ next = cc in
+    let f = (read_once n at line m next l e).1 in
     record { small = tt; text = rw (← f) (stands-none s at) }
 lines-stands k n (suc left) s at line m next l e =
     lines_more s at (fields 10 k s at).values (fields 10 k s at).end (λ p. fields-stands 10 k s at p) (λ p. lines k n left s p (line + 1))
-    (record { rows = (fields 10 k s at).values ∷ []; end = Refused (Form line) })
+    (record { rows = (fields 10 k s at).values ∷ []; end = Err (Form line) })
     (Form line)
     refl
     m
@@ -168,37 +164,37 @@ singles-of (r ∷ rows) w =
 -- The line that begins a section.
 
 pub head-back : (w : List ℕ) (top which : ℕ) (s : List ℕ) (m at line n next : ℕ) → Counted w s at n next →
-    head_of w top which s (Read m at line) ≡ cond (ltb top n) (Refused (Count which)) (Read n next (line + 1))
+    head_of w top which s (Read m at line) ≡ cond (ltb top n) (Err (Count which)) (Read n next (line + 1))
 unfolding head_of head_text
 head-back w top which s m at line n next c =
     let x = stands-cut w (ended n 10) c.text in
     rw (stands_word w s at x.mid x.first, stands-number s x.mid n 10 next (omega arith) c.small x.second)
 
 -- the first line of a section as it was read: its form is broken, or a count stands there
-pub data HeadIs (w : List ℕ) (top which : ℕ) (s : List ℕ) (at line : ℕ) : Part → Type 0 where
-  broken : HeadIs w top which s at line (Refused (Form line))
-  over : (n next : ℕ) → Counted w s at n next → top < n → HeadIs w top which s at line (Refused (Count which))
+pub data HeadIs (w : List ℕ) (top which : ℕ) (s : List ℕ) (at line : ℕ) : Result Part Refusal → Type 0 where
+  broken : HeadIs w top which s at line (Err (Form line))
+  over : (n next : ℕ) → Counted w s at n next → top < n → HeadIs w top which s at line (Err (Count which))
   within : (n next : ℕ) → Counted w s at n next → n ≤ top → HeadIs w top which s at line (Read n next (line + 1))
 
 head-count : (w : List ℕ) (top which : ℕ) (s : List ℕ) (at line n next : ℕ) → Counted w s at n next → (b : Bool) → ltb top n ≡ b →
-    HeadIs w top which s at line (cond b (Refused (Count which)) (Read n next (line + 1)))
+    HeadIs w top which s at line (cond b (Err (Count which)) (Read n next (line + 1)))
 head-count w top which s at line n next c true e = over n next c (ltb-true top n e)
 head-count w top which s at line n next c false e = within n next c (ltb-false top n e)
 
-head-number : (w : List ℕ) (top which : ℕ) (s : List ℕ) (at line p : ℕ) → Stands s at w p → (x : Number) → number (drop p s) 10 p ≡ x →
-    HeadIs w top which s at line (on_number x (Refused (Form line)) (λ n next. cond (ltb top n) (Refused (Count which)) (Read n next (line + 1))))
+head-number : (w : List ℕ) (top which : ℕ) (s : List ℕ) (at line p : ℕ) → Stands s at w p → (x : Option (ℕ × ℕ)) → number (drop p s) 10 p ≡ x →
+    HeadIs w top which s at line (on_number x (Err (Form line)) (λ n next. cond (ltb top n) (Err (Count which)) (Read n next (line + 1))))
 unfolding on_number head_text
-head-number w top which s at line p t (Is n next) e =
-    let o = number-stands s p n 10 next e in
-    head-count w top which s at line n next (record { small = o.0; text = stands-then t o.1 }) (ltb top n) refl
-head-number w top which s at line p t Fault e = broken
+head-number w top which s at line p t (Some read) e =
+    let o = number-stands s p read.0 10 read.1 e in
+    head-count w top which s at line read.0 read.1 (record { small = o.0; text = stands-then t o.1 }) (ltb top read.0) refl
+head-number w top which s at line p t None e = broken
 
-head-place : (w : List ℕ) (top which : ℕ) (s : List ℕ) (at line : ℕ) (x : Place) → word w (drop at s) at ≡ x →
+head-place : (w : List ℕ) (top which : ℕ) (s : List ℕ) (at line : ℕ) (x : Option ℕ) → word w (drop at s) at ≡ x →
     HeadIs w top which s at line
-    (on_place x (Refused (Form line)) (λ p. on_number (number (drop p s) 10 p) (Refused (Form line)) (λ n next. cond (ltb top n) (Refused (Count which)) (Read n next (line + 1)))))
+    (on_place x (Err (Form line)) (λ p. on_number (number (drop p s) 10 p) (Err (Form line)) (λ n next. cond (ltb top n) (Err (Count which)) (Read n next (line + 1)))))
 unfolding on_place
-head-place w top which s at line (At p) e = head-number w top which s at line p (word_stands w s at p e) (number (drop p s) 10 p) refl
-head-place w top which s at line Off e = broken
+head-place w top which s at line (Some p) e = head-number w top which s at line p (word_stands w s at p e) (number (drop p s) 10 p) refl
+head-place w top which s at line None e = broken
 
 pub head-is : (w : List ℕ) (top which : ℕ) (s : List ℕ) (m at line : ℕ) → HeadIs w top which s at line (head_of w top which s (Read m at line))
 unfolding head_of
@@ -210,31 +206,31 @@ head-is w top which s m at line = head-place w top which s at line (word w (drop
 pub data FormOnly : Refusal → Type 0 where
   at-line : (l : ℕ) → FormOnly (Form l)
 
-lines-form-more : (line : ℕ) (r : List ℕ) (x : Place) (f : ℕ → Rows) (q : Refusal) → ((p : ℕ) → (f p).end ≡ Refused q → FormOnly q) →
-    (on_place {A = Rows} x (record { rows = r ∷ []; end = Refused (Form line) }) (λ p. record { rows = r ∷ (f p).rows; end = (f p).end })).end ≡ Refused q → FormOnly q
+lines-form-more : (line : ℕ) (r : List ℕ) (x : Option ℕ) (f : ℕ → Rows) (q : Refusal) → ((p : ℕ) → (f p).end ≡ Err q → FormOnly q) →
+    (on_place {A = Rows} x (record { rows = r ∷ []; end = Err (Form line) }) (λ p. record { rows = r ∷ (f p).rows; end = (f p).end })).end ≡ Err q → FormOnly q
 unfolding on_place
-lines-form-more line r (At p) f q on e = on p e
-lines-form-more line r Off f q on e =
+lines-form-more line r (Some p) f q on e = on p e
+lines-form-more line r None f q on e =
     let g : Form line ≡ q = cc in
     rw (← g) (at-line line)
 
-lines-form : (k n left : ℕ) (s : List ℕ) (at line : ℕ) (q : Refusal) → (lines k n left s at line).end ≡ Refused q → FormOnly q
+lines-form : (k n left : ℕ) (s : List ℕ) (at line : ℕ) (q : Refusal) → (lines k n left s at line).end ≡ Err q → FormOnly q
 unfolding lines
 lines-form k n zero s at line q e = absurd (let z : ◌≡◌ {A = ℕ} 0 1 = cc in omega arith)
 lines-form k n (suc left) s at line q e =
     lines-form-more line (fields 10 k s at).values (fields 10 k s at).end (λ p. lines k n left s p (line + 1)) q (λ p. lines-form k n left s p (line + 1) q) e
 
 pub data RowsIs (k n : ℕ) (s : List ℕ) (at : ℕ) (t : Rows) : Type 0 where
-  rows-broken : (l : ℕ) → t.end ≡ Refused (Form l) → RowsIs k n s at t
+  rows-broken : (l : ℕ) → t.end ≡ Err (Form l) → RowsIs k n s at t
   rows_whole : (next l : ℕ) → t.end ≡ Read n next l → length t.rows ≡ n → All (λ (r : List ℕ). length r ≡ k) t.rows → RowsStand s at t.rows next → RowsIs k n s at t
 
-lines_end : (k n : ℕ) (s : List ℕ) (at line : ℕ) (p : Part) → (lines k n n s at line).end ≡ p → RowsIs k n s at (lines k n n s at line)
-lines_end k n s at line (Read m next l) e =
-    let w = lines-whole k n n s at line m next l e in
-    rows_whole next l (e ∙ ap (λ i. Read i next l) w.0) w.1.count w.1.wide (lines-stands k n n s at line m next l e)
-lines_end k n s at line (Refused q) e = form q (lines-form k n n s at line q e) e
+lines_end : (k n : ℕ) (s : List ℕ) (at line : ℕ) (p : Result Part Refusal) → (lines k n n s at line).end ≡ p → RowsIs k n s at (lines k n n s at line)
+lines_end k n s at line (Ok part) e =
+    let w = lines-whole k n n s at line part.count part.at part.line e in
+    rows_whole part.at part.line (e ∙ ap (λ i. Read i part.at part.line) w.0) w.1.count w.1.wide (lines-stands k n n s at line part.count part.at part.line e)
+lines_end k n s at line (Err q) e = form q (lines-form k n n s at line q e) e
   where
-    form : (q : Refusal) → FormOnly q → (lines k n n s at line).end ≡ Refused q → RowsIs k n s at (lines k n n s at line)
+    form : (q : Refusal) → FormOnly q → (lines k n n s at line).end ≡ Err q → RowsIs k n s at (lines k n n s at line)
     form q (at-line l) e = rows-broken l e
 
 pub lines-is : (k n : ℕ) (s : List ℕ) (at line : ℕ) → RowsIs k n s at (lines k n n s at line)
@@ -242,8 +238,8 @@ lines-is k n s at line = lines_end k n s at line (lines k n n s at line).end ref
 
 -- a section as it was read: its form is broken, or its count is over the maximum, or it stands there
 pub data SectionIs (w : List ℕ) (k top which : ℕ) (s : List ℕ) (at : ℕ) (t : Rows) : Type 0 where
-  broken : (l : ℕ) → t.end ≡ Refused (Form l) → SectionIs w k top which s at t
-  over : (n next : ℕ) → Counted w s at n next → top < n → t.end ≡ Refused (Count which) → SectionIs w k top which s at t
+  broken : (l : ℕ) → t.end ≡ Err (Form l) → SectionIs w k top which s at t
+  over : (n next : ℕ) → Counted w s at n next → top < n → t.end ≡ Err (Count which) → SectionIs w k top which s at t
   stands : (next l : ℕ) → t.end ≡ Read (length t.rows) next l → Kept k top t.rows → Stands s at (section_text w t.rows) next → SectionIs w k top which s at t
 
 section-lines-is : (w : List ℕ) (k top which : ℕ) (s : List ℕ) (at n p : ℕ) → Counted w s at n p → n ≤ top → (t : Rows) → RowsIs k n s p t → SectionIs w k top which s at t
@@ -253,7 +249,7 @@ section-lines-is w k top which s at n p c h t (rows_whole next l e count wide to
     stands next l (e ∙ ap (λ i. Read i next l) (sym count)) (record { few = omega arith; wide = wide; small = took.small })
     (rw count (stands-then c.text took.text))
 
-section-head-is : (w : List ℕ) (k top which : ℕ) (s : List ℕ) (at line : ℕ) (h : Part) → HeadIs w top which s at line h → SectionIs w k top which s at (rows_of k s h)
+section-head-is : (w : List ℕ) (k top which : ℕ) (s : List ℕ) (at line : ℕ) (h : Result Part Refusal) → HeadIs w top which s at line h → SectionIs w k top which s at (rows_of k s h)
 unfolding rows_of on_part
 section-head-is w k top which s at line h HeadIs.broken = SectionIs.broken line refl
 section-head-is w k top which s at line h (HeadIs.over n next c g) = SectionIs.over n next c g refl
@@ -272,6 +268,6 @@ stands-section w k top which s m at line next rows h a x =
     rw (e, le-ltb top (length rows) a.few) (stands-lines k (length rows) rows s c.mid (line + 1) next a.wide a.small c.second)
 
 -- and a count over the maximum is refused
-pub over-section : (w : List ℕ) (k top which : ℕ) (s : List ℕ) (m at line n next : ℕ) → Counted w s at n next → top < n → (section w k top which s (Read m at line)).end ≡ Refused (Count which)
+pub over-section : (w : List ℕ) (k top which : ℕ) (s : List ℕ) (m at line n next : ℕ) → Counted w s at n next → top < n → (section w k top which s (Read m at line)).end ≡ Err (Count which)
 unfolding rows_of on_part
 over-section w k top which s m at line n next c h = rw (head-back w top which s m at line n next c, lt-ltb top n h)

@@ -1,8 +1,9 @@
 -- A table that holds lines column by column: number j of line i stands at i + j * step.
-use Rattle.std.specs.Prelude.{List, [], ◌∷◌, ◌++◌, map, ◌≡◌, refl, ℕ, suc, ◌+◌, ◌*◌, ◌^◌, ◌≤◌, ◌<◌, length, set, get_or}
+use Rattle.std.specs.Prelude.{List, [], ◌∷◌, ◌++◌, map, ◌≡◌, refl, ℕ, suc, ◌+◌, ◌*◌, ◌^◌, ◌≤◌, ◌<◌, length, set, get_or, Result}
 use Rattle.std.proofs.Common.{◌∙◌, ap, sym, add-zero, add-one, arith, length-set}
 use Rattle.std.proofs.lemmas.List.{length-map}
 use Rattle.std.proofs.lemmas.List.Edits.{sets}
+use Rattle.refusal.specs.declared.Refusal.{Refusal}
 use Rattle.rows.specs.declared.Part.{Part}
 use Rattle.rows.specs.Section.{count_of, line_of}
 
@@ -30,13 +31,13 @@ pub record FieldsReady (s : List ℕ) (from k to step : ℕ) (out : List ℕ) : 
   pub small : length out + step < 2 ^ 64
 
 -- and for those of each line of a section
-pub record RowsReady (k most : ℕ) (head : Part) (out : List ℕ) : Type 0 where
+pub record RowsReady (k most : ℕ) (head : Result Part Refusal) (out : List ℕ) : Type 0 where
   pub few : count_of head ≤ most
   pub room : k * most ≤ length out
   pub small : length out + most < 2 ^ 64
   pub lines : line_of head + count_of head < 2 ^ 32
 
-pub record SectionReady (k most : ℕ) (last : Part) (out : List ℕ) : Type 0 where
+pub record SectionReady (k most : ℕ) (last : Result Part Refusal) (out : List ℕ) : Type 0 where
   pub room : k * most ≤ length out
   pub small : length out + most < 2 ^ 64
   pub lines : line_of last + 1 + most < 2 ^ 32

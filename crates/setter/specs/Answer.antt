@@ -1,10 +1,9 @@
 -- The answer to a sheet (document 01, "The job sheet"), from its bytes alone, and what the lent tables and lists are afterwards.
-use Rattle.std.specs.Prelude.{List, ◌≡◌, ℕ, ◌≤◌, length, take}
+use Rattle.std.specs.Prelude.{List, ◌≡◌, ℕ, ◌≤◌, length, take, Ok, Err, Result}
+use Rattle.sheet.specs.declared.Counts.{Counts}
 use Rattle.std.proofs.Math.Option.{Option, none, some}
 use Rattle.text.specs.Print.{Wrote}
 use Rattle.refusal.specs.declared.Refusal.{Refusal}
-use Rattle.sheet.specs.declared.Reading.{Reading}
-use Rattle.sheet.specs.declared.Reading.TheVariants.{Sound, Refused}
 use Rattle.sheet.specs.Sheet.{Sheet, reading, Tables, Into}
 use Rattle.line.specs.declared.Side.TheVariants.{Right, Left}
 use Rattle.door.specs.Job.{Job}
@@ -32,10 +31,10 @@ unfolding text_by fault
 job_text job base ruby left lines = text_by job (fault job base ruby left lines)
 
 -- "The other checks follow a sound reading." The program's result lists have the maximum lengths.
-unfoldable pub answer_by : Sheet → Reading → List ℕ
+unfoldable pub answer_by : Sheet → Result Counts Refusal → List ℕ
 unfolding job_text sheet_job refusal_text
-answer_by t (Refused r) = refusal_text r
-answer_by t (Sound n) = job_text (sheet_job t) 1024 2048 2048 1024
+answer_by t (Err r) = refusal_text r
+answer_by t (Ok n) = job_text (sheet_job t) 1024 2048 2048 1024
 
 -- the whole answer to a sheet
 unfoldable pub answer_text : List ℕ → List ℕ
@@ -64,10 +63,10 @@ abbrev pub leaves : Job → Lists → Lists
 leaves job was = let o = outcome job was.base was.ruby was.left was.lines in lists o.base o.ruby o.left o.lines
 
 -- and as a sheet leaves them: moved only where the reading is sound
-unfoldable pub lists_by : Sheet → Reading → Lists → Lists
+unfoldable pub lists_by : Sheet → Result Counts Refusal → Lists → Lists
 unfolding sheet_job outcome
-lists_by t (Refused r) was = was
-lists_by t (Sound n) was = leaves (sheet_job t) was
+lists_by t (Err r) was = was
+lists_by t (Ok n) was = leaves (sheet_job t) was
 
 -- A job is told: its lists are the outcome's, and its text stands at the front of `out`.
 pub record Told (job : Job) (was : Lists) (out : List ℕ) (r : ℕ) (now : Lists) (newOut : List ℕ) : Type 0 where

@@ -1,14 +1,12 @@
 -- What is written of a sheet, said of its bytes. `refused 13 L` is written exactly of bytes that break the form on line L, `refused 2 P` exactly of those in which a count over its maximum is the
 -- first fault, and `refused 12 P` of none.
-use Rattle.std.specs.Prelude.{List, ◌++◌, ◌↔◌, ◌≡◌, ℕ, ◌≤◌}
+use Rattle.std.specs.Prelude.{List, ◌++◌, ◌↔◌, ◌≡◌, ℕ, ◌≤◌, Ok, Err, Result}
 use Rattle.std.proofs.Math.Option.{Option, none, some}
 use Rattle.std.proofs.Math.Path.{refl, ap}
 use Rattle.text.specs.Text.{most}
 use Rattle.text.specs.Print.{bytes, decimal}
 use Rattle.refusal.specs.declared.Refusal.{Refusal}
 use Rattle.sheet.specs.declared.Counts.{Counts}
-use Rattle.sheet.specs.declared.Reading.{Reading}
-use Rattle.sheet.specs.declared.Reading.TheVariants.{Sound, Refused}
 use Rattle.sheet.specs.Sheet.{reading}
 use Rattle.sheet.specs.Form.{Over}
 use Rattle.sheet.specs.Breaks.{Breaks}
@@ -28,22 +26,22 @@ unfolding set_text
 set_other job n p e = no_refusal job (by_line (base_in job) 0 (ends job)) (by_line (reading_in Right job) 0 (ends job)) (by_line (reading_in Left job) 0 (ends job)) n p e
 
 module _ (s : List ℕ) where
-  job-gives : (n p : ℕ) → n ≤ most → (c : Counts) → (reading s).end ≡ Sound c → (f : Option Refusal) → fault (sheet_job (reading s)) 1024 2048 2048 1024 ≡ f →
+  job-gives : (n p : ℕ) → n ≤ most → (c : Counts) → (reading s).end ≡ Ok c → (f : Option Refusal) → fault (sheet_job (reading s)) 1024 2048 2048 1024 ≡ f →
       text_by (sheet_job (reading s)) f ≡ line_two (bytes "refused") n p → Given s n p
   unfolding text_by
   job-gives n p small c is none g e = absurd (set_other (sheet_job (reading s)) n p e)
   job-gives n p small c is (some r) g e = by-job c r (refused-is r n p small e).0 is (given-first (sheet_job (reading s)) 1024 2048 2048 1024 r g)
 
-  sheet-gives : (n p : ℕ) → n ≤ most → (x : Reading) → (reading s).end ≡ x → answer_by (reading s) x ≡ line_two (bytes "refused") n p → Given s n p
+  sheet-gives : (n p : ℕ) → n ≤ most → (x : Result Counts Refusal) → (reading s).end ≡ x → answer_by (reading s) x ≡ line_two (bytes "refused") n p → Given s n p
   unfolding answer_by job_text
-  sheet-gives n p small (Refused r) is e = let x = refused-is r n p small e in by-sheet r x.0 x.1 is
-  sheet-gives n p small (Sound c) is e = job-gives n p small c is (fault (sheet_job (reading s)) 1024 2048 2048 1024) refl e
+  sheet-gives n p small (Err r) is e = let x = refused-is r n p small e in by-sheet r x.0 x.1 is
+  sheet-gives n p small (Ok c) is e = job-gives n p small c is (fault (sheet_job (reading s)) 1024 2048 2048 1024) refl e
 
   gives : (n p : ℕ) → n ≤ most → answer_text s ≡ line_two (bytes "refused") n p → Given s n p
   unfolding answer_text
   gives n p small e = sheet-gives n p small (reading s).end refl e
 
-  read : (r : Refusal) → (reading s).end ≡ Refused r → answer_text s ≡ refusal_text r
+  read : (r : Refusal) → (reading s).end ≡ Err r → answer_text s ≡ refusal_text r
   unfolding answer_text
   read r e = ap (answer_by (reading s)) e
 

@@ -1,6 +1,6 @@
 -- A text that answers a sheet, the setting's or the account's: when it is `refused N P`. Either the reading gave that refusal, or the refusal list gives the number to the sheet's job. So it is
 -- known of the sheet's bytes when it is 13 or 2, and that it is never 12.
-use Rattle.std.specs.Prelude.{true, List, ◌++◌, ◌↔◌, ◌≡◌, refl, ℕ, ◌≤◌}
+use Rattle.std.specs.Prelude.{true, List, ◌++◌, ◌↔◌, ◌≡◌, refl, ℕ, ◌≤◌, Ok, Err}
 use Rattle.std.proofs.Common.{◌∙◌, ap, sym, subst, arith}
 use Rattle.text.specs.Text.{most}
 use Rattle.text.specs.Print.{bytes, decimal}
@@ -9,7 +9,6 @@ use Rattle.refusal.specs.declared.Refusal.{Refusal}
 use Rattle.refusal.specs.declared.Refusal.TheVariants.{Count, Short, Form}
 use Rattle.refusal.specs.Refusal.{number_of, place_of, by_paper, of_number}
 use Rattle.sheet.specs.declared.Counts.{Counts}
-use Rattle.sheet.specs.declared.Reading.TheVariants.{Sound, Refused}
 use Rattle.sheet.specs.Sheet.{reading}
 use Rattle.sheet.specs.Faults.{ours}
 use Rattle.sheet.proofs.Faults.{thirteen_or_two}
@@ -25,8 +24,8 @@ use Rattle.setter.specs.Sheet.{no-count, no_short}
 
 -- why a sheet gets the number n and a place that is written as p is
 pub data Given (s : List ℕ) (n p : ℕ) : Type 0 where
-  by-sheet : (r : Refusal) → number_of r ≡ n → decimal (place_of r) ≡ decimal p → (reading s).end ≡ Refused r → Given s n p
-  by-job : (c : Counts) (r : Refusal) → number_of r ≡ n → (reading s).end ≡ Sound c → First (sheet_job (reading s)) 1024 2048 2048 1024 r → Given s n p
+  by-sheet : (r : Refusal) → number_of r ≡ n → decimal (place_of r) ≡ decimal p → (reading s).end ≡ Err r → Given s n p
+  by-job : (c : Counts) (r : Refusal) → number_of r ≡ n → (reading s).end ≡ Ok c → First (sheet_job (reading s)) 1024 2048 2048 1024 r → Given s n p
 
 -- the number gives the case
 is-form : (r : Refusal) → number_of r ≡ 13 → r ≡ Form (place_of r)
@@ -63,18 +62,18 @@ module _ (s : List ℕ) where
   job = sheet_job (reading s)
 
   -- the reading gives no number but 13 and 2
-  not-read : (r q : Refusal) → r ≡ q → (reading s).end ≡ Refused r → ours q ≡ true
+  not-read : (r q : Refusal) → r ≡ q → (reading s).end ≡ Err r → ours q ≡ true
   not-read r q f e = subst (λ x. ours x ≡ true) f (thirteen_or_two s r e)
 
   breaks-given : (l : ℕ) → Given s 13 l → Breaks s l
   breaks-given l (by-sheet r n p e) =
-      let b = (place-exactly s (place_of r)).0 (e ∙ ap Refused (is-form r n)) in
+      let b = (place-exactly s (place_of r)).0 (e ∙ ap Err (is-form r n)) in
       subst (Breaks s) (sym (decimal-one l (place_of r) (omega (arith, place-most b)) (sym p))) b
   breaks-given l (by-job c r n is first) = absurd (subst (First job 1024 2048 2048 1024) (is-form r n) first).holds
 
   over-given : (which : ℕ) → Given s 2 which → Over s which
   over-given which (by-sheet r n p e) =
-      let b = (two-exactly s (place_of r)).0 (e ∙ ap Refused (is-count r n)) in
+      let b = (two-exactly s (place_of r)).0 (e ∙ ap Err (is-count r n)) in
       subst (Over s) (sym (decimal-one which (place_of r) (omega (arith, over-most b)) (sym p))) b
   over-given which (by-job c r n is first) = absurd (no-count s c is 1024 2048 2048 1024 (place_of r) (subst (First job 1024 2048 2048 1024) (is-count r n) first).holds)
 
@@ -84,7 +83,7 @@ module _ (s : List ℕ) where
       no_short s c is 1024 2048 2048 1024 (omega arith) (omega arith) (omega arith) (omega arith) (subst (First job 1024 2048 2048 1024) (is-short r n) first).holds
 
   -- an answer that is the reading's refusal where there is one, and `refused N P` for no other cause
-  module _ (answer : List ℕ) (read : (r : Refusal) → (reading s).end ≡ Refused r → answer ≡ refusal_text r)
+  module _ (answer : List ℕ) (read : (r : Refusal) → (reading s).end ≡ Err r → answer ≡ refusal_text r)
       (given : (n p : ℕ) → n ≤ most → answer ≡ line_two (bytes "refused") n p → Given s n p) where
     pub thirteen_by : (l : ℕ) → (answer ≡ bytes "refused 13 " ++ (decimal l ++ bytes "\n")) ↔ Breaks s l
     thirteen_by l =

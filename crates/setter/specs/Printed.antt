@@ -4,6 +4,7 @@ use Rattle.std.proofs.Common.{sym, ap, subst, arith, length-append}
 use Rattle.text.specs.Print.{Wrote}
 use Rattle.refusal.specs.declared.Refusal.{Refusal}
 use Rattle.line.specs.declared.Side.TheVariants.{Right, Left}
+use Rattle.cells.specs.Rows.{Rows}
 use Rattle.door.specs.Job.{Job, base_count, ruby_count, left_count}
 use Rattle.job.specs.declared.Answer.TheVariants.{Set}
 use Rattle.job.specs.Line.{ends}
@@ -25,7 +26,7 @@ use Rattle.result.specs.Accepted.{rows_text_lem, text-ready}
 use Rattle.setter.specs.Answer.{lists, ListsLong, Told}
 use Rattle.setter.specs.Tell as tell
 
-module _ {job : Job} {base ruby left lines was wasFar t found far : List ℕ} (most : ListsLong (lists base ruby left lines)) where
+module _ {job : Job} {base ruby left lines was wasFar : List ℕ} {t : Rows} {found far : List ℕ} (most : ListsLong (lists base ruby left lines)) where
   pub told-refused : {q : Refusal} → Stopped job 1024 2048 2048 1024 was wasFar t found far q → {out now : List ℕ} {r : ℕ} → Wrote out 0 (refusal_text q) r now →
       Told job (lists base ruby left lines) out r (lists base ruby left lines) now
   told-refused {q} s =

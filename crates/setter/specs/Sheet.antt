@@ -1,6 +1,6 @@
 -- The answer to a sheet and the outcome of its job: what is written of a sheet that keeps its form is the refusal or the result that `outcome` gives (`refused-written`, `set-written`), with
 -- result lists of the program's lengths. Such a job has its counts within their maxima, so it is refused neither with 2 nor with 12 (`never-count`, `never-short`), nor with 13.
-use Rattle.std.specs.Prelude.{Bool, true, false, ◌||◌, List, ◌≡◌, refl, ℕ, ◌≤◌, ltb, length}
+use Rattle.std.specs.Prelude.{Bool, true, false, ◌||◌, List, ◌≡◌, refl, ℕ, ◌≤◌, ltb, length, Ok}
 use Rattle.std.proofs.Common.{inl, inr, ◌∙◌, arith, ltb-true}
 use Rattle.std.proofs.Math.Path.{ap}
 use Rattle.std.proofs.Math.Nat.{le_trans, min-le_left}
@@ -9,7 +9,6 @@ use Rattle.refusal.specs.declared.Refusal.TheVariants.{Count, Short, Form}
 use Rattle.rows.specs.Table.{length-column}
 use Rattle.elements.specs.declared.SheetForm.{SheetForm}
 use Rattle.sheet.specs.declared.Counts.{Counts}
-use Rattle.sheet.specs.declared.Reading.TheVariants.{Sound}
 use Rattle.sheet.specs.Sheet.{Sheet, reading}
 use Rattle.sheet.specs.Form.{Written, InForm, sheet_text, sheet_of}
 use Rattle.sheet.specs.Reads.{sheet-reads}
@@ -29,7 +28,7 @@ pub sheet-answered : (f : SheetForm) (r : Written) → InForm f r → answer_tex
 unfolding answer_text answer_by sheet_of
 sheet-answered f r form = ap (λ (t : Sheet). answer_by t t.end) (sheet-reads (sheet_text f r) f r form refl)
 
-module _ (s : List ℕ) (c : Counts) (is : (reading s).end ≡ Sound c) where
+module _ (s : List ℕ) (c : Counts) (is : (reading s).end ≡ Ok c) where
   abbrev job : Job
   job = sheet_job (reading s)
 

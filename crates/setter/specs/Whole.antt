@@ -1,13 +1,11 @@
 -- From the reading to the answer: a sheet that breaks its form is refused, and the tables of a sound one hold its job.
-use Rattle.std.specs.Prelude.{List, ◌≡◌, ℕ, ◌≤◌, length}
+use Rattle.std.specs.Prelude.{List, ◌≡◌, ℕ, ◌≤◌, length, Ok, Err, Result}
 use Rattle.std.proofs.Math.Path.{sym, subst}
 use Rattle.std.proofs.Common.{ap, ◌∙◌, arith, length-take-le}
 use Rattle.std.proofs.Math.Seq.{length-sets}
 use Rattle.text.specs.Print.{Wrote}
 use Rattle.refusal.specs.declared.Refusal.{Refusal}
 use Rattle.sheet.specs.declared.Counts.{Counts}
-use Rattle.sheet.specs.declared.Reading.{Reading}
-use Rattle.sheet.specs.declared.Reading.TheVariants.{Sound, Refused}
 use Rattle.sheet.specs.Sheet.{reading, Tables, Into}
 use Rattle.result.specs.Text.{refusal_text}
 use Rattle.result.specs.Short.{refusal_short}
@@ -22,7 +20,7 @@ fits {s} {out = out} {out' = out'} {r = r} a l =
     (within, sym (length-take-le r out' within))
 
 -- a sheet that is refused
-pub answered-refused : {s : List ℕ} {was t : Tables} {a : Reading} → Into s was a t → {before : Lists} {out out' : List ℕ} {r : ℕ} {why : Refusal} → a ≡ Refused why → Wrote out 0 (refusal_text why) r out' →
+pub answered-refused : {s : List ℕ} {was t : Tables} {a : Result Counts Refusal} → Into s was a t → {before : Lists} {out out' : List ℕ} {r : ℕ} {why : Refusal} → a ≡ Err why → Wrote out 0 (refusal_text why) r out' →
     Answered s was before out r t before out'
 unfolding answer_text answer_by lists_by
 answered-refused {s} into {before} {out} {out'} {r} {why} e wrote =
@@ -35,7 +33,7 @@ answered-refused {s} into {before} {out} {out'} {r} {why} e wrote =
     }
 
 -- a sheet that keeps its form
-module _ {s : List ℕ} {was t : Tables} {a : Reading} {n : Counts} (into : Into s was a t) (e : a ≡ Sound n) (now : Lent t) where
+module _ {s : List ℕ} {was t : Tables} {a : Result Counts Refusal} {n : Counts} (into : Into s was a t) (e : a ≡ Ok n) (now : Lent t) where
   pub answered-sound : {before after : Lists} {out out' : List ℕ} {r : ℕ} → ListsLong before → Told (tables_job n t) before out r after out' →
       Answered s was before out r t after out'
   unfolding answer_text answer_by lists_by

@@ -6,7 +6,7 @@
 ghost use Rattle.sheet.specs.Sheet.{tables};
 ghost use Rattle.setter.specs.Answer.{lists, Answered, Fits};
 
-// Sets a sheet of either form. The answer is how many bytes of `out` its text has: `refused N P`, or the result.
+/// Sets a sheet of either form. The answer is how many bytes of `out` its text has: `refused N P`, or the result.
 pub fn set_sheet(
     s: &[u8],
     set: &mut [u32; limits::SET],
@@ -26,8 +26,8 @@ pub fn set_sheet(
     ensures fits { Fits result out.new }
 {
     match sheet::read_sheet(s, set, base, ruby, left, elem, runs, lruns) {
-        sheet::Reading::Refused(why) => result::write_refusal(why, out),
-        sheet::Reading::Sound(n) => {
+        Err(why) => result::write_refusal(why, out),
+        Ok(n) => {
             // Slices from here on: a column is a part of a slice, and a list's length is known once a slice is made of it.
             let base: &[u32] = base;
             let ruby: &[u32] = ruby;
@@ -36,11 +36,11 @@ pub fn set_sheet(
             let rubies: &mut [u32] = rubies;
             let lefts: &mut [u32] = lefts;
             let lines: &mut [u32] = lines;
-            let mut t = [0; engine::TABLE];
+            let mut rows = [cells::NO_CELL; limits::MOST_BASES];
             let mut ends = [0; limits::MOST_BASES];
             let mut extents = [0; limits::MOST_BASES];
             match sheet_job::fill_tables(
-                &mut t,
+                &mut rows,
                 &mut ends,
                 &mut extents,
                 n,
@@ -52,8 +52,9 @@ pub fn set_sheet(
                 runs,
                 lruns,
             ) {
-                filling::Lines::Refused(why) => result::write_refusal(why, out),
-                filling::Lines::Filled(k) => {
+                Err(why) => result::write_refusal(why, out),
+                Ok(k) => {
+                    let t = sheet_job::table(set, &rows);
                     let b = limits::BASE_WIDTH + n.bases;
                     let r = limits::RUBY_WIDTH + n.rubies;
                     let l = limits::LEFT_WIDTH + n.lefts;

@@ -1,6 +1,7 @@
 -- Every reading of a sheet is one of three (`sheet-is`): its form is broken, a count is over its maximum, or the bytes are the text of numbers in form. And such a text is read as its numbers
 -- (`sheet-reads`, `over_reads`, `breaks-reads`). Said once for both forms: the first line tells the form, and the sections between `set` and `elem` are a chain.
-use Rattle.std.specs.Prelude.{Bool, ◌≡◌, refl, ℕ, ◌+◌, ◌≤◌, eqb, drop}
+use Rattle.std.specs.Prelude.{Bool, ◌≡◌, refl, ℕ, ◌+◌, ◌≤◌, eqb, drop, Err, Result}
+use Rattle.refusal.specs.declared.Refusal.{Refusal}
 use Rattle.std.proofs.Math.Bool.{true, false}
 use mathlib.Core.List.{List}
 use Rattle.std.proofs.Common.{◌∙◌, arith, eqb-true, ne_eqb}
@@ -11,7 +12,7 @@ use Rattle.basics.specs.Lists.{All}
 use Rattle.refusal.specs.declared.Refusal.TheVariants.{Form}
 use Rattle.text.specs.Stands.{Stands, stands-then, stands-whole, begins-stands}
 use Rattle.rows.specs.declared.Part.{Part}
-use Rattle.rows.specs.declared.Part.TheVariants.{Read, Refused}
+use Rattle.rows.specs.Read.{Read}
 use Rattle.rows.specs.Section.{Rows, lines}
 use Rattle.rows.specs.Print.{rows_text, Small}
 use Rattle.rows.specs.Printed as rows
@@ -24,7 +25,6 @@ use Rattle.elements.specs.Elements.{Listed}
 use Rattle.elements.specs.Print.{Entry, elem_text, KeptElements}
 use Rattle.elements.specs.Printed as elem
 use Rattle.elements.specs.Breaks as elem-form
-use Rattle.sheet.specs.declared.Reading.TheVariants.{Refused as SheetRefused}
 use Rattle.sheet.specs.Sheet.{set_word, numbers_in, elem_word, opening, elem_from}
 use Rattle.sheet.specs.Sheet.{reading}
 use Rattle.sheet.specs.Form.{sections, sheet_text, Begins, in_rows, in_elem}
@@ -42,9 +42,9 @@ use Rattle.sheet.specs.Reads.{OpenIs, long, none, begins, open_is, open_stands, 
 
 -- What is printed is read.
 
-pub breaks-reads : (s : List ℕ) (l : ℕ) → Breaks s l → (reading s).end ≡ SheetRefused (Form l)
-breaks-reads s l (too_long e h) = from-set s (Form l) (set-refused s (Form l) (open_long s h ∙ ap (λ i. Refused (Form i)) (sym e)))
-breaks-reads s l (no-set e h n) = from-set s (Form l) (set-refused s (Form l) (open_none s h n (opening s) (open_is s) ∙ ap (λ i. Refused (Form i)) (sym e)))
+pub breaks-reads : (s : List ℕ) (l : ℕ) → Breaks s l → (reading s).end ≡ Err (Form l)
+breaks-reads s l (too_long e h) = from-set s (Form l) (set-refused s (Form l) (open_long s h ∙ ap (λ i. Err (Form i)) (sym e)))
+breaks-reads s l (no-set e h n) = from-set s (Form l) (set-refused s (Form l) (open_none s h n (opening s) (open_is s) ∙ ap (λ i. Err (Form i)) (sym e)))
 breaks-reads s l (in_set f p h x y) = from-set s (Form l) (set-stuck f s p l (open_stands f s p h x) y)
 breaks-reads s l (breaks.in_rows f p b y) = from-chain f s p b (Form l) (stuck-chain (numbers_in f) (tops f) y)
 breaks-reads s l (breaks.in_elem f p ts q b k x y) =
@@ -105,7 +105,7 @@ module _ (f : SheetForm) (s : List ℕ) where
 pub sheet-is : (s : List ℕ) → SheetIs s
 sheet-is s = go (opening s) (open_is s)
   where
-    go : (o : Part) → OpenIs s o → SheetIs s
+    go : (o : Result Part Refusal) → OpenIs s o → SheetIs s
     go o (long h) = broken 0 (too_long refl h)
     go o (none h n) = broken 1 (no-set refl h n)
     go o (begins f p h x) = set-stage f s p h x (lines 1 (numbers_in f) (numbers_in f) s p 2) refl (lines-is 1 (numbers_in f) s p 2)

@@ -1,15 +1,14 @@
 -- "The first fault met, 13 or a count over its maximum (2)": the reading of a sheet gives no other number.
-use Rattle.std.specs.Prelude.{true, List, ◌≡◌, ℕ}
+use Rattle.std.specs.Prelude.{true, List, ◌≡◌, ℕ, Err}
 use Rattle.refusal.specs.declared.Refusal.{Refusal}
 use Rattle.refusal.specs.declared.Refusal.TheVariants.{Form, Count}
-use Rattle.sheet.specs.declared.Reading.TheVariants.{Refused}
 use Rattle.sheet.specs.Sheet.{reading}
 use Rattle.sheet.specs.Reads.{SheetIs, broken, over, stands, over_reads}
 use Rattle.sheet.proofs.Came.{sheet-is, breaks-reads}
 use Rattle.sheet.proofs.Exact.{sound-not, sound-keeps}
 use Rattle.sheet.specs.Faults.{ours}
 
-pub thirteen_or_two : (s : List ℕ) (r : Refusal) → (reading s).end ≡ Refused r → ours r ≡ true
+pub thirteen_or_two : (s : List ℕ) (r : Refusal) → (reading s).end ≡ Err r → ours r ≡ true
 thirteen_or_two s r e = go (sheet-is s)
   where
     go : SheetIs s → ours r ≡ true

@@ -1,17 +1,16 @@
--- The tables after a sound reading, for those who lend their parts: the part of a table from a on, m long, is one field of all lines. `into` is what `read_sheet` ensures, `is` that it answered `Sound c`.
-use Rattle.std.specs.Prelude.{List, ◌≡◌, refl, ℕ, ◌*◌, ◌<◌, length, get_or, take, drop}
+-- The tables after a sound reading, for those who lend their parts: the part of a table from a on, m long, is one field of all lines. `into` is what `read_sheet` ensures, `is` that it answered `Ok c`.
+use Rattle.std.specs.Prelude.{List, ◌≡◌, refl, ℕ, ◌*◌, ◌<◌, length, get_or, take, drop, Ok, Result}
+use Rattle.refusal.specs.declared.Refusal.{Refusal}
 use Rattle.std.proofs.Common.{◌∙◌, ap, sym, arith, take_all}
 use Rattle.std.proofs.Math.Seq.{length-sets}
 use Rattle.rows.specs.Table.{column, length-laid}
 use Rattle.sheet.specs.declared.Counts.{Counts}
-use Rattle.sheet.specs.declared.Reading.{Reading}
-use Rattle.sheet.specs.declared.Reading.TheVariants.{Sound}
 use Rattle.sheet.specs.Sheet.{reading, set_at, Tables, Into}
 use Rattle.sheet.proofs.Sound as sheet
 use Rattle.sheet.specs.Sound.{SoundSheet}
 use Rattle.sheet.specs.Lent.{lines-part, list-part}
 
-module _ {s : List ℕ} {was : Tables} {r : Reading} {t : Tables} (into : Into s was r t) where
+module _ {s : List ℕ} {was : Tables} {r : Result Counts Refusal} {t : Tables} (into : Into s was r t) where
   -- a table keeps its length, however the reading ends
   pub set_long : length t.set ≡ length was.set
   set_long = ap length into.set_holds ∙ length-laid was.set 0 9 (reading s).set
@@ -34,7 +33,7 @@ module _ {s : List ℕ} {was : Tables} {r : Reading} {t : Tables} (into : Into s
   pub lruns-long : length t.lruns ≡ length was.lruns
   lruns-long = ap length into.lruns_hold ∙ length-sets was.lruns 0 (reading s).lruns
 
-  module _ {c : Counts} (is : r ≡ Sound c) where
+  module _ {c : Counts} (is : r ≡ Ok c) where
     pub sound : SoundSheet (reading s) c
     sound = sheet.sound s c (sym into.answer ∙ is)
 

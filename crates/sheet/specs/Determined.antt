@@ -1,13 +1,14 @@
 -- The contract of `read_sheet` leaves nothing open: two answers that meet it are equal, and so are the seven tables.
-use Rattle.std.specs.Prelude.{List, ◌≡◌, ℕ}
+use Rattle.std.specs.Prelude.{List, ◌≡◌, ℕ, Result}
 use Rattle.std.proofs.Common.{◌∙◌, sym}
-use Rattle.sheet.specs.declared.Reading.{Reading}
+use Rattle.refusal.specs.declared.Refusal.{Refusal}
+use Rattle.sheet.specs.declared.Counts.{Counts}
 use Rattle.sheet.specs.Sheet.{Tables, tables, Into}
 
 same_tables : {a a' b b' c c' d d' e e' f f' g g' : List ℕ} → a ≡ a' → b ≡ b' → c ≡ c' → d ≡ d' → e ≡ e' → f ≡ f' → g ≡ g' → tables a b c d e f g ≡ tables a' b' c' d' e' f' g'
 same_tables p q r s t u v = rw (p, q, r, s, t, u, v)
 
-pub one-reading : {s : List ℕ} {was : Tables} {r r' : Reading} {t t' : Tables} → Into s was r t → Into s was r' t' → (r ≡ r') × (t ≡ t')
+pub one-reading : {s : List ℕ} {was : Tables} {r r' : Result Counts Refusal} {t t' : Tables} → Into s was r t → Into s was r' t' → (r ≡ r') × (t ≡ t')
 one-reading p q = (
   p.answer ∙ sym q.answer,
   same_tables

@@ -1,7 +1,7 @@
 -- What the reading of a sheet says of its bytes, without following the reader, for both forms: it is sound exactly of bytes that keep a form, 2 is given exactly where a count over its maximum is
 -- the first fault, and 13 exactly of all other bytes. Printing and reading undo each other.
 -- The theorems are in `proofs/Exact.antt`; here are their words, a law or two on which others rest, and the worked examples as they are printed.
-use Rattle.std.specs.Prelude.{List, [], ◌∷◌, ◌≡◌, refl, ℕ, replicate}
+use Rattle.std.specs.Prelude.{List, [], ◌∷◌, ◌≡◌, refl, ℕ, replicate, Ok}
 use Rattle.std.proofs.Common.{◌∙◌, ap, ap₂}
 use Rattle.rows.specs.Table.{column}
 use Rattle.elements.specs.declared.SheetForm.{SheetForm}
@@ -9,7 +9,6 @@ use Rattle.elements.specs.declared.SheetForm.TheVariants.{One, Two}
 use Rattle.elements.specs.Print.{P, word, M, J, none, mono, jukugo}
 use Rattle.elements.specs.Printed.{entries-back}
 use Rattle.sheet.specs.declared.Counts.{Counts}
-use Rattle.sheet.specs.declared.Reading.TheVariants.{Sound}
 use Rattle.sheet.specs.Sheet.{Sheet, plain, singles, reading}
 use Rattle.sheet.specs.Form.{Written, InForm, sheet_text, sheet_of, written_of}
 use Rattle.sheet.specs.Cases.{example, example_two}
@@ -27,7 +26,7 @@ written_back f r form =
 -- the reading is sound, tells the form f, and says the numbers r
 pub record SoundAs (s : List ℕ) (f : SheetForm) (r : Written) : Type 0 where
   pub counts : Counts
-  pub sound : (reading s).end ≡ Sound counts
+  pub sound : (reading s).end ≡ Ok counts
   pub form : (reading s).form ≡ f
   pub numbers : written_of (reading s) ≡ r
 

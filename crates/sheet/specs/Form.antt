@@ -1,7 +1,7 @@
 -- What a job sheet is, as text, in either form (document 01, "The job sheet"; document 02, R-6): `KeepsForm` says that some bytes are a sheet. They are `sheet_text` of some numbers in one of the
 -- forms, and the numbers keep the limits of that form, `InForm`. `Over` says that a count over its maximum is the first fault in them. What the reading of bytes says in these words is in Exact,
 -- and on which line bytes break the form in Place.
-use Rattle.std.specs.Prelude.{List, [], ◌∷◌, ◌++◌, ◌≡◌, ℕ, ◌≤◌, ◌<◌, length, drop}
+use Rattle.std.specs.Prelude.{List, [], ◌∷◌, ◌++◌, ◌≡◌, ℕ, ◌≤◌, ◌<◌, length, drop, Ok}
 use Rattle.text.specs.Text.{most}
 use Rattle.text.specs.Print.{bytes}
 use Rattle.text.specs.Stands.{Stands}
@@ -11,7 +11,6 @@ use Rattle.rows.specs.Chain.{Section, chain_text, ChainKept, ChainOver}
 use Rattle.elements.specs.declared.SheetForm.{SheetForm}
 use Rattle.elements.specs.declared.SheetForm.TheVariants.{One, Two}
 use Rattle.elements.specs.Print.{Entry, elem_text, KeptElements, rows_of, all_runs, all_left, entries_of}
-use Rattle.sheet.specs.declared.Reading.TheVariants.{Sound}
 use Rattle.sheet.specs.Sheet.{numbers_in, plain, singles, Sheet, set_at}
 
 -- What a sheet says: em and measure, the seven numbers that only form two shows ("the six ratio numbers, and one number for the profile"), a line of five numbers for each base character ("class,
@@ -102,7 +101,7 @@ sheet_of f r =
       runs = all_runs r.elem;
       lruns = all_left r.elem;
       end =
-          Sound
+          Ok
           (record {
             bases = length r.base;
             rubies = length r.ruby;

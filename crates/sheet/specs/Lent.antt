@@ -1,4 +1,4 @@
--- The tables after a sound reading, for those who lend their parts: the part of a table from a on, m long, is one field of all lines. `into` is what `read_sheet` ensures, `is` that it answered `Sound c`.
+-- The tables after a sound reading, for those who lend their parts: the part of a table from a on, m long, is one field of all lines. `into` is what `read_sheet` ensures, `is` that it answered `Ok c`.
 -- The parts, table by table, are in `proofs/Lent.antt`.
 use Rattle.std.specs.Prelude.{List, ◌≡◌, ℕ, ◌+◌, ◌*◌, ◌≤◌, ◌<◌, length, take, drop}
 use Rattle.std.proofs.Common.{◌∙◌, ap, sym, arith, take_at}

@@ -1,21 +1,21 @@
 -- "13: job sheet text breaks its form; line from 1; 0 if over 65,535 bytes": the line is determined, and bytes that break the form are neither a sheet nor begin with a count over its maximum.
 -- The theorems are in `proofs/Place.antt`.
-use Rattle.std.specs.Prelude.{List, ◌≡◌, ℕ, ◌≤◌}
+use Rattle.std.specs.Prelude.{List, ◌≡◌, ℕ, ◌≤◌, Err, Result}
 use Rattle.std.proofs.Common.{arith}
 use Rattle.basics.specs.Lists.{All}
 use Rattle.refusal.specs.declared.Refusal.TheVariants.{Form, Count}
+use Rattle.refusal.specs.declared.Refusal.{Refusal}
 use Rattle.rows.specs.Chain.{Section, ChainOver, here, behind}
 use Rattle.elements.specs.declared.SheetForm.{SheetForm}
 use Rattle.elements.specs.declared.SheetForm.TheVariants.{One, Two}
-use Rattle.sheet.specs.declared.Reading.{Reading}
-use Rattle.sheet.specs.declared.Reading.TheVariants.{Refused}
+use Rattle.sheet.specs.declared.Counts.{Counts}
 use Rattle.sheet.specs.Form.{sections, KeepsForm, Over, in_rows, in_elem}
 use Rattle.sheet.specs.Breaks.{Breaks}
 
-pub same_line : (r : Reading) (l m : ℕ) → r ≡ Refused (Form l) → r ≡ Refused (Form m) → l ≡ m
+pub same_line : (r : Result Counts Refusal) (l m : ℕ) → r ≡ Err (Form l) → r ≡ Err (Form m) → l ≡ m
 same_line r l m e f = cc
 
-pub not-count : (r : Reading) (l m : ℕ) → r ≡ Refused (Form l) → r ≡ Refused (Count m) → ⊥
+pub not-count : (r : Result Counts Refusal) (l m : ℕ) → r ≡ Err (Form l) → r ≡ Err (Count m) → ⊥
 not-count r l m e f = let z : ◌≡◌ {A = ℕ} 0 1 = cc in omega arith
 
 -- All bytes are one of three: a sheet, or a count over its maximum is the first fault in them, or they break the form on some line.

@@ -1,7 +1,7 @@
 -- Every reading of a sheet is one of three (`sheet-is`): its form is broken, a count is over its maximum, or the bytes are the text of numbers in form. And such a text is read as its numbers
 -- (`sheet-reads`, `over_reads`, `breaks-reads`). Said once for both forms: the first line tells the form, and the sections between `set` and `elem` are a chain.
 -- `sheet-is` and `breaks-reads` are in `proofs/Came.antt`.
-use Rattle.std.specs.Prelude.{Bool, cond, ◌≡◌, refl, ℕ, suc, ◌+◌, ◌≤◌, ◌<◌, eqb, ltb, drop}
+use Rattle.std.specs.Prelude.{Bool, cond, ◌≡◌, refl, ℕ, suc, ◌+◌, ◌≤◌, ◌<◌, eqb, ltb, drop, Ok, Err, Result, Some, None, Option}
 use Rattle.std.proofs.Math.Bool.{true, false}
 use mathlib.Core.List.{List, [], ◌∷◌, ◌++◌, append-nil}
 use Rattle.std.proofs.Common.{◌∙◌, zero-add, arith, ltb-true, ltb-false, lt-ltb, le-ltb, eq-eqb}
@@ -11,13 +11,11 @@ use Rattle.std.proofs.lemmas.List.{length-map}
 use Rattle.basics.specs.Lists.{All}
 use Rattle.refusal.specs.declared.Refusal.{Refusal}
 use Rattle.refusal.specs.declared.Refusal.TheVariants.{Form, Count}
-use Rattle.text.specs.declared.Place.{Place}
-use Rattle.text.specs.declared.Place.TheVariants.{At, Off}
 use Rattle.text.specs.Text.{word}
 use Rattle.text.specs.Print.{bytes, decimal}
 use Rattle.text.specs.Stands.{Stands, stands-cut, word_stands, stands_word, whole-stands}
 use Rattle.rows.specs.declared.Part.{Part}
-use Rattle.rows.specs.declared.Part.TheVariants.{Read, Refused}
+use Rattle.rows.specs.Read.{Read}
 use Rattle.rows.specs.Section.{on_place, on_part, Rows, lines, head_of, rows_of, count_of}
 use Rattle.rows.specs.Whole.{Came, rows_whole, rows_came, head_came}
 use Rattle.rows.specs.Print.{rows_text, head_text, section_text, Small}
@@ -27,44 +25,43 @@ use Rattle.rows.specs.Chain.{chain, chain_text, lines_in, ChainKept, section_han
 use Rattle.elements.specs.declared.SheetForm.{SheetForm}
 use Rattle.elements.specs.declared.SheetForm.TheVariants.{One, Two}
 use Rattle.elements.specs.declared.Elements.{Elements}
-use Rattle.elements.specs.declared.Elements.TheVariants.{Read as ElementsRead, Refused as ElementsRefused}
+use Rattle.elements.specs.Read.{Read as ElementsRead}
 use Rattle.elements.specs.Elements.{Listed, elements}
 use Rattle.elements.specs.Print.{Entry, elem_text, KeptElements, all_runs, all_left, listed_of}
 use Rattle.elements.specs.Printed as elem
-use Rattle.sheet.specs.declared.Reading.TheVariants.{Sound, Refused as SheetRefused}
 use Rattle.sheet.specs.Sheet.{set_word, numbers_in, elem_word, opening, form_by, form_of, set_of, plain, singles, house, base_from, ruby_from, left_head, left_from, elem_from, base_of, ruby_of, left_of, elem_of, end_of}
 use Rattle.sheet.specs.Sheet.{Sheet, reading}
 use Rattle.sheet.specs.Form.{Written, set_text, numbers_of, sections, tables_by, sheet_text, Shown, InForm, Begins, Over, in_rows, in_elem, sheet_of}
 use Rattle.sheet.specs.Breaks.{Breaks, tables-kept}
 
-pub data OpenIs (s : List ℕ) : Part → Type 0 where
-  long : 65535 < length s → OpenIs s (Refused (Form 0))
-  none : length s ≤ 65535 → ((f : SheetForm) (p : ℕ) → Stands s 0 (set_word f) p → ⊥) → OpenIs s (Refused (Form 1))
+pub data OpenIs (s : List ℕ) : Result Part Refusal → Type 0 where
+  long : 65535 < length s → OpenIs s (Err (Form 0))
+  none : length s ≤ 65535 → ((f : SheetForm) (p : ℕ) → Stands s 0 (set_word f) p → ⊥) → OpenIs s (Err (Form 1))
   begins : (f : SheetForm) (p : ℕ) → length s ≤ 65535 → Stands s 0 (set_word f) p → OpenIs s (Read (numbers_in f) p 2)
 
-off-none : (w s : List ℕ) (p : ℕ) → word w s 0 ≡ Off → Stands s 0 w p → ⊥
+off-none : (w s : List ℕ) (p : ℕ) → word w s 0 ≡ None → Stands s 0 w p → ⊥
 off-none w s p e x =
     let i = stands_word w s 0 p x in
     let z : ◌≡◌ {A = ℕ} 0 1 = cc in
     omega arith
 
-neither : (s : List ℕ) → word (set_word One) s 0 ≡ Off → word (set_word Two) s 0 ≡ Off → (f : SheetForm) (p : ℕ) → Stands s 0 (set_word f) p → ⊥
+neither : (s : List ℕ) → word (set_word One) s 0 ≡ None → word (set_word Two) s 0 ≡ None → (f : SheetForm) (p : ℕ) → Stands s 0 (set_word f) p → ⊥
 neither s a b One p x = off-none (set_word One) s p a x
 neither s a b Two p x = off-none (set_word Two) s p b x
 
-open_two : (s : List ℕ) → length s ≤ 65535 → word (set_word One) s 0 ≡ Off → (y : Place) → word (set_word Two) s 0 ≡ y → OpenIs s (on_place y (Refused (Form 1)) (λ p. Read 9 p 2))
+open_two : (s : List ℕ) → length s ≤ 65535 → word (set_word One) s 0 ≡ None → (y : Option ℕ) → word (set_word Two) s 0 ≡ y → OpenIs s (on_place y (Err (Form 1)) (λ p. Read 9 p 2))
 unfolding on_place numbers_in
-open_two s h a (At p) e = begins Two p h (word_stands (set_word Two) s 0 p e)
-open_two s h a Off e = none h (neither s a e)
+open_two s h a (Some p) e = begins Two p h (word_stands (set_word Two) s 0 p e)
+open_two s h a None e = none h (neither s a e)
 
-open_one : (s : List ℕ) → length s ≤ 65535 → (x : Place) → word (set_word One) s 0 ≡ x →
-    OpenIs s (on_place x (on_place (word (set_word Two) s 0) (Refused (Form 1)) (λ p. Read 9 p 2)) (λ p. Read 2 p 2))
+open_one : (s : List ℕ) → length s ≤ 65535 → (x : Option ℕ) → word (set_word One) s 0 ≡ x →
+    OpenIs s (on_place x (on_place (word (set_word Two) s 0) (Err (Form 1)) (λ p. Read 9 p 2)) (λ p. Read 2 p 2))
 unfolding on_place numbers_in
-open_one s h (At p) e = begins One p h (word_stands (set_word One) s 0 p e)
-open_one s h Off e = open_two s h e (word (set_word Two) s 0) refl
+open_one s h (Some p) e = begins One p h (word_stands (set_word One) s 0 p e)
+open_one s h None e = open_two s h e (word (set_word Two) s 0) refl
 
 open_tested : (s : List ℕ) (b : Bool) → ltb 65535 (length s) ≡ b →
-    OpenIs s (cond b (Refused (Form 0)) (on_place (word (set_word One) s 0) (on_place (word (set_word Two) s 0) (Refused (Form 1)) (λ p. Read 9 p 2)) (λ p. Read 2 p 2)))
+    OpenIs s (cond b (Err (Form 0)) (on_place (word (set_word One) s 0) (on_place (word (set_word Two) s 0) (Err (Form 1)) (λ p. Read 9 p 2)) (λ p. Read 2 p 2)))
 open_tested s true e = long (ltb-true 65535 (length s) e)
 open_tested s false e = open_one s (ltb-false 65535 (length s) e) (word (set_word One) s 0) refl
 
@@ -76,13 +73,13 @@ open_is s = open_tested s (ltb 65535 (length s)) refl
 pub open_stands : (f : SheetForm) (s : List ℕ) (p : ℕ) → length s ≤ 65535 → Stands s 0 (set_word f) p → opening s ≡ Read (numbers_in f) p 2
 unfolding opening on_place numbers_in set_word
 open_stands One s p h x =
-    let w : word (set_word One) s 0 ≡ At p = stands_word (set_word One) s 0 p x in
+    let w : word (set_word One) s 0 ≡ Some p = stands_word (set_word One) s 0 p x in
     rw (le-ltb 65535 (length s) h, w)
 open_stands Two s p h x =
-    let w : word (set_word Two) s 0 ≡ At p = stands_word (set_word Two) s 0 p x in
+    let w : word (set_word Two) s 0 ≡ Some p = stands_word (set_word Two) s 0 p x in
     rw (le-ltb 65535 (length s) h, other s x.text, w)
   where
-    other : (s : List ℕ) {t : List ℕ} → s ≡ bytes "set 9\n" ++ t → word (bytes "set 2\n") s 0 ≡ Off
+    other : (s : List ℕ) {t : List ℕ} → s ≡ bytes "set 9\n" ++ t → word (bytes "set 2\n") s 0 ≡ None
     other s e = rw e
 
 told : (f : SheetForm) (p line : ℕ) → form_by (Read (numbers_in f) p line) ≡ f
@@ -132,35 +129,35 @@ module _ (f : SheetForm) (s : List ℕ) (p : ℕ) (b : Begins f s p) where
       let c = stands-cut (set_word f) (rows_text (singles b.numbers)) (rw (set_text_lem f b.numbers b.count) at b.text) in
       form-told f s c.mid b.short c.first
 
-left_handed : (f : SheetForm) (s : List ℕ) (last : Part) (q : Refusal) → last ≡ Refused q → (left_from f s last).end ≡ Refused q
+left_handed : (f : SheetForm) (s : List ℕ) (last : Result Part Refusal) (q : Refusal) → last ≡ Err q → (left_from f s last).end ≡ Err q
 unfolding rows_of left_head head_of on_part
 left_handed One s last q e = rw e
 left_handed Two s last q e = rw e
 
-elem_handed : (f : SheetForm) (s : List ℕ) (last : Part) (q : Refusal) → last ≡ Refused q → (elem_from f s last).end ≡ ElementsRefused q
+elem_handed : (f : SheetForm) (s : List ℕ) (last : Result Part Refusal) (q : Refusal) → last ≡ Err q → (elem_from f s last).end ≡ Err q
 unfolding elements head_of on_part
 elem_handed f s last q e = rw e
 
-end_handed : (s : List ℕ) (b c l : Part) (d : Elements) (q : Refusal) → d ≡ ElementsRefused q → end_of s b c l d ≡ SheetRefused q
+end_handed : (s : List ℕ) (b c l : Result Part Refusal) (d : Result Elements Refusal) (q : Refusal) → d ≡ Err q → end_of s b c l d ≡ Err q
 unfolding end_of
 end_handed s b c l d q e = rw e
 
 module _ (s : List ℕ) (q : Refusal) where
-  pub from-elem : (elem_of s).end ≡ ElementsRefused q → (reading s).end ≡ SheetRefused q
+  pub from-elem : (elem_of s).end ≡ Err q → (reading s).end ≡ Err q
   unfolding reading
   from-elem e = end_handed s (base_of s).end (ruby_of s).end (left_of s).end (elem_of s).end q e
 
-  from-left : (left_of s).end ≡ Refused q → (reading s).end ≡ SheetRefused q
+  from-left : (left_of s).end ≡ Err q → (reading s).end ≡ Err q
   unfolding elem_of
   from-left e = from-elem (elem_handed (form_of s) s (left_of s).end q e)
 
-  pub from-set : (set_of s).end ≡ Refused q → (reading s).end ≡ SheetRefused q
+  pub from-set : (set_of s).end ≡ Err q → (reading s).end ≡ Err q
   unfolding left_of ruby_of base_of
   from-set e =
       from-left (left_handed (form_of s) s (ruby_of s).end q
       (section_handed (bytes "ruby ") 2 2048 1 s (base_of s).end q (section_handed (bytes "base ") 5 1024 0 s (set_of s).end q e)))
 
-abbrev left_part : SheetForm → List ℕ → Part → Rows
+abbrev left_part : SheetForm → List ℕ → Result Part Refusal → Rows
 left_part f s p = left_from f s (ruby_from s (base_from s p).end).end
 
 pub tops : (f : SheetForm) → Tops (sections f)
@@ -168,32 +165,32 @@ unfolding sections
 tops One = (omega arith, (omega arith, tt))
 tops Two = (omega arith, (omega arith, (omega arith, tt)))
 
-left-refused : (f : SheetForm) (s : List ℕ) (p : Part) (q : Refusal) → (chain (sections f) s p).end ≡ Refused q → (left_part f s p).end ≡ Refused q
+left-refused : (f : SheetForm) (s : List ℕ) (p : Result Part Refusal) (q : Refusal) → (chain (sections f) s p).end ≡ Err q → (left_part f s p).end ≡ Err q
 unfolding chain sections left_head
 left-refused One s p q e = left_handed One s (ruby_from s (base_from s p).end).end q e
 left-refused Two s p q e = e
 
-left-read : (f : SheetForm) (s : List ℕ) (p : Part) (n at line : ℕ) → (chain (sections f) s p).end ≡ Read n at line → (m : ℕ) × ((left_part f s p).end ≡ Read m at line)
+left-read : (f : SheetForm) (s : List ℕ) (p : Result Part Refusal) (n at line : ℕ) → (chain (sections f) s p).end ≡ Read n at line → (m : ℕ) × ((left_part f s p).end ≡ Read m at line)
 unfolding chain sections left_head on_part rows_of lines
 left-read One s p n at line e = (0, skip (ruby_from s (base_from s p).end).end e)
   where
-    skip : (x : Part) → x ≡ Read n at line → (left_from One s x).end ≡ Read 0 at line
+    skip : (x : Result Part Refusal) → x ≡ Read n at line → (left_from One s x).end ≡ Read 0 at line
     skip x e = rw e
 left-read Two s p n at line e = (n, e)
 
-chain-tables : (f : SheetForm) (s : List ℕ) (p : Part) → (chain (sections f) s p).tables ≡ tables_by f (base_from s p).rows (ruby_from s (base_from s p).end).rows (left_part f s p).rows
+chain-tables : (f : SheetForm) (s : List ℕ) (p : Result Part Refusal) → (chain (sections f) s p).tables ≡ tables_by f (base_from s p).rows (ruby_from s (base_from s p).end).rows (left_part f s p).rows
 unfolding chain sections tables_by left_head
 chain-tables One s p = refl
 chain-tables Two s p = refl
 
 -- of form one there are no left characters
-left-none : (s : List ℕ) (last : Part) → (left_from One s last).rows ≡ []
+left-none : (s : List ℕ) (last : Result Part Refusal) → (left_from One s last).rows ≡ []
 unfolding left_head on_part rows_of lines
-left-none s (Read n at line) = refl
-left-none s (Refused r) = refl
+left-none s (Ok part) = refl
+left-none s (Err r) = refl
 
 module _ (f : SheetForm) (s : List ℕ) (p : ℕ) (b : Begins f s p) where
-  abbrev pub first : Part
+  abbrev pub first : Result Part Refusal
   first = Read (numbers_in f) p (2 + numbers_in f)
 
   set-end : (set_of s).end ≡ first
@@ -203,7 +200,7 @@ module _ (f : SheetForm) (s : List ℕ) (p : ℕ) (b : Begins f s p) where
   unfolding left_of ruby_of base_of
   left_part_lem = ap₂ (λ i e. left_part i s e) (form-begins f s p b) set-end
 
-  pub from-chain : (q : Refusal) → (chain (sections f) s first).end ≡ Refused q → (reading s).end ≡ SheetRefused q
+  pub from-chain : (q : Refusal) → (chain (sections f) s first).end ≡ Err q → (reading s).end ≡ Err q
   from-chain q e = from-left s q (ap (λ (t : Rows). t.end) left_part_lem ∙ left-refused f s first q e)
 
   pub elem-part : (n at line : ℕ) → (chain (sections f) s first).end ≡ Read n at line → (m : ℕ) × (elem_of s ≡ elem_from f s (Read m at line))
@@ -213,17 +210,17 @@ module _ (f : SheetForm) (s : List ℕ) (p : ℕ) (b : Begins f s p) where
       (m.0, ap₂ (λ i x. elem_from i s x) (form-begins f s p b) (ap (λ (t : Rows). t.end) left_part_lem ∙ m.1))
 
 -- what the end of the elements says of the sheet
-end_of_lem : (s : List ℕ) (n u v at line : ℕ) → (elem_of s).end ≡ ElementsRead n u v at line → (c : _) × ((reading s).end ≡ cond (eqb at (length s)) (Sound c) (SheetRefused (Form line)))
+end_of_lem : (s : List ℕ) (n u v at line : ℕ) → (elem_of s).end ≡ ElementsRead n u v at line → (c : _) × ((reading s).end ≡ cond (eqb at (length s)) (Ok c) (Err (Form line)))
 unfolding end_of reading
 end_of_lem s n u v at line e = (_, ap (end_of s (base_of s).end (ruby_of s).end (left_of s).end) e)
 
-counted-rows : (k : ℕ) (s : List ℕ) (head : Part) → Came (rows_of k s head).end → count_of (rows_of k s head).end ≡ length (rows_of k s head).rows
+counted-rows : (k : ℕ) (s : List ℕ) (head : Result Part Refusal) → Came (rows_of k s head).end → count_of (rows_of k s head).end ≡ length (rows_of k s head).rows
 counted-rows k s head c = ap count_of c.is ∙ sym (rows_whole k s head c.count c.at c.line c.is).1.count
 
-pub left_came : (f : SheetForm) (s : List ℕ) (last : Part) → Came (left_head f s last) → Came last
+pub left_came : (f : SheetForm) (s : List ℕ) (last : Result Part Refusal) → Came (left_head f s last) → Came last
 unfolding left_head on_part
-left_came One s (Read n at line) c = record { count = n; at = at; line = line; is = refl }
-left_came One s (Refused r) c = absurd (let e = c.is in let z : ◌≡◌ {A = ℕ} 0 1 = cc in omega arith)
+left_came One s (Ok part) c = record { count = part.count; at = part.at; line = part.line; is = refl }
+left_came One s (Err r) c = absurd (let e = c.is in let z : ◌≡◌ {A = ℕ} 0 1 = cc in omega arith)
 left_came Two s last c = head_came (bytes "left ") 2048 3 s last c
 
 -- a count is that of the rows, where all sections between `set` and `elem` were read
@@ -232,7 +229,7 @@ record RowCounts (s : List ℕ) (base ruby left : Rows) : Type 0 where
   rubies : count_of ruby.end ≡ length ruby.rows
   lefts : count_of left.end ≡ length left.rows
 
-all-counted : (f : SheetForm) (s : List ℕ) (p : Part) → Came (left_part f s p).end → RowCounts s (base_from s p) (ruby_from s (base_from s p).end) (left_part f s p)
+all-counted : (f : SheetForm) (s : List ℕ) (p : Result Part Refusal) → Came (left_part f s p).end → RowCounts s (base_from s p) (ruby_from s (base_from s p).end) (left_part f s p)
 all-counted f s p l =
     let c = left_came f s (ruby_from s (base_from s p).end).end (rows_came 2 s (left_head f s (ruby_from s (base_from s p).end).end) l) in
     let h = rows_came 2 s (head_of (bytes "ruby ") 2048 1 s (base_from s p).end) c in
@@ -249,7 +246,7 @@ unfolding tables_by
 same_base One b c l b' c' l' e = (cc, cc)
 same_base Two b c l b' c' l' e = (cc, cc)
 
-same_left : (f : SheetForm) (s : List ℕ) (p : Part) (r : Written) → Shown f r →
+same_left : (f : SheetForm) (s : List ℕ) (p : Result Part Refusal) (r : Written) → Shown f r →
     tables_by f (base_from s p).rows (ruby_from s (base_from s p).end).rows (left_part f s p).rows ≡ tables_by f r.base r.ruby r.left → (left_part f s p).rows ≡ r.left
 unfolding tables_by Shown
 same_left One s p r h e = left-none s (ruby_from s (base_from s p).end).end ∙ sym h.1
@@ -359,7 +356,7 @@ module _ (s : List ℕ) (f : SheetForm) (r : Written) (form : InForm f r) where
       (same_left f s first r form.shown t))
 
 -- a count over its maximum is refused
-pub over_reads : {s : List ℕ} {which : ℕ} → Over s which → (reading s).end ≡ SheetRefused (Count which)
+pub over_reads : {s : List ℕ} {which : ℕ} → Over s which → (reading s).end ≡ Err (Count which)
 over_reads {s} (in_rows f p which b o) = from-chain f s p b (Count which) (over-chain (numbers_in f) (2 + numbers_in f) (tops f) o)
 over_reads {s} (in_elem f p ts q n next b k x c h) =
     let t = stands-chain (sections f) ts s (numbers_in f) p (2 + numbers_in f) q (tops f) k x in
@@ -367,19 +364,19 @@ over_reads {s} (in_elem f p ts q n next b k x c h) =
     from-elem s (Count 2) (ap (λ (d : Listed). d.end) e.1 ∙ elem.over-section f elem_word 1024 2 s e.0 q (2 + numbers_in f + lines_in ts) n next c h)
 
 -- and a broken form, with its line
-pub set-refused : (s : List ℕ) (q : Refusal) → opening s ≡ Refused q → (set_of s).end ≡ Refused q
+pub set-refused : (s : List ℕ) (q : Refusal) → opening s ≡ Err q → (set_of s).end ≡ Err q
 unfolding set_of rows_of on_part
 set-refused s q e = rw e
 
-pub set-stuck : (f : SheetForm) (s : List ℕ) (p l : ℕ) → opening s ≡ Read (numbers_in f) p 2 → RowsBreak 1 (numbers_in f) s p 2 l → (set_of s).end ≡ Refused (Form l)
+pub set-stuck : (f : SheetForm) (s : List ℕ) (p l : ℕ) → opening s ≡ Read (numbers_in f) p 2 → RowsBreak 1 (numbers_in f) s p 2 l → (set_of s).end ≡ Err (Form l)
 unfolding set_of rows_of on_part
 set-stuck f s p l e x = rw e (stuck-lines 1 (numbers_in f) (numbers_in f) s p 2 l x)
 
-pub open_long : (s : List ℕ) → 65535 < length s → opening s ≡ Refused (Form 0)
+pub open_long : (s : List ℕ) → 65535 < length s → opening s ≡ Err (Form 0)
 unfolding opening
 open_long s h = rw (lt-ltb 65535 (length s) h)
 
-pub open_none : (s : List ℕ) → length s ≤ 65535 → ((f : SheetForm) (p : ℕ) → Stands s 0 (set_word f) p → ⊥) → (o : Part) → OpenIs s o → o ≡ Refused (Form 1)
+pub open_none : (s : List ℕ) → length s ≤ 65535 → ((f : SheetForm) (p : ℕ) → Stands s 0 (set_word f) p → ⊥) → (o : Result Part Refusal) → OpenIs s o → o ≡ Err (Form 1)
 open_none s h n o (long g) = absurd (omega arith)
 open_none s h n o (none g k) = refl
 open_none s h n o (begins f p g x) = absurd (n f p x)
@@ -393,13 +390,13 @@ past-last a b c = omega arith
 
 -- what the end says of a sheet that begins with the text of r
 pub after_read : (s : List ℕ) (f : SheetForm) (r : Written) → InForm f r → length s ≤ 65535 → (p : ℕ) → Stands s 0 (sheet_text f r) p →
-    (c : _) × ((reading s).end ≡ cond (eqb p (length s)) (Sound c) (SheetRefused (Form (3 + numbers_in f + lines_in (tables_by f r.base r.ruby r.left) + length r.elem))))
+    (c : _) × ((reading s).end ≡ cond (eqb p (length s)) (Ok c) (Err (Form (3 + numbers_in f + lines_in (tables_by f r.base r.ruby r.left) + length r.elem))))
 unfolding listed_of
 after_read s f r form short p x =
     let w = parts s f r form p short x in
     let e = end_of_lem s _ _ _ p _ (ap (λ (t : Listed). t.end) w.elem) in
     let n = past-last (numbers_in f) (lines_in (tables_by f r.base r.ruby r.left)) (length r.elem) in
-    (e.0, e.1 ∙ ap (λ i. cond (eqb p (length s)) (Sound e.0) (SheetRefused (Form i))) n)
+    (e.0, e.1 ∙ ap (λ i. cond (eqb p (length s)) (Ok e.0) (Err (Form i))) n)
 
 pub data SheetIs (s : List ℕ) : Type 0 where
   broken : (l : ℕ) → Breaks s l → SheetIs s

@@ -1,21 +1,20 @@
 -- A job sheet over its bytes, of form one (document 01, "The job sheet") or form two (document 02, R-6): what is read of each section, and how the reading ends. "The sheet is read top to bottom and
 -- the first fault met, 13 or a count over its maximum (2), is given". Which bytes are a sheet, without a reader, is said in Form.
-use Rattle.std.specs.Prelude.{cond, List, [], ◌∷◌, ◌++◌, map, ◌≡◌, ℕ, ◌+◌, ◌^◌, ◌<◌, ltb, eqb, length, get_or}
+use Rattle.std.specs.Prelude.{cond, List, [], ◌∷◌, ◌++◌, map, ◌≡◌, ℕ, ◌+◌, ◌^◌, ◌<◌, ltb, eqb, length, get_or, Err, Ok, Result}
 use Rattle.std.proofs.lemmas.List.Edits.{sets}
 use Rattle.refusal.specs.declared.Refusal.TheVariants.{Form}
 use Rattle.text.specs.Text.{word}
 use Rattle.text.specs.Print.{bytes}
+use Rattle.refusal.specs.declared.Refusal.{Refusal}
 use Rattle.rows.specs.declared.Part.{Part}
-use Rattle.rows.specs.declared.Part.TheVariants.{Read, Refused}
+use Rattle.rows.specs.Read.{Read}
 use Rattle.rows.specs.Section.{on_place, on_part, Rows, rows_of, section, head_of, count_of, line_of}
 use Rattle.rows.specs.Table.{laid, column}
 use Rattle.elements.specs.declared.SheetForm.{SheetForm}
 use Rattle.elements.specs.declared.SheetForm.TheVariants.{One, Two}
 use Rattle.elements.specs.declared.Elements.{Elements}
-use Rattle.elements.specs.declared.Elements.TheVariants.{Read as ElementsRead, Refused as ElementsRefused}
 use Rattle.elements.specs.Elements.{Listed, elements}
-use Rattle.sheet.specs.declared.Reading.{Reading}
-use Rattle.sheet.specs.declared.Reading.TheVariants.{Sound, Refused as SheetRefused}
+use Rattle.sheet.specs.declared.Counts.{Counts}
 
 -- the first line, a fixed text: `set 2`, or "Form two begins with `set 9`"; and how many lines follow it
 unfoldable pub set_word : SheetForm → List ℕ
@@ -40,14 +39,14 @@ abbrev pub elem_word : List ℕ
 elem_word = bytes "elem "
 
 -- "0 if over 65,535 bytes", "over-length comes before both"; then the first line
-unfoldable pub opening : List ℕ → Part
+unfoldable pub opening : List ℕ → Result Part Refusal
 unfolding on_place word set_word
 opening s =
-    cond (ltb 65535 (length s)) (Refused (Form 0))
-    (on_place (word (set_word One) s 0) (on_place (word (set_word Two) s 0) (Refused (Form 1)) (λ p. Read 9 p 2)) (λ p. Read 2 p 2))
+    cond (ltb 65535 (length s)) (Err (Form 0))
+    (on_place (word (set_word One) s 0) (on_place (word (set_word Two) s 0) (Err (Form 1)) (λ p. Read 9 p 2)) (λ p. Read 2 p 2))
 
 -- the form that it tells
-unfoldable pub form_by : Part → SheetForm
+unfoldable pub form_by : Result Part Refusal → SheetForm
 form_by p = cond (eqb (count_of p) 9) Two One
 
 unfoldable pub form_of : List ℕ → SheetForm
@@ -66,27 +65,27 @@ plain = 1 ∷ 2 ∷ 1 ∷ 1 ∷ 2 ∷ 1 ∷ 0 ∷ []
 abbrev pub singles : List ℕ → List (List ℕ)
 singles vs = map (λ (v : ℕ). v ∷ []) vs
 
-unfoldable pub house : Part → List (List ℕ)
+unfoldable pub house : Result Part Refusal → List (List ℕ)
 house set = cond (eqb (count_of set) 2) (singles plain) []
 
 -- "`base` (class, width, blank before, blank after, flag)", at most 1,024; "`ruby` (class, width)", at most 2,048
-abbrev pub base_from : List ℕ → Part → Rows
+abbrev pub base_from : List ℕ → Result Part Refusal → Rows
 base_from s last = section base_word 5 1024 0 s last
 
-abbrev pub ruby_from : List ℕ → Part → Rows
+abbrev pub ruby_from : List ℕ → Result Part Refusal → Rows
 ruby_from s last = section ruby_word 2 2048 1 s last
 
 -- "and has a `left` section after `ruby`", in the form of `ruby`; its count has the place 3. Form one has none, and no left characters.
-unfoldable pub left_head : SheetForm → List ℕ → Part → Part
+unfoldable pub left_head : SheetForm → List ℕ → Result Part Refusal → Result Part Refusal
 unfolding head_of on_part
-left_head One s last = on_part last Refused (λ _ at line. Read 0 at line)
+left_head One s last = on_part last Err (λ _ at line. Read 0 at line)
 left_head Two s last = head_of left_word 2048 3 s last
 
-abbrev pub left_from : SheetForm → List ℕ → Part → Rows
+abbrev pub left_from : SheetForm → List ℕ → Result Part Refusal → Rows
 left_from f s last = rows_of 2 s (left_head f s last)
 
 -- "`elem`", at most 1,024
-abbrev pub elem_from : SheetForm → List ℕ → Part → Listed
+abbrev pub elem_from : SheetForm → List ℕ → Result Part Refusal → Listed
 elem_from f s last = elements f s (head_of elem_word 1024 2 s last)
 
 -- each section begins where the one before it ended
@@ -107,10 +106,10 @@ unfolding elements head_of form_of left_of
 elem_of s = elem_from (form_of s) s (left_of s).end
 
 -- "each line ended by LF, nothing after", else the number of the next line
-unfoldable pub end_of : List ℕ → Part → Part → Part → Elements → Reading
-end_of s base ruby left (ElementsRead n runs lruns at line) =
-    cond (eqb at (length s)) (Sound (record { bases = count_of base; rubies = count_of ruby; lefts = count_of left; elements = n; runs = runs; lruns = lruns })) (SheetRefused (Form line))
-end_of s base ruby left (ElementsRefused r) = SheetRefused r
+unfoldable pub end_of : List ℕ → Result Part Refusal → Result Part Refusal → Result Part Refusal → Result Elements Refusal → Result Counts Refusal
+end_of s base ruby left (Ok elem) =
+    cond (eqb elem.at (length s)) (Ok (record { bases = count_of base; rubies = count_of ruby; lefts = count_of left; elements = elem.count; runs = elem.runs; lruns = elem.lruns })) (Err (Form elem.line))
+end_of s base ruby left (Err r) = Err r
 
 -- what is read of a sheet
 pub record Sheet : Type 0 where
@@ -122,7 +121,7 @@ pub record Sheet : Type 0 where
   pub elem : List (List ℕ)
   pub runs : List ℕ
   pub lruns : List ℕ
-  pub end : Reading
+  pub end : Result Counts Refusal
 
 unfoldable pub reading : List ℕ → Sheet
 unfolding form_of set_of house base_of ruby_of left_of elem_of end_of
@@ -159,7 +158,7 @@ abbrev pub profile_of : Sheet → ℕ
 profile_of t = set_at t 8
 
 -- the line past a part can be counted
-abbrev pub LineFits : Part → Type 0
+abbrev pub LineFits : Result Part Refusal → Type 0
 LineFits p = line_of p + 1 < 2 ^ 32
 
 -- The lent tables.
@@ -176,7 +175,7 @@ abbrev pub tables : List ℕ → List ℕ → List ℕ → List ℕ → List ℕ
 tables set base ruby left elem runs lruns = record { set = set; base = base; ruby = ruby; left = left; elem = elem; runs = runs; lruns = lruns }
 
 -- The answer and the tables as the reading of s leaves them: each section column by column over what its table held, the runs one after the other.
-pub record Into (s : List ℕ) (was : Tables) (r : Reading) (t : Tables) : Type 0 where
+pub record Into (s : List ℕ) (was : Tables) (r : Result Counts Refusal) (t : Tables) : Type 0 where
   pub answer : r ≡ (reading s).end
   pub set_holds : t.set ≡ laid was.set 0 9 (reading s).set
   pub base_holds : t.base ≡ laid was.base 0 1024 (reading s).base

@@ -1,13 +1,12 @@
 -- Counts and line numbers of a sheet are small: what each section asks of its caller.
-use Rattle.std.specs.Prelude.{Bool, true, false, cond, List, ◌≡◌, ℕ, ◌+◌, ◌≤◌, ltb, length}
+use Rattle.std.specs.Prelude.{Ok, Bool, true, false, cond, List, ◌≡◌, ℕ, ◌+◌, ◌≤◌, ltb, length, Err, None, Option, Result, Some}
 use Rattle.std.proofs.Math.Path.{refl}
 use Rattle.std.proofs.Common.{arith, ltb-false}
 use Rattle.refusal.specs.declared.Refusal.TheVariants.{Form}
-use Rattle.text.specs.declared.Place.{Place}
-use Rattle.text.specs.declared.Place.TheVariants.{At, Off}
 use Rattle.text.specs.Text.{word}
+use Rattle.refusal.specs.declared.Refusal.{Refusal}
 use Rattle.rows.specs.declared.Part.{Part}
-use Rattle.rows.specs.declared.Part.TheVariants.{Read, Refused}
+use Rattle.rows.specs.Read.{Read}
 use Rattle.rows.specs.Section.{on_place, on_part, count_of, line_of, head_of}
 use Rattle.rows.specs.Table.{RowsReady, SectionReady}
 use Rattle.rows.specs.Reading.{head_small}
@@ -18,40 +17,40 @@ use Rattle.elements.specs.Ready.{ElementsReady}
 use Rattle.sheet.specs.Sheet.{set_word, base_word, ruby_word, left_word, elem_word, opening, set_of, left_head, form_of, base_of, ruby_of, left_of}
 use Rattle.sheet.specs.Reads.{left_came}
 
-Few : Part → Type 0
+Few : Result Part Refusal → Type 0
 Few p = (count_of p ≤ 9) × (line_of p ≤ 2)
 
 few-read : (n p : ℕ) → n ≤ 9 → Few (Read n p 2)
 unfolding Few
 few-read n p h = (h, omega arith)
 
-few-off : (line : ℕ) → Few (Refused (Form line))
+few-off : (line : ℕ) → Few (Err (Form line))
 unfolding Few
 few-off line = (omega arith, omega arith)
 
-two-placed : (x : Place) → Few (on_place x (Refused (Form 1)) (λ p. Read 9 p 2))
+two-placed : (x : Option ℕ) → Few (on_place x (Err (Form 1)) (λ p. Read 9 p 2))
 unfolding on_place
-two-placed (At p) = few-read 9 p (omega arith)
-two-placed Off = few-off 1
+two-placed (Some p) = few-read 9 p (omega arith)
+two-placed None = few-off 1
 
-one_placed : (x y : Place) → Few (on_place x (on_place y (Refused (Form 1)) (λ p. Read 9 p 2)) (λ p. Read 2 p 2))
+one_placed : (x y : Option ℕ) → Few (on_place x (on_place y (Err (Form 1)) (λ p. Read 9 p 2)) (λ p. Read 2 p 2))
 unfolding on_place
-one_placed (At p) y = few-read 2 p (omega arith)
-one_placed Off y = two-placed y
+one_placed (Some p) y = few-read 2 p (omega arith)
+one_placed None y = two-placed y
 
-open_tested : (b : Bool) (p : Part) → Few p → Few (cond b (Refused (Form 0)) p)
+open_tested : (b : Bool) (p : Result Part Refusal) → Few p → Few (cond b (Err (Form 0)) p)
 open_tested true p h = few-off 0
 open_tested false p h = h
 
-short_tested : (b : Bool) (s : List ℕ) (p : Part) → ltb 65535 (length s) ≡ b → Came (cond b (Refused (Form 0)) p) → length s ≤ 65535
+short_tested : (b : Bool) (s : List ℕ) (p : Result Part Refusal) → ltb 65535 (length s) ≡ b → Came (cond b (Err (Form 0)) p) → length s ≤ 65535
 short_tested true s p e c = absurd (let f = c.is in let z : ◌≡◌ {A = ℕ} 0 1 = cc in omega arith)
 short_tested false s p e c = ltb-false 65535 (length s) e
 
 -- the line that begins the section `left`, or none
-left_head-small : (f : SheetForm) (s : List ℕ) (last : Part) → (count_of (left_head f s last) ≤ 2048) × (line_of (left_head f s last) ≤ line_of last + 1)
+left_head-small : (f : SheetForm) (s : List ℕ) (last : Result Part Refusal) → (count_of (left_head f s last) ≤ 2048) × (line_of (left_head f s last) ≤ line_of last + 1)
 unfolding left_head on_part
-left_head-small One s (Read n at line) = (omega arith, omega arith)
-left_head-small One s (Refused r) = (omega arith, omega arith)
+left_head-small One s (Ok part) = (omega arith, omega arith)
+left_head-small One s (Err r) = (omega arith, omega arith)
 left_head-small Two s last = head_small left_word s 2048 3 last
 
 module _ (s : List ℕ) where

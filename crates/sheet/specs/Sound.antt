@@ -1,7 +1,7 @@
 -- A sound sheet: its counts are those of the lines that were read, each within its maximum, and every line has all its numbers. So it is said once for both forms: a sound sheet is the text of numbers
 -- in form, and what is read of it are these.
 -- That a sound sheet is so is shown in `proofs/Sound.antt`.
-use Rattle.std.specs.Prelude.{List, ◌∷◌, ◌++◌, ◌≡◌, ℕ, suc, ◌≤◌, length}
+use Rattle.std.specs.Prelude.{List, ◌∷◌, ◌++◌, ◌≡◌, ℕ, suc, ◌≤◌, length, Ok}
 use Rattle.std.proofs.Common.{◌∙◌, ap, sym, arith, length-append}
 use Rattle.basics.specs.Lists.{All}
 use Rattle.rows.specs.Print.{head_text}
@@ -11,7 +11,6 @@ use Rattle.elements.specs.declared.SheetForm.TheVariants.{One, Two}
 use Rattle.elements.specs.Print.{elements_text, elem_text, rows-many, rows-wide, all_runs, all_left}
 use Rattle.elements.specs.Printed.{elements-long}
 use Rattle.sheet.specs.declared.Counts.{Counts}
-use Rattle.sheet.specs.declared.Reading.TheVariants.{Sound}
 use Rattle.sheet.specs.Sheet.{elem_word, Sheet}
 use Rattle.sheet.specs.Form.{Written, InForm, Shown, numbers_of, set_text, sections, tables_by, sheet_text, sheet_of}
 use Rattle.sheet.specs.Reads.{single-count, single-wide}
@@ -57,7 +56,7 @@ few_runs_lem f r form =
     let s = form.short in
     (omega arith, omega arith)
 
-pub sound-of : (f : SheetForm) (r : Written) → InForm f r → (c : Counts) → (sheet_of f r).end ≡ Sound c → SoundSheet (sheet_of f r) c
+pub sound-of : (f : SheetForm) (r : Written) → InForm f r → (c : Counts) → (sheet_of f r).end ≡ Ok c → SoundSheet (sheet_of f r) c
 unfolding sheet_of
 sound-of f r form c e =
     let bases : c.bases ≡ length r.base = cc in

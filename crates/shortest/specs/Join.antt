@@ -9,6 +9,7 @@ use native.Mathlib.Omega.{arith}
 use Rattle.basics.specs.Lists.{count, keep}
 use Rattle.refusal.specs.declared.Refusal.TheVariants.{NoBreak}
 use Rattle.line.specs.Setting.{furthest}
+use Rattle.cells.specs.Rows.{Rows}
 use Rattle.cells.specs.Cells.{may_end}
 use Rattle.cells.specs.Sound.{Sound}
 use Rattle.door.specs.Job.{Job, base_count}
@@ -50,7 +51,7 @@ module _ (p : ℕ → Bool) (f : ℕ → ℕ) (d s : ℕ) where
       go true c es = ap (least d) (map-append f es (c ∷ [])) ∙ least_more d (f c) (map f es)
       go false c es = ap (λ (es : List ℕ). least d (map f es)) (append-nil es)
 
-module _ (job : Job) (passed : Passed job) (t : List ℕ) (table : Holds job t) (s : ℕ) (h : s < base_count job) where
+module _ (job : Job) (passed : Passed job) (t : Rows) (table : Holds job t) (s : ℕ) (h : s < base_count job) where
   extent-join : (c : ℕ) → s < c → c ≤ base_count job → extent_at t s c ≡ extent_of job s c
   extent-join c l u = ap furthest (state-join job passed t table s c l u) ∙ sym (extent_of_lem job s c)
 
@@ -64,7 +65,7 @@ module _ (job : Job) (passed : Passed job) (t : List ℕ) (table : Holds job t) 
       ∙ least-listed (permitted job) (extent_of job s) (extent_of job s (base_count job)) s (base_count job - s)
 
 -- Of a job that is refused with number 11 at s and a table that holds it, `needed_extent` tells what is needed there: all that it asks holds.
-module _ (job : Job) (base ruby left line : List ℕ) (s : ℕ) (refused : (outcome job base ruby left line).answer ≡ Refused (NoBreak s)) (t : List ℕ) (table : Holds job t) where
+module _ (job : Job) (base ruby left line : List ℕ) (s : ℕ) (refused : (outcome job base ruby left line).answer ≡ Refused (NoBreak s)) (t : Rows) (table : Holds job t) where
   pub refused-ready : (Sound t (base_count job)) × (s < base_count job) × (needed_of t (base_count job) s ≡ needed job s)
   refused-ready =
       let good = entered job base ruby left line s refused in

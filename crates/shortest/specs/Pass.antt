@@ -1,11 +1,12 @@
 -- The pass over the pieces of a line that takes the least extent: what is known at a piece, and what its breaks add.
-use Rattle.std.specs.Prelude.{◌≡◌, refl, Bool, true, false, cond, ◌||◌, List, ℕ, suc, ◌+◌, ◌-◌, ◌*◌, ◌≤◌, ◌<◌, min, eqb, length}
+use Rattle.std.specs.Prelude.{◌≡◌, refl, Bool, true, false, cond, ◌||◌, ℕ, suc, ◌+◌, ◌-◌, ◌*◌, ◌≤◌, ◌<◌, min, eqb, length}
 use Rattle.std.proofs.Math.Path.{sym, ap, subst}
 use Rattle.std.proofs.Common.{◌∙◌, zero-le, arith, eq-eqb}
 use Rattle.line.specs.declared.State.{State}
 use Rattle.line.specs.Setting.{start, furthest}
+use Rattle.cells.specs.Rows.{Rows}
 use Rattle.cells.specs.declared.Cell.{Cell}
-use Rattle.cells.specs.Cells.{size, cell_at, piece, next, rest, state_at, may_end, Advances}
+use Rattle.cells.specs.Cells.{cell_at, piece, next, rest, state_at, may_end, Advances}
 use Rattle.cells.specs.Sound.{Row, Sound, advances}
 use Rattle.cells.specs.Walk.{stop-whole, stop-within, may_within, may_end_lem, step, next-near, rest-none}
 use Rattle.shortest.specs.Shortest.{least_of, extent_at, needed_of, least-split, least-same, least_at, least-none, least-never, least_start}
@@ -15,16 +16,16 @@ abbrev pub largest : ℕ
 largest = 4294967295
 
 -- the extent of a line of the state st and of the piece from i up to c
-abbrev pub extent_upto : List ℕ → State → ℕ → ℕ → ℕ
+abbrev pub extent_upto : Rows → State → ℕ → ℕ → ℕ
 extent_upto t st i c = furthest (next st (piece t i c))
 
 -- the least of d and the extents at the first k breaks within the element from i on: only a J has any
-unfoldable pub inner_least : List ℕ → State → ℕ → ℕ → ℕ → ℕ
+unfoldable pub inner_least : Rows → State → ℕ → ℕ → ℕ → ℕ
 unfolding least_of
 inner_least t st i d k = least_of (λ _. (cell_at t i).cut) (extent_upto t st i) d i k
 
 -- the same up to the end of the piece at i, where the line has the state `then`
-unfoldable pub behind : List ℕ → ℕ → ℕ → State → State → ℕ → ℕ
+unfoldable pub behind : Rows → ℕ → ℕ → State → State → ℕ → ℕ
 unfolding inner_least
 behind t n i st then d =
     let a = cell_at t i in
@@ -32,7 +33,7 @@ behind t n i st then d =
     cond (eqb (i + a.bases) n || a.ends) (min (furthest then) r) r
 
 -- break by break
-module _ (t : List ℕ) (st : State) (i d : ℕ) where
+module _ (t : Rows) (st : State) (i d : ℕ) where
   pub inner-none : (k : ℕ) → k ≡ 0 → inner_least t st i d k ≡ d
   unfolding inner_least
   inner-none = least-none (λ _. (cell_at t i).cut) (extent_upto t st i) d i
@@ -46,23 +47,23 @@ module _ (t : List ℕ) (st : State) (i d : ℕ) where
   inner-whole e k = ap (λ (x : Bool). least_of (λ _. x) (extent_upto t st i) d i k) e ∙ least-never (extent_upto t st i) d i k
 
 -- a line of the state st stands before row i; a piece takes it on by 524,288 at most
-pub record Stands (t : List ℕ) (n i : ℕ) (st : State) : Type 0 where
+pub record Stands (t : Rows) (n i : ℕ) (st : State) : Type 0 where
   pub sound : Sound t n
   pub inside : i < n
   pub near : furthest st ≤ 524288 * i
 
-module _ {t : List ℕ} {n i : ℕ} {st : State} (h : Stands t n i st) where
+module _ {t : Rows} {n i : ℕ} {st : State} (h : Stands t n i st) where
   pub row : Row t n i
   row = h.sound.row i h.inside
 
-  pub held : size (i + 1) ≤ length t
+  pub held : i < length t.rows
   held = omega (arith, h.inside, h.sound.long)
 
   pub goes : (c : ℕ) → i < c → c ≤ i + (cell_at t i).bases → Advances t st i c
   goes c l u = advances t n h.sound i c l u h.inside st h.near
 
 -- the pass behind the pieces before row i: the line from s has the state st there, and the breaks from here on are held against d
-pub record Passes (t : List ℕ) (n s i : ℕ) (st : State) (d : ℕ) : Type 0 where
+pub record Passes (t : Rows) (n s i : ℕ) (st : State) (d : ℕ) : Type 0 where
   pub sound : Sound t n
   pub from : s ≤ i
   pub upto : i ≤ n
@@ -71,11 +72,11 @@ pub record Passes (t : List ℕ) (n s i : ℕ) (st : State) (d : ℕ) : Type 0 w
   pub here : s < i → state_at t s i ≡ st
   pub short : least_of (may_end t n) (extent_at t s) largest s (n - s) ≡ least_of (may_end t n) (extent_at t s) d i (n - i)
 
-pub passes-first : {t : List ℕ} {n s : ℕ} → Sound t n → s < n → Passes t n s s start largest
+pub passes-first : {t : Rows} {n s : ℕ} → Sound t n → s < n → Passes t n s s start largest
 passes-first sound h =
     record { sound = sound; from = omega arith; upto = omega arith; near = zero-le; state = λ c l u. refl; here = λ l. absurd (omega arith); short = refl }
 
-module _ {t : List ℕ} {n s i : ℕ} {st : State} {d : ℕ} (q : Passes t n s i st d) where
+module _ {t : Rows} {n s i : ℕ} {st : State} {d : ℕ} (q : Passes t n s i st d) where
   -- behind the last piece all breaks have been tried
   pub passes-end : s < n → n ≤ i → d ≡ needed_of t n s
   unfolding needed_of
@@ -161,7 +162,7 @@ module _ {t : List ℕ} {n s i : ℕ} {st : State} {d : ℕ} (q : Passes t n s i
         split n i b h = omega arith
 
 -- what is behind a piece, case by case
-module _ (t : List ℕ) (n i : ℕ) (st then : State) (d r : ℕ) (e : r ≡ inner_least t st i d ((cell_at t i).bases - 1)) where
+module _ (t : Rows) (n i : ℕ) (st then : State) (d r : ℕ) (e : r ≡ inner_least t st i d ((cell_at t i).bases - 1)) where
   pub behind_may : (eqb (i + (cell_at t i).bases) n || (cell_at t i).ends) ≡ true → min (furthest then) r ≡ behind t n i st then d
   unfolding behind
   behind_may h = rw (h, e)

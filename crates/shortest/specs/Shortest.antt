@@ -1,11 +1,12 @@
 -- The extent that the shortest permitted line from a base character has, by the rows of a table.
-use Rattle.std.specs.Prelude.{◌≡◌, Bool, true, false, List}
+use Rattle.std.specs.Prelude.{◌≡◌, Bool, true, false}
 use Rattle.std.proofs.Math.Path.{refl, ap}
 use Rattle.std.proofs.Common.{sym, ◌∙◌, add-zero}
 use Rattle.std.proofs.Math.Bool.{cond}
 use Prim.Native.Nat.{ℕ, zero, suc, ◌+◌, ◌-◌, ◌≤◌, ◌<◌, min}
 use native.Mathlib.Omega.{arith}
 use Rattle.line.specs.Setting.{furthest}
+use Rattle.cells.specs.Rows.{Rows}
 use Rattle.cells.specs.Cells.{walk, state_at, may_end}
 
 -- the least of d and what f gives for those of the k numbers behind s that pass a test
@@ -14,12 +15,12 @@ least_of p f d s zero = d
 least_of p f d s (suc k) = let c = s + suc k in cond (p c) (min (f c) (least_of p f d s k)) (least_of p f d s k)
 
 -- the extent of the line from s up to c
-abbrev pub extent_at : List ℕ → ℕ → ℕ → ℕ
+abbrev pub extent_at : Rows → ℕ → ℕ → ℕ
 extent_at t s c = furthest (state_at t s c)
 
 -- "Every permitted break ahead is a try": the least extent that the line from s has at any of them, of n base characters. The job's end is always one, so its
 -- extent is what the others are held against.
-unfoldable pub needed_of : List ℕ → ℕ → ℕ → ℕ
+unfoldable pub needed_of : Rows → ℕ → ℕ → ℕ
 unfolding least_of walk
 needed_of t n s = least_of (may_end t n) (extent_at t s) (extent_at t s n) s (n - s)
 

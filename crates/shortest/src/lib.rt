@@ -18,21 +18,18 @@ const LARGEST: u32 = 4294967295;
 fn lesser(st: line::State, least: u32) -> u32
     ensures { result ≡ min (setting.furthest st) least }
 {
-    let extent = basics::larger(st.end, basics::larger(st.right, st.left));
-    if extent <= least { extent } else { least }
+    st.end.max(st.right.max(st.left)).min(least)
 }
 
 // The least extent once each inner break of the J from i on is tried, after a line of the state st: a line may end "between any two base characters of a J".
-fn within(t: &[u32], n: usize, i: usize, bases: usize, st: line::State, least: u32) -> u32
+fn within(t: &cells::Table, n: usize, i: usize, bases: usize, st: line::State, least: u32) -> u32
     requires { (Stands t.now n i st) × (bases ≡ (cell_at t.now i).bases) × ((cell_at t.now i).cut ≡ true) }
     ensures { result ≡ inner_least t.now st i least (bases - 1) }
 {
-    let mut k: usize = 1;
     let mut found = least;
-    while k < bases {
+    for k in 1..bases {
         let step = cells::advance_cut(t, i, i + k, st);
         found = lesser(step.st, found);
-        k += 1;
     }
     found
 }
@@ -40,7 +37,7 @@ fn within(t: &[u32], n: usize, i: usize, bases: usize, st: line::State, least: u
 // The least extent once the breaks of the piece at i are tried: those within it, and the one behind it, where the line has the state `next`. A line may end "after
 // the last base character of an element whose flag is 1 .. and at the job's end".
 fn least_behind(
-    t: &[u32],
+    t: &cells::Table,
     n: usize,
     i: usize,
     st: line::State,
@@ -50,7 +47,7 @@ fn least_behind(
     requires { Stands t.now n i st }
     ensures { result ≡ behind t.now n i st next least }
 {
-    let a = cells::cell_at(t, i);
+    let a = t.row(i);
     let bases = a.bases as usize;
     let mut found = least;
     if a.cut {
@@ -65,16 +62,17 @@ fn least_behind(
     found
 }
 
-// The extent that the shortest permitted line from base character s has, of a table of n rows.
-pub fn needed_extent(t: &[u32], n: usize, s: usize) -> u32
+/// The extent that the shortest permitted line from base character s has, of a table of n rows.
+pub fn needed_extent(t: &cells::Table, n: usize, s: usize) -> u32
     requires { (Sound t.now n) × (s < n) }
     ensures { result ≡ needed_of t.now n s }
 {
     let mut st = line::START;
     let mut i = s;
     let mut least = LARGEST;
+    // From piece to piece: a row says where the next one begins.
     while i < n {
-        let a = cells::cell_at(t, i);
+        let a = t.row(i);
         let c = i + a.bases as usize;
         let step = cells::advance(t, i, c, st);
         least = least_behind(t, n, i, st, step.st, least);

@@ -9,41 +9,42 @@ ghost use Rattle.spread.specs.Ratio.{ratio_for, ratios_of, Sound, Housed};
 ghost use Rattle.spread.specs.Gap.{gaps_by, gaps, starts};
 ghost use Rattle.spread.specs.Running.{Ready};
 
-// How the shorter string is set: Limited is spread with at most half an em at each end.
-#[derive(Clone, Copy)]
+/// How the shorter string is set: Limited is spread with at most half an em at each end.
+#[derive(Clone, Copy, Debug, PartialEq, Eq)]
 pub enum Way {
     Solid,
     Spread,
     Limited,
 }
 
-// Which of a word's two strings is the shorter: each has its own ratio.
-#[derive(Clone, Copy)]
+/// Which of a word's two strings is the shorter: each has its own ratio.
+#[derive(Clone, Copy, Debug, PartialEq, Eq)]
 pub enum Which {
     Ruby,
     Base,
 }
 
-// 1:2:1 for both, as document 01 has it: what a sheet without ratios means.
+/// 1:2:1 for both, as document 01 has it: what a sheet without ratios means.
 pub const USUAL: [[u32; 3]; 2] = [[1, 2, 1], [1, 2, 1]];
 
-// A house ratio (R-4): the parts of the gap in front, of each gap within and of the gap behind.
-#[derive(Clone, Copy)]
+/// A house ratio (R-4): the parts of the gap in front, of each gap within and of the gap behind.
+#[derive(Clone, Copy, Debug, PartialEq, Eq)]
 pub struct Ratio {
     pub a: u32,
     pub m: u32,
     pub c: u32,
 }
 
-// The space of a string in half units: in front, within and behind.
-#[derive(Clone, Copy)]
+/// The space of a string in half units: in front, within and behind.
+#[derive(Clone, Copy, Debug, PartialEq, Eq)]
 pub struct Gaps {
     pub front: u32,
     pub within: u32,
     pub rear: u32,
 }
 
-// The ratio of the string that is spread, of the two that a job carries: "one for spread ruby and one for spread base, each of three numbers a, m, c".
+// The ratio of the string that is spread, of the two that a job carries: "one for spread ruby and one for spread base, each of three numbers a, m, c". By a match, since document 01 has them by value.
+#[tactic(auto, using(crate::proofs::Steps::spread_steps))]
 fn ratio_of(which: Which, ratios: [[u32; 3]; 2]) -> Ratio
     ensures { result ≡ ratio_for which (ratios_of ratios) }
 {
@@ -61,7 +62,8 @@ fn ratio_of(which: Which, ratios: [[u32; 3]; 2]) -> Ratio
     }
 }
 
-// S = a + m(n - 1) + c.
+// S = a + m(n - 1) + c. The bounds of counts and widths are asked of plain numbers here and below: a type for them would ask no less, and more of who calls from outside.
+#[tactic(auto, using(crate::proofs::Steps::spread_steps))]
 fn whole_of(r: Ratio, n: u32) -> u32
     requires { (Sound r) × (0 < n) × (n ≤ 4096) }
     ensures { result ≡ whole r n }
@@ -70,6 +72,7 @@ fn whole_of(r: Ratio, n: u32) -> u32
 }
 
 // floor(2D * part / S).
+#[tactic(auto, using(crate::proofs::Steps::share_steps))]
 fn share_of(d: u32, part: u32, s: u32) -> u32
     requires { (d ≤ 262144) × (part ≤ 7) × (0 < s) × (part ≤ s) }
     ensures { (result ≡ 2 * d * part / s) × (result ≤ 2 * d) }
@@ -81,14 +84,11 @@ fn share_of(d: u32, part: u32, s: u32) -> u32
 fn hold(limited: bool, em: u32, g: u32) -> u32
     ensures { result ≡ held limited em g }
 {
-    if limited {
-        if g <= em { g } else { em }
-    } else {
-        g
-    }
+    if limited { g.min(em) } else { g }
 }
 
 // The gaps of a string of n characters that is spread.
+#[tactic(auto, using(crate::proofs::Steps::spread_steps), unfolding(crate::specs::Gap::gaps_by))]
 fn spread_of(limited: bool, r: Ratio, em: u32, d: u32, n: u32) -> Gaps
     requires { (Sound r) × (d ≤ 262144) × (0 < n) × (n ≤ 4096) }
     ensures { result ≡ gaps_by limited r em d n }
@@ -120,13 +120,14 @@ fn spread_of(limited: bool, r: Ratio, em: u32, d: u32, n: u32) -> Gaps
     let front = hold(limited, em, f);
     let rear = hold(limited, em, share_of(d, r.c, s));
     Gaps {
-        front: front,
+        front,
         within: 2 * d - (front + rear),
-        rear: rear,
+        rear,
     }
 }
 
-// The gaps of the shorter string by its way and its ratio: d is the difference of the sums in units, n the string's characters.
+/// The gaps of the shorter string by its way and its ratio: d is the difference of the sums in units, n the string's characters.
+#[tactic(auto, using(crate::proofs::Steps::way_steps), unfolding(crate::specs::Gap::gaps))]
 pub fn gaps_of(which: Which, way: Way, ratios: [[u32; 3]; 2], em: u32, d: u32, n: u32) -> Gaps
     requires { (Housed (ratios_of ratios)) × (d ≤ 262144) × (0 < n) × (n ≤ 4096) }
     ensures { result ≡ gaps way (ratio_for which (ratios_of ratios)) em d n }
@@ -142,9 +143,9 @@ pub fn gaps_of(which: Which, way: Way, ratios: [[u32; 3]; 2], em: u32, d: u32, n
     }
 }
 
-// The starts of a string's characters: the first at `at`, with `within` half units of space within the string. One division for the string; then, from gap to
-// gap as by pencil, each gap gets the quotient, the remainder is carried, and a gap where the carried remainders make up the number of gaps gets one half
-// unit more (specs/Carried.antt). One loop serves solid and spread.
+/// The starts of a string's characters: the first at `at`, with `within` half units of space within the string. One division for the string; then, from gap to
+/// gap as by pencil, each gap gets the quotient, the remainder is carried, and a gap where the carried remainders make up the number of gaps gets one half
+/// unit more (specs/Carried.antt). One loop serves solid and spread.
 pub fn put_starts(ws: &[u32], at: u32, within: u32, out: &mut [u32])
     requires { Ready within at ws.now out.old }
     ensures { out.new ≡ starts within at ws.now }
@@ -162,6 +163,7 @@ pub fn put_starts(ws: &[u32], at: u32, within: u32, out: &mut [u32])
     let remainder = within % gaps;
     let mut x = at;
     let mut carried: u32 = 0;
+    // Written for the compiler: `for i in 0..n - 1` with one write behind the `if` costs words 1 % more instructions (`bench/run`).
     let mut i: usize = 0;
     while i + 1 < n {
         let left = carried + remainder;

@@ -1,11 +1,10 @@
 -- Theorem `number-back`: what is written is read back. A number in decimal, followed by a byte below the digits, is read as that number, and the reading ends past that byte.
-use Rattle.std.specs.Prelude.{ℕ, zero, suc, ◌+◌, ◌-◌, ◌*◌, ◌/◌, ◌%◌, ◌^◌, ◌<◌, ◌≤◌, ◌≡◌, refl, List, ◌∷◌, ◌++◌, Bool, true, false, cond, leb, ltb}
+use Rattle.std.specs.Prelude.{ℕ, Some, zero, suc, ◌+◌, ◌-◌, ◌*◌, ◌/◌, ◌%◌, ◌^◌, ◌<◌, ◌≤◌, ◌≡◌, refl, List, ◌∷◌, ◌++◌, Bool, true, false, cond, leb, ltb}
 use Rattle.std.proofs.Common.{◌∙◌, arith, pow-suc, add-mul, mul_assoc, le-mul_of_pos_right, add-zero, zero-mul, mod-lt, mod-eq_of_lt, div-lt_iff_lt-mul, div-add-mod', eq-eqb, ne_eqb, le-ltb, leb-true, leb-false, ltb-true, ltb-false}
 use Rattle.std.proofs.Math.Nat.{pow-succ'}
 use Rattle.std.proofs.Math.Arith.{mod-mul}
 use Rattle.text.specs.Text.{most, more, number, alone}
 use Rattle.text.specs.Print.{spell, width, width_from, decimal}
-use Rattle.text.specs.declared.Number.TheVariants.{Is}
 
 more-digit : (d stop v at : ℕ) (l : List ℕ) → stop < 48 → d < 10 → v * 10 + d ≤ most → more ((48 + d) ∷ l) stop v at ≡ more l stop (v * 10 + d) (at + 1)
 unfolding more
@@ -29,7 +28,7 @@ value k n v =
 less : (x p r m : ℕ) → 0 < p → x * p + r ≤ m → x ≤ m
 less x p r m hp h = omega (arith, le-mul_of_pos_right x hp)
 
-pub more-back : (k n stop v at : ℕ) (rest : List ℕ) → stop < 48 → v * 10 ^ k + n % 10 ^ k ≤ most → more (spell k n ++ (stop ∷ rest)) stop v at ≡ Is (v * 10 ^ k + n % 10 ^ k) (at + k + 1)
+pub more-back : (k n stop v at : ℕ) (rest : List ℕ) → stop < 48 → v * 10 ^ k + n % 10 ^ k ≤ most → more (spell k n ++ (stop ∷ rest)) stop v at ≡ Some (v * 10 ^ k + n % 10 ^ k, at + k + 1)
 unfolding more spell
 more-back zero n stop v at rest hs h =
     let e : v * 10 ^ 0 + n % 10 ^ 0 ≡ v = omega arith in
@@ -72,13 +71,13 @@ first-digit n j h = mod-eq_of_lt ((div-lt_iff_lt-mul (tens j)).1 (rw pow-succ' a
 
 -- the first digit and the rest, read as a number
 lead : (d n j stop at : ℕ) (rest : List ℕ) → stop < 48 → 0 < d → d < 10 → d * 10 ^ j + n % 10 ^ j ≤ most →
-    number ((48 + d) ∷ (spell j n ++ (stop ∷ rest))) stop at ≡ Is (d * 10 ^ j + n % 10 ^ j) (at + 1 + j + 1)
+    number ((48 + d) ∷ (spell j n ++ (stop ∷ rest))) stop at ≡ Some (d * 10 ^ j + n % 10 ^ j, at + 1 + j + 1)
 unfolding number
 lead d n j stop at rest hs h0 hd h =
     let e : 48 + d - 48 ≡ d = omega arith in
     rw (ne_eqb (48 + d) 48 (λ q. omega arith), le-ltb (48 + d) 48 (omega arith), le-ltb 57 (48 + d) (omega arith), e) (more-back j n stop d (at + 1) rest hs h)
 
-zero-alone : (stop at : ℕ) (rest : List ℕ) → number (48 ∷ (stop ∷ rest)) stop at ≡ Is 0 (at + 2)
+zero-alone : (stop at : ℕ) (rest : List ℕ) → number (48 ∷ (stop ∷ rest)) stop at ≡ Some (0, at + 2)
 unfolding number alone
 zero-alone stop at rest =
     let e : at + 1 + 1 ≡ at + 2 = omega arith in
@@ -97,7 +96,7 @@ none n (suc i) w h =
     let e : suc (suc i) - 1 ≡ suc i = omega arith in
     absurd (omega (arith, rw e at (w.least (omega arith)), small n (suc i) h))
 
-back-case : (b : Bool) (n j stop at : ℕ) (rest : List ℕ) → ltb 0 (n / 10 ^ j) ≡ b → Wide n (suc j) → n ≤ most → stop < 48 → number (spell (suc j) n ++ (stop ∷ rest)) stop at ≡ Is n (at + suc j + 1)
+back-case : (b : Bool) (n j stop at : ℕ) (rest : List ℕ) → ltb 0 (n / 10 ^ j) ≡ b → Wide n (suc j) → n ≤ most → stop < 48 → number (spell (suc j) n ++ (stop ∷ rest)) stop at ≡ Some (n, at + suc j + 1)
 unfolding spell
 back-case true n j stop at rest e w hm hs =
     let q = first-digit n j w.above in
@@ -110,11 +109,11 @@ back-case false n j stop at rest e w hm hs =
     let f : at + 1 + 1 ≡ at + 2 = omega arith in
     rw (z.0, z.1) (zero-alone stop at rest ∙ rw (← f))
 
-back : (w n stop at : ℕ) (rest : List ℕ) → Wide n w → n ≤ most → stop < 48 → number (spell w n ++ (stop ∷ rest)) stop at ≡ Is n (at + w + 1)
+back : (w n stop at : ℕ) (rest : List ℕ) → Wide n w → n ≤ most → stop < 48 → number (spell w n ++ (stop ∷ rest)) stop at ≡ Some (n, at + w + 1)
 back zero n stop at rest w hm hs = absurd (omega (arith, w.some))
 back (suc j) n stop at rest w hm hs = back-case (ltb 0 (n / 10 ^ j)) n j stop at rest refl w hm hs
 
 -- a number that is written and ended by a byte below the digits is read back
-pub number-back : (n stop at : ℕ) (rest : List ℕ) → n ≤ most → stop < 48 → number (decimal n ++ (stop ∷ rest)) stop at ≡ Is n (at + width n + 1)
+pub number-back : (n stop at : ℕ) (rest : List ℕ) → n ≤ most → stop < 48 → number (decimal n ++ (stop ∷ rest)) stop at ≡ Some (n, at + width n + 1)
 unfolding decimal
 number-back n stop at rest hm hs = back (width n) n stop at rest (wide n hm) hm hs

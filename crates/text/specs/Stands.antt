@@ -1,9 +1,7 @@
 -- A text stands in a sheet's bytes from one place to another. A number is read exactly where it stands in decimal, a word exactly where it stands, and texts follow each other.
-use Rattle.std.specs.Prelude.{ℕ, ◌+◌, ◌<◌, ◌≤◌, ◌≡◌, refl, List, [], ◌∷◌, ◌++◌, length, drop}
+use Rattle.std.specs.Prelude.{ℕ, Some, ◌+◌, ◌<◌, ◌≤◌, ◌≡◌, refl, List, [], ◌∷◌, ◌++◌, length, drop}
 use Rattle.std.proofs.Common.{◌∙◌, ap, sym, append-nil, append_assoc, zero-add, arith, length-append, length-drop, drop-drop}
 use Rattle.std.proofs.Math.Seq.{drop-length, drop-append_seam}
-use Rattle.text.specs.declared.Number.TheVariants.{Is}
-use Rattle.text.specs.declared.Place.TheVariants.{At}
 use Rattle.text.specs.Text.{most, number, word}
 use Rattle.text.specs.Print.{width, decimal}
 use Rattle.text.specs.Written.{length-decimal}
@@ -58,31 +56,31 @@ stands-within {s} {at} t {next} x h = omega (arith, x.past, ap length x.text, le
 
 -- a number is read exactly where it stands in decimal, followed by the byte that ends it
 module _ (s : List ℕ) (at n stop next : ℕ) where
-  pub number-stands : number (drop at s) stop at ≡ Is n next → (n ≤ most) × Stands s at (ended n stop) next
+  pub number-stands : number (drop at s) stop at ≡ Some (n, next) → (n ≤ most) × Stands s at (ended n stop) next
   number-stands e =
       let o = number-only (drop at s) stop at n next e in
       (o.0, stands_of s at (ended n stop) next o.1)
 
   -- with the byte that ends it a number takes two bytes of the sheet at least
-  pub number_past : number (drop at s) stop at ≡ Is n next → (at + 2 ≤ next) × (next ≤ length s)
+  pub number_past : number (drop at s) stop at ≡ Some (n, next) → (at + 2 ≤ next) × (next ≤ length s)
   number_past e =
       let o = number-stands e in
       let l = length-append (decimal n) (stop ∷ []) in
       let w = (wide n o.0).some in
       (omega (arith, o.1.past, l, length-decimal n, w), stands-within (ended n stop) o.1 (omega (arith, l)))
 
-  pub stands-number : stop < 48 → n ≤ most → Stands s at (ended n stop) next → number (drop at s) stop at ≡ Is n next
+  pub stands-number : stop < 48 → n ≤ most → Stands s at (ended n stop) next → number (drop at s) stop at ≡ Some (n, next)
   stands-number h g x =
       let f : at + width n + 1 ≡ next = omega (arith, x.past, length-append (decimal n) (stop ∷ []), length-decimal n) in
-      rw (x.text, append_assoc (decimal n) (stop ∷ []) (drop next s)) (number-back n stop at (drop next s) g h ∙ ap (λ q. Is n q) f)
+      rw (x.text, append_assoc (decimal n) (stop ∷ []) (drop next s)) (number-back n stop at (drop next s) g h ∙ ap (λ q. Some (n, q)) f)
 
 -- a word is read exactly where it stands
 module _ (w s : List ℕ) (at next : ℕ) where
-  pub word_stands : word w (drop at s) at ≡ At next → Stands s at w next
+  pub word_stands : word w (drop at s) at ≡ Some next → Stands s at w next
   word_stands e = stands_of s at w next (word-only w (drop at s) at next e)
 
-  pub stands_word : Stands s at w next → word w (drop at s) at ≡ At next
-  stands_word x = rw x.text (word_back w (drop next s) at ∙ ap At (sym x.past))
+  pub stands_word : Stands s at w next → word w (drop at s) at ≡ Some next
+  stands_word x = rw x.text (word_back w (drop next s) at ∙ ap Some (sym x.past))
 
 -- a sheet that is a text whole
 pub stands-whole : (s t : List ℕ) → Stands s 0 t (length s) → s ≡ t

@@ -1,13 +1,14 @@
 -- Theorems `number-only` and `word-only`: what was read as a number is that number in decimal and the byte that ends it, and what was read as a word is that word. With `number-back` of Back:
 -- a number is read exactly where it is written, and in one way. `decimal-one`: no two numbers are written alike.
-use Rattle.std.specs.Prelude.{ℕ, zero, suc, ◌+◌, ◌-◌, ◌*◌, ◌/◌, ◌%◌, ◌^◌, ◌<◌, ◌≤◌, ◌≡◌, refl, List, [], ◌∷◌, ◌++◌, Bool, true, false, cond, eqb, ltb, length, get_or, drop}
-use Rattle.std.proofs.Common.{◌∙◌, ap, ap₂, sym, append_assoc, arith, pow-suc, div-one, div-lt_iff_lt-mul, div-mul-le_self, mul-le-mul_right, mul_comm, add-zero, mod-eq_of_lt, eqb-true, eq-eqb, ltb-false, le-leb, length-append}
+use Rattle.std.specs.Prelude.{ℕ, Option, Some, None, zero, suc, ◌+◌, ◌-◌, ◌*◌, ◌/◌, ◌%◌, ◌^◌, ◌<◌, ◌≤◌, ◌≡◌, refl, List, [], ◌∷◌, ◌++◌, Bool, true, false, cond, eqb, ltb, length, get_or, drop}
+use Rattle.std.proofs.Common.{◌∙◌, ap, ap₂, sym, append_assoc, arith, pow-suc, div-one, div-lt_iff_lt-mul, div-mul-le_self, mul-le-mul_right, mul_comm, add-zero, mod-eq_of_lt, eqb-true, ltb-false, le-leb, length-append}
 use Rattle.std.proofs.Math.Decide.{dec_lt}
 use Rattle.std.proofs.Math.Nat.{div-div-eq-div-mul, pow-le-pow_right}
 use Rattle.std.proofs.lemmas.Bool.{eqb-false}
-use Rattle.text.specs.declared.Number.{Number}
-use Rattle.text.specs.declared.Number.TheVariants.{Is, Fault}
-use Rattle.text.specs.declared.Place.TheVariants.{At, Off}
+use Rattle.std.proofs.lemmas.Bool.Decides.{Decides-eqb}
+use Rattle.std.proofs.lemmas.Option.{cond_some, none-some, some_pair_parts}
+use Rattle.std.proofs.lemmas.Slice.Eq.{starts_is}
+use Rattle.std.specs.List.{starts_with}
 use Rattle.text.specs.Text.{most, more, alone, number, word}
 use Rattle.text.specs.Print.{spell, width_from, width, decimal}
 use Rattle.text.specs.Written.{length-decimal, width_le}
@@ -29,12 +30,13 @@ digit-front : (n p b v : ℕ) → 48 ≤ b → b ≤ 57 → n / p ≡ v * 10 + (
 digit-front n p b v h g e = sym (div-div-eq-div-mul n p 10) ∙ (rw e (omega arith))
 
 more-case : (b : ℕ) (rest : List ℕ) (stop v at n next : ℕ) (t1 t2 t3 t4 : Bool) → eqb b stop ≡ t1 → ltb b 48 ≡ t2 → ltb 57 b ≡ t3 → ltb most (v * 10 + (b - 48)) ≡ t4 →
-    (x : Number) → (x ≡ Is n next → Digits rest stop (v * 10 + (b - 48)) (at + 1) n next) →
-    cond t1 (Is v (at + 1)) (cond t2 Fault (cond t3 Fault (cond t4 Fault x))) ≡ Is n next → Digits (b ∷ rest) stop v at n next
+    (x : Option (ℕ × ℕ)) → (x ≡ Some (n, next) → Digits rest stop (v * 10 + (b - 48)) (at + 1) n next) →
+    cond t1 (Some (v, at + 1)) (cond t2 None (cond t3 None (cond t4 None x))) ≡ Some (n, next) → Digits (b ∷ rest) stop v at n next
 unfolding spell
 more-case b rest stop v at n next true t2 t3 t4 h1 h2 h3 h4 x on e =
-    let f : v ≡ n = cc in
-    let g : at + 1 ≡ next = cc in
+    let p = some_pair_parts v n (at + 1) next e in
+    let f = p.0 in
+    let g = p.1 in
     record {
       digits = 0;
       rest = rest;
@@ -43,9 +45,9 @@ more-case b rest stop v at n next true t2 t3 t4 h1 h2 h3 h4 x on e =
       front = div-one n ∙ sym f;
       small = λ q. omega arith;
     }
-more-case b rest stop v at n next false true t3 t4 h1 h2 h3 h4 x on e = absurd (let z : ◌≡◌ {A = ℕ} 0 1 = cc in omega arith)
-more-case b rest stop v at n next false false true t4 h1 h2 h3 h4 x on e = absurd (let z : ◌≡◌ {A = ℕ} 0 1 = cc in omega arith)
-more-case b rest stop v at n next false false false true h1 h2 h3 h4 x on e = absurd (let z : ◌≡◌ {A = ℕ} 0 1 = cc in omega arith)
+more-case b rest stop v at n next false true t3 t4 h1 h2 h3 h4 x on e = absurd (none-some (n, next) e)
+more-case b rest stop v at n next false false true t4 h1 h2 h3 h4 x on e = absurd (none-some (n, next) e)
+more-case b rest stop v at n next false false false true h1 h2 h3 h4 x on e = absurd (none-some (n, next) e)
 more-case b rest stop v at n next false false false false h1 h2 h3 h4 x on e =
     let d = on e in
     let lo = ltb-false b 48 h2 in
@@ -59,9 +61,9 @@ more-case b rest stop v at n next false false false false h1 h2 h3 h4 x on e =
       small = λ q. d.small (ltb-false _ _ h4);
     }
 
-more-only : (l : List ℕ) (stop v at n next : ℕ) → more l stop v at ≡ Is n next → Digits l stop v at n next
+more-only : (l : List ℕ) (stop v at n next : ℕ) → more l stop v at ≡ Some (n, next) → Digits l stop v at n next
 unfolding more
-more-only [] stop v at n next e = absurd (let z : ◌≡◌ {A = ℕ} 0 1 = cc in omega arith)
+more-only [] stop v at n next e = absurd (none-some (n, next) e)
 more-only (b ∷ rest) stop v at n next e =
     more-case b rest stop v at n next (eqb b stop) (ltb b 48) (ltb 57 b) (ltb most (v * 10 + (b - 48))) refl refl refl refl (more rest stop (v * 10 + (b - 48)) (at + 1))
     (more-only rest stop (v * 10 + (b - 48)) (at + 1) n next)
@@ -127,39 +129,40 @@ lead-only b rest stop at n next lo hi d =
       small = sm;
     }
 
-zero-only : (rest : List ℕ) (stop at n next : ℕ) → alone rest stop (at + 1) ≡ Is n next → Only (48 ∷ rest) stop at n next
+zero-only : (rest : List ℕ) (stop at n next : ℕ) → alone rest stop (at + 1) ≡ Some (n, next) → Only (48 ∷ rest) stop at n next
 unfolding alone decimal width
-zero-only [] stop at n next e = absurd (let z : ◌≡◌ {A = ℕ} 0 1 = cc in omega arith)
+zero-only [] stop at n next e = absurd (none-some (n, next) e)
 zero-only (b ∷ rest) stop at n next e = go (eqb b stop) refl e
   where
-    go : (t : Bool) → eqb b stop ≡ t → cond t (Is 0 (at + 1 + 1)) Fault ≡ Is n next → Only (48 ∷ b ∷ rest) stop at n next
+    go : (t : Bool) → eqb b stop ≡ t → cond {A = Option (ℕ × ℕ)} t (Some (0, at + 1 + 1)) None ≡ Some (n, next) → Only (48 ∷ b ∷ rest) stop at n next
     go true h e =
-        let f : 0 ≡ n = cc in
-        let g : at + 1 + 1 ≡ next = cc in
+        let p = some_pair_parts 0 n (at + 1 + 1) next e in
+        let f = p.0 in
+        let g = p.1 in
         record {
           rest = rest;
           text = rw (← f, eqb-true b stop h);
           past = rw (← f) (omega arith);
           small = omega arith;
         }
-    go false h e = absurd (let z : ◌≡◌ {A = ℕ} 0 1 = cc in omega arith)
+    go false h e = absurd (none-some (n, next) e)
 
 number-case : (b : ℕ) (rest : List ℕ) (stop at n next : ℕ) (t1 t2 t3 : Bool) → eqb b 48 ≡ t1 → ltb b 48 ≡ t2 → ltb 57 b ≡ t3 →
-    cond t1 (alone rest stop (at + 1)) (cond t2 Fault (cond t3 Fault (more rest stop (b - 48) (at + 1)))) ≡ Is n next → Only (b ∷ rest) stop at n next
+    cond t1 (alone rest stop (at + 1)) (cond t2 None (cond t3 None (more rest stop (b - 48) (at + 1)))) ≡ Some (n, next) → Only (b ∷ rest) stop at n next
 number-case b rest stop at n next true t2 t3 h1 h2 h3 e = rw (eqb-true b 48 h1) (zero-only rest stop at n next e)
-number-case b rest stop at n next false true t3 h1 h2 h3 e = absurd (let z : ◌≡◌ {A = ℕ} 0 1 = cc in omega arith)
-number-case b rest stop at n next false false true h1 h2 h3 e = absurd (let z : ◌≡◌ {A = ℕ} 0 1 = cc in omega arith)
+number-case b rest stop at n next false true t3 h1 h2 h3 e = absurd (none-some (n, next) e)
+number-case b rest stop at n next false false true h1 h2 h3 e = absurd (none-some (n, next) e)
 number-case b rest stop at n next false false false h1 h2 h3 e =
     let ne = eqb-false b 48 h1 in
     lead-only b rest stop at n next (omega (arith, ltb-false b 48 h2)) (ltb-false 57 b h3) (more-only rest stop (b - 48) (at + 1) n next e)
 
-only : (l : List ℕ) (stop at n next : ℕ) → number l stop at ≡ Is n next → Only l stop at n next
+only : (l : List ℕ) (stop at n next : ℕ) → number l stop at ≡ Some (n, next) → Only l stop at n next
 unfolding number
-only [] stop at n next e = absurd (let z : ◌≡◌ {A = ℕ} 0 1 = cc in omega arith)
+only [] stop at n next e = absurd (none-some (n, next) e)
 only (b ∷ rest) stop at n next e = number-case b rest stop at n next (eqb b 48) (ltb b 48) (ltb 57 b) refl refl refl e
 
 -- what was read as a number is the number in decimal: no other digits are read as it
-pub number-only : (l : List ℕ) (stop at n next : ℕ) → number l stop at ≡ Is n next → (n ≤ most) × Reads l (ended n stop) at next
+pub number-only : (l : List ℕ) (stop at n next : ℕ) → number l stop at ≡ Some (n, next) → (n ≤ most) × Reads l (ended n stop) at next
 number-only l stop at n next e =
     let o = only l stop at n next e in (
       o.small,
@@ -170,33 +173,16 @@ number-only l stop at n next e =
       },
     )
 
--- what was read as a word is the word
-pub word-only : (w l : List ℕ) (at next : ℕ) → word w l at ≡ At next → Reads l w at next
+-- what was read as a word is the word, and a word that is written is read back
+pub word-only : (w l : List ℕ) (at next : ℕ) → word w l at ≡ Some next → Reads l w at next
 unfolding word
-word-only [] l at next e =
-    let f : at ≡ next = cc in
-    record { rest = l; text = refl; past = omega arith }
-word-only (c ∷ w) [] at next e = absurd (let z : ◌≡◌ {A = ℕ} 0 1 = cc in omega arith)
-word-only (c ∷ w) (b ∷ l) at next e = go (eqb b c) refl e (word-only w l (at + 1) next)
-  where
-    go : (t : Bool) → eqb b c ≡ t → cond t (word w l (at + 1)) Off ≡ At next → (word w l (at + 1) ≡ At next → Reads l w (at + 1) next) → Reads (b ∷ l) (c ∷ w) at next
-    go true h e on =
-        let r = on e in
-        record {
-          rest = r.rest;
-          text = ap₂ {C = List ℕ} (λ c l. c ∷ l) (eqb-true b c h) r.text;
-          past = omega (arith, r.past);
-        }
-    go false h e on = absurd (let z : ◌≡◌ {A = ℕ} 0 1 = cc in omega arith)
+word-only w l at next e =
+    let c = cond_some (starts_with eqb l w) (at + length w) next e in
+    record { rest = drop (length w) l; text = (starts_is Decides-eqb l w _ refl).0 c.0; past = sym c.1 }
 
--- a word that is written is read back
-pub word_back : (w rest : List ℕ) (at : ℕ) → word w (w ++ rest) at ≡ At (at + length w)
+pub word_back : (w rest : List ℕ) (at : ℕ) → word w (w ++ rest) at ≡ Some (at + length w)
 unfolding word
-word_back [] rest at = ap At (sym (add-zero at))
-word_back (c ∷ w) rest at = rw (eq-eqb c c refl) (word_back w rest (at + 1) ∙ ap At (step at (length w)))
-  where
-    step : (a n : ℕ) → a + 1 + n ≡ a + suc n
-    step a n = omega arith
+word_back w rest at = rw ((starts_is Decides-eqb (w ++ rest) w _ refl).1 rest refl)
 
 -- No other number has the decimal of a number below 1,000,000,000. (`decimal` writes ten digits at most, so that numbers from 10,000,000,000 on lose their first.)
 

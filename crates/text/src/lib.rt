@@ -7,116 +7,68 @@ pub mod print;
 
 ghost use Rattle.std.specs.Prelude.{◌≡◌, ◌≤◌, length, drop};
 ghost use Rattle.text.specs.Determined.{Opened};
-ghost use Rattle.text.specs.Text.{number as number_in, more as moreIn, alone as aloneIn, word as word_in};
-
-// A number and the place past the byte that ends it.
-#[derive(Clone, Copy)]
-pub enum Number {
-    Is(u32, usize),
-    Fault,
-}
-
-// The place past what was read.
-#[derive(Clone, Copy)]
-pub enum Place {
-    At(usize),
-    Off,
-}
-
-fn wide(b: u8) -> u64
-    ensures { result ≡ b }
-{
-    b as u64
-}
-
-fn wide32(b: u8) -> u32
-    ensures { result ≡ b }
-{
-    b as u32
-}
+ghost use Rattle.text.specs.Text.{number, more, alone, word};
 
 // More digits of a number, after some that say `first`, up to the byte `stop`.
-fn more(s: &[u8], from: usize, first: u32, stop: u8) -> Number
+#[tactic(auto, using(crate::proofs::Steps::more_steps))]
+fn more(s: &[u8], from: usize, first: u32, stop: u8) -> Option<(u32, usize)>
     requires { from ≤ length s.now }
-    ensures { result ≡ moreIn (drop from s.now) stop first from }
+    ensures { result ≡ more (drop from s.now) stop first from }
 {
-    let mut at = from;
-    let mut v = first as u64;
-    while at < s.len() {
+    let mut v = first;
+    for at in from..s.len() {
         let b = s[at];
         if b == stop {
-            return Number::Is(v as u32, at + 1);
+            return Some((v, at + 1));
         }
-        if b < 48 {
-            return Number::Fault;
+        if !b.is_ascii_digit() {
+            return None;
         }
-        if 57 < b {
-            return Number::Fault;
-        }
-        let w = v * 10 + wide(b - 48);
-        if 4294967295 < w {
-            return Number::Fault;
-        }
-        v = w;
-        at += 1;
+        v = v.checked_mul(10)?.checked_add((b - b'0') as u32)?;
     }
-    Number::Fault
+    None
 }
 
 // The byte `stop` after a 0: no digit may follow it.
-fn alone(s: &[u8], at: usize, stop: u8) -> Number
-    ensures { result ≡ aloneIn (drop at s.now) stop at }
+#[tactic(auto, unfolding(crate::specs::Text::alone))]
+fn alone(s: &[u8], at: usize, stop: u8) -> Option<(u32, usize)>
+    ensures { result ≡ alone (drop at s.now) stop at }
 {
-    if s.len() <= at {
-        return Number::Fault;
-    }
-    if s[at] == stop {
-        Number::Is(0, at + 1)
+    if *s.get(at)? == stop {
+        Some((0, at + 1))
     } else {
-        Number::Fault
+        None
     }
 }
 
 // The number at a place, ended by the byte `stop`.
-fn number_at(s: &[u8], at: usize, stop: u8) -> Number
-    ensures { result ≡ number_in (drop at s.now) stop at }
+#[tactic(auto, unfolding(crate::specs::Text::number))]
+fn number_at(s: &[u8], at: usize, stop: u8) -> Option<(u32, usize)>
+    ensures { result ≡ number (drop at s.now) stop at }
 {
-    if s.len() <= at {
-        return Number::Fault;
-    }
-    let b = s[at];
-    if b == 48 {
+    let b = *s.get(at)?;
+    if b == b'0' {
         return alone(s, at + 1, stop);
     }
-    if b < 48 {
-        return Number::Fault;
+    if !b.is_ascii_digit() {
+        return None;
     }
-    if 57 < b {
-        return Number::Fault;
-    }
-    more(s, at + 1, wide32(b - 48), stop)
+    more(s, at + 1, (b - b'0') as u32, stop)
 }
 
 // The place past a word whose bytes stand at a place.
-fn word_at(s: &[u8], from: usize, w: &[u8]) -> Place
-    ensures { result ≡ word_in w.now (drop from s.now) from }
+#[tactic(auto, unfolding(crate::specs::Text::word))]
+fn word_at(s: &[u8], at: usize, w: &[u8]) -> Option<usize>
+    ensures { result ≡ word w.now (drop at s.now) at }
 {
-    let mut at = from;
-    let mut i = 0;
-    while i < w.len() {
-        if s.len() <= at {
-            return Place::Off;
-        }
-        if s[at] != w[i] {
-            return Place::Off;
-        }
-        at += 1;
-        i += 1;
+    if s[at.min(s.len())..].starts_with(w) {
+        Some(at + w.len())
+    } else {
+        None
     }
-    Place::At(at)
 }
 
-// "The reader of a sheet holds the sheet's bytes and its own place in them."
+/// "The reader of a sheet holds the sheet's bytes and its own place in them."
 #[derive(Clone, Copy)]
 pub struct Reader<'a> {
     pub sheet: &'a [u8],
@@ -124,35 +76,38 @@ pub struct Reader<'a> {
 }
 
 impl<'a> Reader<'a> {
+    /// A reader of a sheet at a place.
     pub fn open(sheet: &'a [u8], at: usize) -> Reader<'a>
         ensures { Opened sheet.entry at result }
     {
         Reader { sheet, at }
     }
 
-    pub fn number(self, stop: u8) -> Number
-        ensures { result ≡ number_in (drop self.entry.at self.entry.sheet.now) stop self.entry.at }
+    /// The number there, ended by the byte `stop`, and the place past that.
+    pub fn number(self, stop: u8) -> Option<(u32, usize)>
+        ensures { result ≡ number (drop self.entry.at self.entry.sheet.now) stop self.entry.at }
     {
         number_at(self.sheet, self.at, stop)
     }
 
-    pub fn word(self, w: &[u8]) -> Place
-        ensures { result ≡ word_in w.now (drop self.entry.at self.entry.sheet.now) self.entry.at }
+    /// The place past a word that stands there.
+    pub fn word(self, w: &[u8]) -> Option<usize>
+        ensures { result ≡ word w.now (drop self.entry.at self.entry.sheet.now) self.entry.at }
     {
         word_at(self.sheet, self.at, w)
     }
 }
 
-// A number of a sheet, by way of a reader.
-pub fn read_number(s: &[u8], at: usize, stop: u8) -> Number
-    ensures { result ≡ number_in (drop at s.now) stop at }
+/// A number of a sheet, by way of a reader.
+pub fn read_number(s: &[u8], at: usize, stop: u8) -> Option<(u32, usize)>
+    ensures { result ≡ number (drop at s.now) stop at }
 {
     Reader::open(s, at).number(stop)
 }
 
-// The bytes of a word at a place of a sheet, by way of a reader.
-pub fn read_word(s: &[u8], from: usize, w: &[u8]) -> Place
-    ensures { result ≡ word_in w.now (drop from s.now) from }
+/// The bytes of a word at a place of a sheet, by way of a reader.
+pub fn read_word(s: &[u8], from: usize, w: &[u8]) -> Option<usize>
+    ensures { result ≡ word w.now (drop from s.now) from }
 {
     Reader::open(s, from).word(w)
 }

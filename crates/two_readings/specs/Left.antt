@@ -1,5 +1,5 @@
--- A word with a left reading, laid: level one is lent its parts on either side, and its rows and left rows are written; of a J with a mono left reading those of each character.
-use Rattle.std.specs.Prelude.{◌≡◌, Bool, cond, not, ◌&&◌, ◌||◌, List, [], ℕ, zero, suc, ◌+◌, ◌-◌, ◌≤◌, ◌<◌, eqb, length, get_or, take, drop}
+-- A word with a left reading, laid: level one is lent its parts on either side, and its rows are written with it; of a J with a mono left reading those of each character.
+use Rattle.std.specs.Prelude.{◌≡◌, Bool, cond, not, ◌&&◌, ◌||◌, List, [], ℕ, zero, suc, ◌+◌, ◌-◌, ◌≤◌, ◌<◌, eqb, length, get_or, take, drop, Result}
 use Rattle.std.proofs.Math.Path.{refl}
 use Rattle.std.proofs.Common.{sym, ap, ap₂, ◌∙◌, true≢false, zero-le, add-zero, arith}
 use Rattle.std.proofs.Math.Bool.{true, false}
@@ -8,6 +8,7 @@ use borrow.Author.Tests.{ltb-true, ltb-false, not-true}
 use Rattle.std.proofs.Math.Dec.{ltb}
 use Rattle.basics.specs.Lists.{sum}
 use Rattle.basics.specs.Laws.{or_none}
+use Rattle.refusal.specs.declared.Refusal.{Refusal}
 use Rattle.spread.specs.Ratio.{Ratios, usual, Housed}
 use Rattle.word.specs.declared.Form.{Form}
 use Rattle.word.specs.declared.Form.TheVariants.{P, M, G, J}
@@ -30,9 +31,8 @@ use Rattle.line.specs.declared.Side.{Side}
 use Rattle.line.specs.declared.Side.TheVariants.{Right, Left}
 use Rattle.cells.specs.declared.Cell.{Cell}
 use Rattle.cells.specs.declared.LeftRow.{LeftRow}
-use Rattle.cells.specs.Cells.{size, beside}
+use Rattle.cells.specs.Cells.{beside}
 use Rattle.door.specs.declared.Piece.{Piece}
-use Rattle.door.specs.declared.Step.{Step}
 use Rattle.door.specs.Job.{Job, entries, left_by_runs, takes_runs, takes_left_runs, given, gloss_of}
 use Rattle.door.specs.Entries.{part_of, length-entries}
 use Rattle.door.specs.Loop.{runs-few, left_runs-few}
@@ -42,11 +42,11 @@ use Rattle.job.specs.Laws.{both}
 use Rattle.job.specs.Words.{is_j_lem}
 use Rattle.job.proofs.Apart.{apart-is}
 use Rattle.join.specs.Rows.{runs_of, run_of, first_at, run_at, run_width, row_by, left_row_by, ends_behind}
+use Rattle.word_rows.specs.Table.{Filled}
 use Rattle.word_rows.specs.Runs.{both_only, runs_only, Runs, run-reads, HasRuns, own_word}
 use Rattle.word_rows.specs.Word.{word_row_lem, flagged, WordReady, Judged}
-use Rattle.two_readings.specs.Written.{LeftRoom, Written}
 
--- of left rows only these lists matter
+-- of left readings only these lists matter
 abbrev pub lefts_only : List ℕ → List ℕ → Job
 lefts_only left_width left_run = both_only usual 0 [] [] [] [] [] [] [] [] [] left_width left_run
 
@@ -59,7 +59,7 @@ module _ {ratios : Ratios} {em : ℕ} {class width before after flag ruby_class 
   pub left_as : Runs Left (lefts_only left_width left_run) x → Runs Left (both_only ratios em class width before after flag ruby_class ruby_width run left_class left_width left_run) x
   left_as r = record { few = r.few; small = r.small; runs = r.runs; few_runs = r.few_runs; many = r.many; width = r.width; narrow = r.narrow; each = r.each }
 
--- the left row of the reading v
+-- what a row is given of the left reading v
 abbrev pub left_row_of : Reading → ℕ → ℕ → ℕ → Bool → LeftRow
 left_row_of v first many own more = record { from = v.from; upto = v.upto; within = v.within; runs = v.runs; first = first; many = many; own = own; more = more }
 
@@ -77,7 +77,7 @@ module _ (job : Job) (x : Piece) (w : Word) (i : ℕ) where
   pub left_run_lem : cuts job x ≡ true → has_left x.gloss ≡ true → left_run_row job x (own_word x w).left i ≡ left_row_by job x w i
   left_run_lem c h = rw (c, h)
 
--- a row with its left row
+-- a row with its left reading
 abbrev pub own_row : Job → Piece → Word → Bool → ℕ → Cell
 own_row job x w ends i = beside (row_by job x w ends 0 0 i) (left_row_by job x w i)
 
@@ -89,9 +89,9 @@ character_row job x i = let y = part job x (i - x.base) 1 in own_row job y (word
 abbrev pub both_row : Job → Piece → Word → ℕ → Cell
 both_row job x w i = cond (apart x.form x.gloss) (character_row job x i) (own_row job x w (flagged job x) i)
 
--- its rows and left rows, by level one's answer
-abbrev pub WrittenBy : Answer → (Word → ℕ → Cell) → Piece → List ℕ → List ℕ → Step → Type 0
-WrittenBy a row x was t s = Judged a (λ w. Written (row w) x.base (x.base + x.bases) was t) x was t s
+-- its rows, by level one's answer
+abbrev pub WrittenBy : Answer → (Word → ℕ → Cell) → Piece → List Cell → List Cell → Result Piece Refusal → Type 0
+WrittenBy a row x was t s = Judged a (λ w. Filled (row w) x.base (x.base + x.bases) was t) x was t s
 
 -- whether it is cut, its record says: only runs that stand over their own characters have a part
 
@@ -149,8 +149,8 @@ runs-all M n h = absurd (false≢true h)
 runs-all G n h = absurd (false≢true h)
 runs-all J n h = refl
 
--- a word with a left reading within its lists, and room for its rows and left rows
-pub record BothReady (job : Job) (x : Piece) (t : List ℕ) : Type 0 where
+-- a word with a left reading within its lists, and room for its rows
+pub record BothReady (job : Job) (x : Piece) (t : List Cell) : Type 0 where
   pub word : WordReady job x t
   pub few : x.bases ≤ 32
   pub few_lefts : x.left + x.lefts ≤ 4096
@@ -167,7 +167,6 @@ pub record BothReady (job : Job) (x : Piece) (t : List ℕ) : Type 0 where
   pub whole : x.more ≡ false
   pub jukugo : is_j x.form ≡ true → HasRuns (runs_only job.em job.ruby_class job.ruby_width job.run) x t
   pub lefts : left_by_runs x.form x.gloss ≡ true → Runs Left (lefts_only job.left_width job.left_run) x
-  pub room : LeftRoom (x.base + x.bases) t
 
 -- Level one is asked by what it wants to know of either reading.
 
@@ -223,7 +222,7 @@ left_runs-sum J left.M run u n m t e = omega (arith, e refl refl)
 left_runs-sum J left.G run u n m t e = zero-le
 left_runs-sum J left.J run u n m t e = omega (arith, e refl refl)
 
-module _ (job : Job) (x : Piece) {t : List ℕ} (h : BothReady job x t) where
+module _ (job : Job) (x : Piece) {t : List Cell} (h : BothReady job x t) where
   abbrev pub right_in : RunStrand
   right_in = strand_in job.em x.ruby x.rubies x.run (takes_runs x.form x.bases) job.ruby_class job.ruby_width job.run
 
@@ -262,7 +261,7 @@ module _ (job : Job) (x : Piece) {t : List ℕ} (h : BothReady job x t) where
 
   -- what it asks for, and what it answers
   module _ {b : Base} {r l : RunStrand} (e : b ≡ given_base x.form (given job x)) (f : r ≡ right_in) (g : l ≡ left_in) where
-    pub both-asks : Strings b.string r.string l.string × (is_j x.form ≡ true → JukugosReady job.em b r l)
+    pub both-asks : Strings b.string r.strand.string l.strand.string × (is_j x.form ≡ true → JukugosReady job.em b r l)
     both-asks =
         rw (e, f, g) (
           strings (given job x).width (given job x).ruby_width (gloss_of job x).width h.word.small h.ready.gloss,
@@ -300,7 +299,7 @@ module _ (job : Job) (x : Piece) {t : List ℕ} (h : BothReady job x t) where
             let w = gloss_of job x in
             record { kind = w.kind; class = w.class; width = w.width; run = entries job.left_run x.leftrun (takes_left_runs x.form x.gloss x.bases) }
 
--- One character of a J with a mono left reading, by its numbers: its word, its row, and its left row.
+-- One character of a J with a mono left reading, by its numbers: its word, and its row with its left reading.
 
 abbrev pub character_word : Job → Piece → ℕ → Word
 character_word job x i =
@@ -343,15 +342,14 @@ abbrev pub character_both : Job → Piece → Bool → ℕ → Cell
 character_both job x ends i = beside (character_cell job x ends i) (character_left job x i)
 
 -- what the writing of them asks for
-pub record Characters (job : Job) (x : Piece) (t : List ℕ) : Type 0 where
+pub record Characters (job : Job) (x : Piece) (t : List Cell) : Type 0 where
   pub few : x.base + x.bases ≤ 1024
   pub width : x.base + x.bases ≤ length job.width
   pub narrow : sum (entries job.width x.base x.bases) ≤ 131072
   pub house : Housed job.ratios
   pub right : Runs Right job x
   pub left : Runs Left job x
-  pub held : size (x.base + x.bases) ≤ length t
-  pub room : LeftRoom (x.base + x.bases) t
+  pub held : x.base + x.bases ≤ length t
 
 -- its word is one that level one sets
 entry-most : (xs : List ℕ) (a n k : ℕ) → k < n → get_or xs (a + k) 0 ≤ sum (entries xs a n)
@@ -362,7 +360,7 @@ entry-most xs a (suc n) (suc k) h = omega (arith, entry-most xs (suc a) n k (ome
     move : (a k : ℕ) → a + suc k ≡ suc a + k
     move a k = omega arith
 
-pub character_strings : (job : Job) (x : Piece) (t : List ℕ) → Characters job x t → (i : ℕ) → x.base ≤ i → i < x.base + x.bases →
+pub character_strings : (job : Job) (x : Piece) (t : List Cell) → Characters job x t → (i : ℕ) → x.base ≤ i → i < x.base + x.bases →
     let k = i - x.base in
     Strings (record { width = get_or job.width i 0; count = 1 }) (record { width = run_width Right job x k; count = run_at Right job x k })
     (record { width = run_width Left job x k; count = run_at Left job x k })
@@ -390,7 +388,7 @@ mono-word w cs ws rs = refl
 str_of_lem : (ws : List ℕ) (a m : ℕ) → str_of (entries ws a m) ≡ record { width = sum (entries ws a m); count = m }
 str_of_lem ws a m = ap {B = Str} (λ c. record { width = sum (entries ws a m); count = c }) (length-entries ws a m)
 
--- a row and its left row, by what differs from one character to the next
+-- a row with its left reading, by what differs from one character to the next
 abbrev shown : ℕ → Bool → Word → ℕ → ℕ → ℕ → ℕ → Bool → Cell
 shown n ends w r m l q more =
     record {
@@ -528,7 +526,7 @@ laid_both job x w i l h = go (apart x.form x.gloss) refl
     go false e = refl
 
 -- what the writing of its rows asks for, of a word that is not taken apart
-pub record WholePut (job : Job) (x : Piece) (w : Word) (t : List ℕ) : Type 0 where
+pub record WholePut (job : Job) (x : Piece) (w : Word) (t : List Cell) : Type 0 where
   pub some : 0 < x.bases
   pub few : x.base + x.bases ≤ 1024
   pub few_ruby : x.ruby + x.rubies ≤ 4096
@@ -537,8 +535,7 @@ pub record WholePut (job : Job) (x : Piece) (w : Word) (t : List ℕ) : Type 0 w
   pub parted : cuts job x ≡ w.right.runs
   pub jukugo : is_j x.form ≡ true → HasRuns (runs_only job.em job.ruby_class job.ruby_width job.run) x t
   pub lefts : left_by_runs x.form x.gloss ≡ true → Runs Left (lefts_only job.left_width job.left_run) x
-  pub held : size (x.base + x.bases) ≤ length t
-  pub room : LeftRoom (x.base + x.bases) t
+  pub held : x.base + x.bases ≤ length t
 
 -- a J that is cut is a J, with left runs where it has a left reading
 pub cut-j : (job : Job) (x : Piece) → has_left x.gloss ≡ true → cuts job x ≡ true → (is_j x.form ≡ true) × (left_by_runs x.form x.gloss ≡ true)

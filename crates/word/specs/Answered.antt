@@ -1,7 +1,7 @@
 -- Level one's answer to a word with a left reading or without: the first of numbers 7 to 10 that holds of it, with the element's place, or the word. "9 and 10 likewise [hold for
 -- left characters as for right ones, right first]"; 7 and 8 speak of base characters alone.
 use Rattle.std.specs.Prelude.{◌≡◌, refl, Bool, true, false, cond, ◌&&◌, ◌||◌, List, ℕ, length}
-use Rattle.std.proofs.Common.{sym, subst, arith}
+use Rattle.std.proofs.Common.{sym, subst}
 use Rattle.basics.specs.Lists.{sum, any}
 use Rattle.class.specs.Class.{western, kana_like}
 use Rattle.refusal.specs.declared.Refusal.TheVariants.{BlankInside, JukugoBase, Mixed, WesternOver}
@@ -58,10 +58,10 @@ passed form place w g {v} e = go (blank_inside form w) (jukugo_base form w) (mix
   where
     go : (a b c d : Bool) → blank_inside form w ≡ a → jukugo_base form w ≡ b → mixed_both form w g ≡ c → western_both form w g ≡ d →
         cond a (Refused (BlankInside place)) (cond b (Refused (JukugoBase place)) (cond c (Refused (Mixed place)) (cond d (Refused (WesternOver place)) (Set (word_of form w g))))) ≡ Set v → Passed form w g v
-    go true b c d f g h i e = absurd (let z : ◌≡◌ {A = ℕ} 0 1 = cc in omega arith)
-    go false true c d f g h i e = absurd (let z : ◌≡◌ {A = ℕ} 0 1 = cc in omega arith)
-    go false false true d f g h i e = absurd (let z : ◌≡◌ {A = ℕ} 0 1 = cc in omega arith)
-    go false false false true f g h i e = absurd (let z : ◌≡◌ {A = ℕ} 0 1 = cc in omega arith)
+    go true b c d f g h i e = absurd cc
+    go false true c d f g h i e = absurd cc
+    go false false true d f g h i e = absurd cc
+    go false false false true f g h i e = absurd cc
     go false false false false f g h i e = record { seven = f; eight = g; nine = h; ten = i; word = cc }
 
 -- and the other way round

@@ -1,11 +1,8 @@
 -- What level one promises of every word to those above, with a left reading or without: lengths, limits, and which string is the longest. What is said of a reading is said
 -- once, of either side.
-use Rattle.std.specs.Prelude.{◌≡◌, Bool, true, false, cond, ◌||◌, List, [], map, ◌⊎◌, ℕ, ◌+◌, ◌-◌, ◌*◌, ◌≤◌, ◌<◌, max, leb, ltb, length, get_or}
-use Rattle.std.proofs.Math.Path.{refl, sym}
-use Rattle.std.proofs.Common.{ap, ◌∙◌, true≢false, inl, inr, zero-le, leb-true, leb-false}
+use Rattle.std.specs.Prelude.{◌≡◌, Bool, true, false, cond, ◌||◌, List, [], map, ◌⊎◌, ℕ, ◌+◌, ◌-◌, ◌*◌, ◌≤◌, ◌<◌, max, leb, ltb, length, get_or, refl}
+use Rattle.std.proofs.Common.{ap, ◌∙◌, true≢false, inl, inr, zero-le, leb-true, leb-false, sym, le_trans, arith}
 use Rattle.std.proofs.lemmas.Bool.{false≢true}
-use Rattle.std.proofs.Math.Nat.{le_trans}
-use native.Mathlib.Omega.{arith}
 use Rattle.basics.specs.Lists.{sum, any, last_or}
 use Rattle.basics.specs.Laws.{or_none}
 use Rattle.spread.specs.declared.Way.{Way}

@@ -4,6 +4,7 @@ use Rattle.basics.specs.Lists.{sum}
 use Rattle.spread.specs.declared.Way.{Way}
 use Rattle.spread.specs.Ratio.{Ratios}
 use Rattle.spread.specs.Gap.{gaps}
+use Rattle.word.specs.declared.Str.{Str}
 use Rattle.word.specs.declared.Word.{Word}
 use Rattle.word.specs.Word.{short_ruby, short_base, word_by}
 
@@ -15,11 +16,11 @@ pub word_from_lem : (r b : Way) (h : Ratios) (em : ℕ) (bs rs : List ℕ) → w
 unfolding word_by word_from
 word_from_lem r b h em bs rs = refl
 
--- what the callers have made sure of: each string has a character, and the sums are those of a word
-pub record Measured (B n R m : ℕ) : Type 0 where
-  pub some : 0 < n
-  pub few : n ≤ 4096
-  pub narrow : B ≤ 131072
-  pub reads : 0 < m
-  pub few_ruby : m ≤ 4096
-  pub narrow_ruby : R ≤ 262144
+-- what the callers have made sure of, of base and ruby: each string has a character, and the sums are those of a word
+pub record Measured (b r : Str) : Type 0 where
+  pub some : 0 < b.count
+  pub few : b.count ≤ 4096
+  pub narrow : b.width ≤ 131072
+  pub reads : 0 < r.count
+  pub few_ruby : r.count ≤ 4096
+  pub narrow_ruby : r.width ≤ 262144

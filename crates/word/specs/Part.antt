@@ -1,9 +1,8 @@
 -- A J cut by a line end (document 01, "Level one"): "A J cut by a line end is two words: a part of one character is set as M, a part of more as J."
 -- A part of a J that is set is set, and a part of one character is centred; a J of one character that is not cut is no part.
 use Rattle.std.specs.Prelude.{◌≡◌, refl, Bool, true, false, cond, not, ◌&&◌, List, [], ◌∷◌, ◌++◌, map, ℕ, zero, suc, ◌+◌, ◌-◌, ◌≤◌, ◌<◌, eqb, ltb, length, take, drop}
-use Rattle.std.proofs.Common.{sym, ap, ◌∙◌, true≢false, map-id, append-nil, zero-add, arith, length-drop, length-take-le}
-use borrow.Author.Tests.{lt-leb, le-leb, lt-ltb, le-ltb, ltb-true, ltb-false, eqb-true, not-false}
-use Rattle.std.proofs.Math.Seq.{take_all}
+use Rattle.std.proofs.Common.{sym, ap, ◌∙◌, true≢false, map-id, append-nil, zero-add, arith, length-drop, length-take-le, le-leb, lt-ltb, le-ltb, ltb-true, ltb-false, eqb-true, take_all}
+use borrow.Author.Tests.{lt-leb, not-false}
 use Rattle.basics.specs.Lists.{sum, any, other, All}
 use Rattle.basics.specs.Laws.{or_none, any_none, none_any, all_take, all_drop, all-least, sum-part, sum-split}
 use Rattle.class.specs.Class.{western, kana_like}

@@ -1,9 +1,8 @@
 -- What level one promises of a word to those above: lengths, protrusions and limits. Lines, the filling and the writing use these laws; the job's meaning names
 -- the definitions that they are about (`answer`, `word_of`, `places`).
 use Rattle.std.specs.Prelude.{◌≡◌, refl, Bool, true, false, cond, not, List, map, ◌⊎◌, ℕ, ◌+◌, ◌-◌, ◌*◌, ◌≤◌, ◌<◌, leb, length, get_or}
-use Rattle.std.proofs.Common.{sym, ◌∙◌, subst, true≢false, inl, inr, zero-le, leb-true, leb-false, le-leb}
+use Rattle.std.proofs.Common.{sym, ◌∙◌, subst, true≢false, inl, inr, zero-le, leb-true, leb-false, le-leb, arith}
 use Rattle.std.proofs.lemmas.Bool.{false≢true, lt-leb}
-use native.Mathlib.Omega.{arith}
 use Rattle.basics.specs.Lists.{sum, any, other, last_or}
 use Rattle.basics.specs.Laws.{or_none, sum-some, all-least}
 use Rattle.class.specs.Class.{kana_like}
@@ -196,10 +195,10 @@ passed form place w {v} e = go (blank_inside form w) (jukugo_base form w) (mixed
   where
     go : (a b c d : Bool) → blank_inside form w ≡ a → jukugo_base form w ≡ b → mixed_in form w ≡ c → western_over form w ≡ d →
         cond a (Refused (BlankInside place)) (cond b (Refused (JukugoBase place)) (cond c (Refused (Mixed place)) (cond d (Refused (WesternOver place)) (Set (word_of form w))))) ≡ Set v → Passed form w v
-    go true b c d f g h i e = absurd (let z : ◌≡◌ {A = ℕ} 0 1 = cc in omega arith)
-    go false true c d f g h i e = absurd (let z : ◌≡◌ {A = ℕ} 0 1 = cc in omega arith)
-    go false false true d f g h i e = absurd (let z : ◌≡◌ {A = ℕ} 0 1 = cc in omega arith)
-    go false false false true f g h i e = absurd (let z : ◌≡◌ {A = ℕ} 0 1 = cc in omega arith)
+    go true b c d f g h i e = absurd cc
+    go false true c d f g h i e = absurd cc
+    go false false true d f g h i e = absurd cc
+    go false false false true f g h i e = absurd cc
     go false false false false f g h i e = record { seven = f; eight = g; nine = h; ten = i; word = cc }
 
 -- and the other way round

@@ -1,16 +1,15 @@
 -- Numbers 7 to 10 of a word with readings on both sides, by the lists that they read: the first that holds.
-use Rattle.std.specs.Prelude.{◌≡◌, Bool, ◌&&◌, ◌||◌, List, ℕ}
+use Rattle.std.specs.Prelude.{◌≡◌, Bool, ◌&&◌, ◌||◌, List, ℕ, Result, Ok, Err, ⊤}
 use Rattle.std.proofs.Math.Path.{refl}
 use Rattle.std.proofs.Math.Bool.{true, false, cond}
 use Rattle.basics.specs.Lists.{any, other}
 use Rattle.basics.specs.Laws.{or_none}
+use Rattle.refusal.specs.declared.Refusal.{Refusal}
 use Rattle.refusal.specs.declared.Refusal.TheVariants.{BlankInside, JukugoBase, Mixed, WesternOver}
 use Rattle.word.specs.declared.Form.{Form}
 use Rattle.word.specs.declared.Answer.{Answer}
 use Rattle.word.specs.declared.Answer.TheVariants.{Set, Refused}
 use Rattle.word.specs.declared.Sort.{Sort}
-use Rattle.word.specs.declared.Row.{Row}
-use Rattle.word.specs.declared.Row.TheVariants.{None, Holds}
 use Rattle.word.specs.declared.Form.TheVariants as form
 use Rattle.class.specs.Class.{western}
 use Rattle.word.specs.Given.{Given, has_ruby, is_g, is_j}
@@ -21,15 +20,15 @@ use Rattle.word.specs.Answered.{answer_both}
 use Rattle.word.specs.Kinds.{sort_of, is_mixed, not_kana, is_western, mixed-sort, kana-sort, western-sort}
 
 -- by what is found in the strings: blanks, what base, ruby and left reading are made of, and base characters that are not one em wide
-unfoldable pub row_of : Form → ℕ → Bool → Sort → Bool → Sort → Sort → Row
+unfoldable pub row_of : Form → ℕ → Bool → Sort → Bool → Sort → Sort → Result ⊤ Refusal
 row_of form place blank b wide r l =
-    cond blank (Holds (BlankInside place))
-    (cond (is_j form && (not_kana b || wide)) (Holds (JukugoBase place))
-    (cond ((is_g form || is_j form) && ((is_mixed b || is_mixed r) || is_mixed l)) (Holds (Mixed place))
-    (cond (is_g form && ((is_western r && is_western b) || (is_western l && is_western b))) (Holds (WesternOver place))
-    None)))
+    cond blank (Err (BlankInside place))
+    (cond (is_j form && (not_kana b || wide)) (Err (JukugoBase place))
+    (cond ((is_g form || is_j form) && ((is_mixed b || is_mixed r) || is_mixed l)) (Err (Mixed place))
+    (cond (is_g form && ((is_western r && is_western b) || (is_western l && is_western b))) (Err (WesternOver place))
+    (Ok tt))))
 
-abbrev pub row_by : Form → ℕ → ℕ → List ℕ → List ℕ → List ℕ → List ℕ → List ℕ → List ℕ → Row
+abbrev pub row_by : Form → ℕ → ℕ → List ℕ → List ℕ → List ℕ → List ℕ → List ℕ → List ℕ → Result ⊤ Refusal
 row_by form place em bc bs before after rc lc = row_of form place (any (other 0) before || any (other 0) after) (sort_of bc) (any (other em) bs) (sort_of rc) (sort_of lc)
 
 -- Level one's answer is the row that holds, or the word.
@@ -59,12 +58,12 @@ unmixed form.G bc rc lc e =
     rw (western-sort bc q.0, western-sort rc q.1, western-sort lc p.1)
 
 module _ (form : Form) (place : ℕ) (w : Given) (g : Gloss) (ruby : has_ruby form ≡ true) where
-  abbrev row : Row
+  abbrev row : Result ⊤ Refusal
   row = row_by form place w.em w.class w.width w.before w.after w.ruby_class g.class
 
-  abbrev pub answered : Row → Answer
-  answered None = Set (word_of form w g)
-  answered (Holds r) = Refused r
+  abbrev pub answered : Result ⊤ Refusal → Answer
+  answered (Ok tt) = Set (word_of form w g)
+  answered (Err r) = Refused r
 
   pub by_row : answer_both form place w g ≡ answered row
   unfolding answer_both row_of
@@ -86,7 +85,7 @@ module _ (form : Form) (place : ℕ) (w : Given) (g : Gloss) (ruby : has_ruby fo
     where
       go : (a b c d e : Bool) → (c ≡ false → d ≡ e) →
           cond a (Refused (BlankInside place)) (cond b (Refused (JukugoBase place)) (cond c (Refused (Mixed place)) (cond d (Refused (WesternOver place)) (Set (word_of form w g)))))
-          ≡ answered (cond a (Holds (BlankInside place)) (cond b (Holds (JukugoBase place)) (cond c (Holds (Mixed place)) (cond e (Holds (WesternOver place)) None))))
+          ≡ answered (cond a (Err (BlankInside place)) (cond b (Err (JukugoBase place)) (cond c (Err (Mixed place)) (cond e (Err (WesternOver place)) (Ok tt)))))
       go true b c d e h = refl
       go false true c d e h = refl
       go false false true d e h = refl

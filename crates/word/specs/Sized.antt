@@ -1,8 +1,12 @@
 -- What the callers of level one have made sure of: few enough characters, narrow enough. The checks of characters and counts (numbers 3, 5 and 6) leave nothing else.
-use Rattle.std.specs.Prelude.{◌≡◌, true, List, ℕ, ◌≤◌, ◌<◌, length}
+use Rattle.std.specs.Prelude.{◌≡◌, true, List, ℕ, ◌^◌, ◌≤◌, ◌<◌, length}
 use Rattle.basics.specs.Lists.{sum}
 use Rattle.word.specs.declared.Form.{Form}
 use Rattle.word.specs.Given.{has_ruby, is_j}
+
+-- a string that a word is asked for: few enough characters, and a sum that fits a number
+abbrev pub IsString : List ℕ → Type 0
+IsString ws = (length ws ≤ 64) × (sum ws < 2 ^ 32)
 
 -- the strings of a word: at most 32 base and 64 ruby characters, each 1 to 4,096 wide, so these sums
 pub record Small (bs rs : List ℕ) : Type 0 where

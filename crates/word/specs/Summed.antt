@@ -1,7 +1,7 @@
 -- Level one from sums and kinds: of its strings a word asks for no more than these, so that its answer can be worked out by value. Each law says that this is the answer of document 01.
 use Rattle.std.proofs.Math.Path.{◌≡◌, refl, ap}
-use Rattle.std.proofs.Common.{◌∙◌, subst, zero-le, arith}
-use Rattle.std.specs.Prelude.{Bool, ◌&&◌, ◌||◌, List, [], ◌∷◌, map, ℕ, ◌*◌, ◌≤◌, ◌<◌, ltb, length, get_or}
+use Rattle.std.proofs.Common.{◌∙◌, subst, zero-le}
+use Rattle.std.specs.Prelude.{Bool, ◌&&◌, ◌||◌, List, [], ◌∷◌, map, ℕ, Option, Some, None, Result, Ok, Err, ⊤, ◌*◌, ◌≤◌, ◌<◌, ltb, length, get_or}
 use Rattle.std.proofs.Math.Bool.{true, false, cond}
 use Rattle.std.proofs.Math.Seq.{take-length}
 use Rattle.basics.specs.Lists.{sum, any, other, last_or}
@@ -10,6 +10,7 @@ use Rattle.class.specs.Class.{western}
 use Rattle.spread.specs.declared.Way.TheVariants.{Solid}
 use Rattle.spread.specs.Gap.{gaps}
 use Rattle.spread.specs.Ratio.{Ratios, usual}
+use Rattle.refusal.specs.declared.Refusal.{Refusal}
 use Rattle.refusal.specs.declared.Refusal.TheVariants.{BlankInside, JukugoBase, Mixed, WesternOver}
 use Rattle.word.specs.declared.Script.{Script}
 use Rattle.word.specs.declared.Script.TheVariants as script
@@ -21,10 +22,6 @@ use Rattle.word.specs.declared.Sort.{Sort}
 use Rattle.word.specs.declared.Base.{Base}
 use Rattle.word.specs.declared.Strand.{Strand}
 use Rattle.word.specs.declared.RunStrand.{RunStrand}
-use Rattle.word.specs.declared.Runs.{Runs}
-use Rattle.word.specs.declared.Runs.TheVariants.{Fit, Longer}
-use Rattle.word.specs.declared.Row.{Row}
-use Rattle.word.specs.declared.Row.TheVariants.{None, Holds}
 use Rattle.word.specs.declared.Word.{Word}
 use Rattle.word.specs.declared.Answer.{Answer}
 use Rattle.word.specs.declared.Answer.TheVariants.{Set, Refused}
@@ -54,7 +51,7 @@ abbrev pub first_of : List ℕ → List ℕ → ℕ
 first_of runs width = get_or (map sum (split runs width)) 0 0
 
 abbrev pub run_strand_of : ℕ → List ℕ → List ℕ → List ℕ → RunStrand
-run_strand_of em class width runs = record { sort = sort_of class; string = str_of width; first = first_of runs width; runs = runs_of em runs width }
+run_strand_of em class width runs = record { strand = strand_of class width; first = first_of runs width; last = runs_of em runs width }
 
 abbrev pub given_base : Form → Given → Base
 given_base form w = base_of form w.em w.class w.width w.before w.after
@@ -65,7 +62,7 @@ ems-wide form em bs some j e = all-least em bs (sum-some bs some) (go (is_j form
   where
     go : (a b : Bool) → a ≡ true → (a && b) ≡ false → b ≡ false
     go true b h e = e
-    go false b h e = absurd (let z : ◌≡◌ {A = ℕ} 0 1 = cc in omega arith)
+    go false b h e = cc
 
 -- M: number 7 alone; its word is solid, which asks for no ratio, no em and no count
 unfoldable pub mono_by : ℕ → Bool → ℕ → ℕ → Answer
@@ -117,16 +114,16 @@ group_by_lem place w =
         rw (western-sort w.class e, western-sort w.ruby_class f, group_from_lem (script_of (sort_of w.ruby_class)) (script_of (sort_of w.class)) w.ratios w.em w.width w.ruby_width)
 
 -- J: numbers 7, 8 and 9. Once 8 has passed its base is kana-like throughout, so 9 is about its ruby alone.
-unfoldable pub jukugo_judged : ℕ → Base → Sort → Row
+unfoldable pub jukugo_judged : ℕ → Base → Sort → Result ⊤ Refusal
 jukugo_judged place b r =
-    cond b.blank (Holds (BlankInside place))
-    (cond (not_kana b.sort || b.uneven) (Holds (JukugoBase place))
-    (cond (is_mixed r) (Holds (Mixed place))
-    None))
+    cond b.blank (Err (BlankInside place))
+    (cond (not_kana b.sort || b.uneven) (Err (JukugoBase place))
+    (cond (is_mixed r) (Err (Mixed place))
+    (Ok tt)))
 
-abbrev pub answered_by : Row → Word → Answer
-answered_by None w = Set w
-answered_by (Holds why) w = Refused why
+abbrev pub answered_by : Result ⊤ Refusal → Word → Answer
+answered_by (Ok tt) w = Set w
+answered_by (Err why) w = Refused why
 
 pub jukugo_judged_lem : (place : ℕ) (w : Given) → answer J place w ≡ answered_by (jukugo_judged place (given_base J w) (sort_of w.ruby_class)) (word_of J w)
 unfolding answer jukugo_judged
@@ -139,22 +136,22 @@ jukugo_judged_lem place w =
 
     go : (blank n u c r : Bool) → (n ≡ false → c ≡ false) →
         cond blank (Refused (BlankInside place)) (cond (n || u) (Refused (JukugoBase place)) (cond (c || r) (Refused (Mixed place)) (Set (word_of J w))))
-        ≡ answered_by (cond blank (Holds (BlankInside place)) (cond (n || u) (Holds (JukugoBase place)) (cond r (Holds (Mixed place)) None))) (word_of J w)
+        ≡ answered_by (cond blank (Err (BlankInside place)) (cond (n || u) (Err (JukugoBase place)) (cond r (Err (Mixed place)) (Ok tt)))) (word_of J w)
     go true n u c r h = refl
     go false true u c r h = refl
     go false false true c r h = refl
     go false false false c true h = rw (h refl)
     go false false false c false h = rw (h refl)
 
-pub judged_even : (place : ℕ) (b : Base) (r : Sort) → jukugo_judged place b r ≡ None → b.uneven ≡ false
+pub judged_even : (place : ℕ) (b : Base) (r : Sort) → jukugo_judged place b r ≡ Ok tt → b.uneven ≡ false
 unfolding jukugo_judged
 judged_even place b r e = go b.blank (not_kana b.sort) b.uneven (is_mixed r) e
   where
-    go : (blank n u c : Bool) → cond blank (Holds (BlankInside place)) (cond (n || u) (Holds (JukugoBase place)) (cond c (Holds (Mixed place)) None)) ≡ None → u ≡ false
+    go : (blank n u c : Bool) → ◌≡◌ {A = Result ⊤ Refusal} (cond blank (Err (BlankInside place)) (cond (n || u) (Err (JukugoBase place)) (cond c (Err (Mixed place)) (Ok tt)))) (Ok tt) → u ≡ false
     go blank n false c e = refl
-    go true n true c e = absurd (let z : ◌≡◌ {A = ℕ} 0 1 = cc in omega arith)
-    go false true true c e = absurd (let z : ◌≡◌ {A = ℕ} 0 1 = cc in omega arith)
-    go false false true c e = absurd (let z : ◌≡◌ {A = ℕ} 0 1 = cc in omega arith)
+    go true n true c e = cc
+    go false true true c e = cc
+    go false false true c e = cc
 
 -- a J of one character, whose only run is all of its ruby
 unfoldable pub single_from : Script → Ratios → ℕ → Str → Str → Word
@@ -177,20 +174,20 @@ single-word r h em bs rs = rw (take-length rs) (go (ltb em (sum rs)))
     go false = refl
 
 -- a judgement that passes leaves no mixture
-judged-unmixed : (place : ℕ) (b : Base) (r : Sort) → jukugo_judged place b r ≡ None → is_mixed r ≡ false
+judged-unmixed : (place : ℕ) (b : Base) (r : Sort) → jukugo_judged place b r ≡ Ok tt → is_mixed r ≡ false
 unfolding jukugo_judged
 judged-unmixed place b r e = go b.blank (not_kana b.sort || b.uneven) (is_mixed r) e
   where
-    go : (blank j c : Bool) → cond blank (Holds (BlankInside place)) (cond j (Holds (JukugoBase place)) (cond c (Holds (Mixed place)) None)) ≡ None → c ≡ false
+    go : (blank j c : Bool) → ◌≡◌ {A = Result ⊤ Refusal} (cond blank (Err (BlankInside place)) (cond j (Err (JukugoBase place)) (cond c (Err (Mixed place)) (Ok tt)))) (Ok tt) → c ≡ false
     go blank j false e = refl
-    go true j true e = absurd (let z : ◌≡◌ {A = ℕ} 0 1 = cc in omega arith)
-    go false true true e = absurd (let z : ◌≡◌ {A = ℕ} 0 1 = cc in omega arith)
-    go false false true e = absurd (let z : ◌≡◌ {A = ℕ} 0 1 = cc in omega arith)
+    go true j true e = cc
+    go false true true e = cc
+    go false false true e = cc
 
 -- the word matters only where no row holds
-same_word : (q : Row) {u v : Word} → (q ≡ None → u ≡ v) → answered_by q u ≡ answered_by q v
-same_word None h = ap Set (h refl)
-same_word (Holds why) h = refl
+same_word : (q : Result ⊤ Refusal) {u v : Word} → (q ≡ Ok tt → u ≡ v) → answered_by q u ≡ answered_by q v
+same_word (Ok tt) h = ap Set (h refl)
+same_word (Err why) h = refl
 
 pub single_by_lem : (place : ℕ) (w : Given) → w.run ≡ length w.ruby_width ∷ [] → answer J place w ≡ single_by place w.ratios w.em (given_base J w) (strand_of w.ruby_class w.ruby_width)
 unfolding single_by word_of
@@ -206,7 +203,7 @@ single_by_lem place w e =
 
 -- where no run of a side is longer than one em, the first and the last aren't
 pub record RunsFit (em : ℕ) (r : RunStrand) : Type 0 where
-  pub fit : (last : ℕ) → r.runs ≡ Fit last → (r.first ≤ em) × (last ≤ em)
+  pub fit : (last : ℕ) → r.last ≡ Some last → (r.first ≤ em) × (last ≤ em)
 
 pub runs_fit-em : (em : ℕ) (class width runs : List ℕ) → RunsFit em (run_strand_of em class width runs)
 runs_fit-em em class width runs =
@@ -223,43 +220,43 @@ pub record JukugosReady (em : ℕ) (base : Base) (r l : RunStrand) : Type 0 wher
   pub left : RunsFit em l
 
 -- each run over its own character on both sides, or the group
-abbrev pub over_both : ℕ → ℕ → Word → ℕ → ℕ → Runs → Runs → Word
-over_both em B group first firstLeft Longer y = group
-over_both em B group first firstLeft (Fit x) Longer = group
-over_both em B group first firstLeft (Fit x) (Fit y) =
+abbrev pub over_both : ℕ → ℕ → Word → ℕ → ℕ → Option ℕ → Option ℕ → Word
+over_both em B group first firstLeft None y = group
+over_both em B group first firstLeft (Some x) None = group
+over_both em B group first firstLeft (Some x) (Some y) =
     record { front = 0; len = 2 * B; inbase = 0; right = between em B first x; left = between em B firstLeft y }
 
 unfoldable pub jukugos_from : Left → Ratios → ℕ → Str → RunStrand → RunStrand → Word
 unfolding sided
 jukugos_from left h em base r l =
-    let group = groups_word (script_of r.sort) (script_of l.sort) script.Kana h em base r.string l.string in
-    cond (is_group left) group (over_both em base.width group r.first l.first r.runs l.runs)
+    let group = groups_word (script_of r.strand.sort) (script_of l.strand.sort) script.Kana h em base r.strand.string l.strand.string in
+    cond (is_group left) group (over_both em base.width group r.first l.first r.last l.last)
 
 unfoldable pub two_from : Form → Left → Ratios → ℕ → Base → RunStrand → RunStrand → Word
 unfolding plain sided jukugos_from
 two_from P left h em b r l = plain b.string.width
-two_from M left h em b r l = monos_word h em b.string r.string l.string
-two_from G left h em b r l = groups_word (script_of r.sort) (script_of l.sort) (script_of b.sort) h em b.string r.string l.string
+two_from M left h em b r l = monos_word h em b.string r.strand.string l.strand.string
+two_from G left h em b r l = groups_word (script_of r.strand.sort) (script_of l.strand.sort) (script_of b.sort) h em b.string r.strand.string l.strand.string
 two_from J left h em b r l = jukugos_from left h em b.string r l
 
 unfoldable pub both_by : Form → Left → ℕ → Ratios → ℕ → Base → RunStrand → RunStrand → Answer
 unfolding row_of two_from
-both_by form left place h em b r l = answered_by (row_of form place b.blank b.sort b.uneven r.sort l.sort) (two_from form left h em b r l)
+both_by form left place h em b r l = answered_by (row_of form place b.blank b.sort b.uneven r.strand.sort l.strand.sort) (two_from form left h em b r l)
 
 -- past all rows a J's base characters are one em wide each
-pub rows_even : (form : Form) (place : ℕ) (blank : Bool) (b : Sort) (uneven : Bool) (r l : Sort) → is_j form ≡ true → row_of form place blank b uneven r l ≡ None → uneven ≡ false
+pub rows_even : (form : Form) (place : ℕ) (blank : Bool) (b : Sort) (uneven : Bool) (r l : Sort) → is_j form ≡ true → row_of form place blank b uneven r l ≡ Ok tt → uneven ≡ false
 unfolding row_of
 rows_even form place blank b uneven r l j e =
     go (is_j form) blank (not_kana b) uneven ((is_g form || is_j form) && ((is_mixed b || is_mixed r) || is_mixed l))
     (is_g form && ((is_western r && is_western b) || (is_western l && is_western b))) j e
   where
     go : (j blank n u c d : Bool) → j ≡ true →
-        cond blank (Holds (BlankInside place)) (cond (j && (n || u)) (Holds (JukugoBase place)) (cond c (Holds (Mixed place)) (cond d (Holds (WesternOver place)) None))) ≡ None → u ≡ false
+        ◌≡◌ {A = Result ⊤ Refusal} (cond blank (Err (BlankInside place)) (cond (j && (n || u)) (Err (JukugoBase place)) (cond c (Err (Mixed place)) (cond d (Err (WesternOver place)) (Ok tt))))) (Ok tt) → u ≡ false
     go j blank n false c d h e = refl
-    go j true n true c d h e = absurd (let z : ◌≡◌ {A = ℕ} 0 1 = cc in omega arith)
-    go true false true true c d h e = absurd (let z : ◌≡◌ {A = ℕ} 0 1 = cc in omega arith)
-    go true false false true c d h e = absurd (let z : ◌≡◌ {A = ℕ} 0 1 = cc in omega arith)
-    go false false n true c d h e = absurd (let z : ◌≡◌ {A = ℕ} 0 1 = cc in omega arith)
+    go j true n true c d h e = cc
+    go true false true true c d h e = cc
+    go true false false true c d h e = cc
+    go false false n true c d h e = cc
 
 module _ (w : Given) (g : Gloss) where
   abbrev right : RunStrand
@@ -302,7 +299,7 @@ module _ (w : Given) (g : Gloss) where
 
       go : (k a b : Bool) → cond k group (cond (a || b) group over)
           ≡ cond k group (over_both w.em (sum w.width) group (first_of w.run w.ruby_width) (first_of g.run g.width)
-          (cond a Longer (Fit (lasts w.run w.ruby_width))) (cond b Longer (Fit (lasts g.run g.width))))
+          (cond a None (Some (lasts w.run w.ruby_width))) (cond b None (Some (lasts g.run g.width))))
       go true a b = refl
       go false true b = refl
       go false false true = refl
@@ -317,7 +314,7 @@ module _ (w : Given) (g : Gloss) where
   same_row J place blank b u r l = refl
 
   -- and where none holds 9 has passed
-  row-unmixed : (form : Form) (place : ℕ) (blank : Bool) (b : Sort) (u : Bool) (r l : Sort) → row_of form place blank b u r l ≡ None →
+  row-unmixed : (form : Form) (place : ℕ) (blank : Bool) (b : Sort) (u : Bool) (r l : Sort) → row_of form place blank b u r l ≡ Ok tt →
       ((is_g form || is_j form) && ((is_mixed b || is_mixed r) || is_mixed l)) ≡ false
   unfolding row_of
   row-unmixed form place blank b u r l e =
@@ -325,11 +322,11 @@ module _ (w : Given) (g : Gloss) where
       (is_g form && ((is_western r && is_western b) || (is_western l && is_western b))) e
     where
       go : (blank j c d : Bool) →
-          cond blank (Holds (BlankInside place)) (cond j (Holds (JukugoBase place)) (cond c (Holds (Mixed place)) (cond d (Holds (WesternOver place)) None))) ≡ None → c ≡ false
+          ◌≡◌ {A = Result ⊤ Refusal} (cond blank (Err (BlankInside place)) (cond j (Err (JukugoBase place)) (cond c (Err (Mixed place)) (cond d (Err (WesternOver place)) (Ok tt))))) (Ok tt) → c ≡ false
       go blank j false d e = refl
-      go true j true d e = absurd (let z : ◌≡◌ {A = ℕ} 0 1 = cc in omega arith)
-      go false true true d e = absurd (let z : ◌≡◌ {A = ℕ} 0 1 = cc in omega arith)
-      go false false true d e = absurd (let z : ◌≡◌ {A = ℕ} 0 1 = cc in omega arith)
+      go true j true d e = cc
+      go false true true d e = cc
+      go false false true d e = cc
 
   pub both_by_lem : (form : Form) (place : ℕ) → has_ruby form ≡ true → has_left g.kind ≡ true →
       answer_both form place w g ≡ both_by form g.kind place w.ratios w.em (given_base form w) right left
@@ -344,6 +341,6 @@ module _ (w : Given) (g : Gloss) where
       ∙ ap (λ z. answered_by z (two_from form g.kind w.ratios w.em (given_base form w) right left))
       (same_row form place blank (sort_of w.class) u (sort_of w.ruby_class) (sort_of g.class))
     where
-      by : (q : Row) → answered form place w g ruby q ≡ answered_by q (sides.word_of form w g)
-      by None = refl
-      by (Holds why) = refl
+      by : (q : Result ⊤ Refusal) → answered form place w g ruby q ≡ answered_by q (sides.word_of form w g)
+      by (Ok tt) = refl
+      by (Err why) = refl

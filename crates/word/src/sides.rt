@@ -11,17 +11,17 @@ ghost use Rattle.word.specs.Both.{longest};
 ghost use Rattle.word.specs.Sides.{Counted, Strings, reading_over, sided, monos_word, groups_word};
 ghost use Rattle.word.specs.Word.{between};
 
-use super::{Answer, Base, Form, Left, Reading, Row, RunStrand, Runs, Script, Sort, Str, Word};
+use super::{Answer, Base, Form, Left, NONE, Reading, RunStrand, Script, Sort, Str, Word};
 use refusal::Refusal;
 
 fn longest_of(b: u32, r: u32, l: u32) -> u32
     ensures { result ≡ longest b r l }
 {
-    let reading = basics::larger(r, l);
-    basics::larger(b, reading)
+    b.max(r.max(l))
 }
 
 // A reading over the length t of its word's longest string.
+#[tactic(auto, using(crate::proofs::Steps::space_steps), unfolding(crate::specs::Sides::reading_over))]
 fn reading_over(way: spread::Way, ratios: [[u32; 3]; 2], em: u32, t: u32, s: Str) -> Reading
     requires { (s.width ≤ t) × (t ≤ 262144) × (Counted s) × (Housed (ratios_of ratios)) }
     ensures { result ≡ reading_over way (ratios_of ratios) em t s }
@@ -37,6 +37,7 @@ fn reading_over(way: spread::Way, ratios: [[u32; 3]; 2], em: u32, t: u32, s: Str
 }
 
 // A word of three strings, each by its way where it is not the longest.
+#[tactic(auto, using(crate::proofs::Steps::space_steps), unfolding(crate::specs::Sides::sided))]
 fn sided_of(
     right: spread::Way,
     left: spread::Way,
@@ -52,18 +53,16 @@ fn sided_of(
 {
     let t = longest_of(b.width, r.width, l.width);
     let g = spread::gaps_of(spread::Which::Base, base, ratios, em, t - b.width, b.count);
-    let over = reading_over(right, ratios, em, t, r);
-    let under = reading_over(left, ratios, em, t, l);
     Word {
         front: g.front,
         len: 2 * b.width + g.within,
         inbase: g.within,
-        right: over,
-        left: under,
+        right: reading_over(right, ratios, em, t, r),
+        left: reading_over(left, ratios, em, t, l),
     }
 }
 
-// "Mono with mono is solid and centred on both sides."
+/// "Mono with mono is solid and centred on both sides." Base, right and left one by one and no struct of three: each is named in what is said of it.
 pub fn monos_of(ratios: [[u32; 3]; 2], em: u32, b: Str, r: Str, l: Str) -> Word
     requires { (Strings b r l) × (Housed (ratios_of ratios)) }
     ensures { result ≡ monos_word (ratios_of ratios) em b r l }
@@ -81,6 +80,7 @@ pub fn monos_of(ratios: [[u32; 3]; 2], em: u32, b: Str, r: Str, l: Str) -> Word
 }
 
 // The way of the base, which is set with the longer reading ("right, if equal").
+#[tactic(auto, using(std::proofs::lemmas::Bool::Decides::nat_tests))]
 fn base_way_by(right: Script, left: Script, base: Script, r: u32, l: u32) -> spread::Way
     ensures { result ≡ cond (leb l r) (base_way right base) (base_way left base) }
 {
@@ -91,7 +91,7 @@ fn base_way_by(right: Script, left: Script, base: Script, r: u32, l: u32) -> spr
     }
 }
 
-// Two groups, or jukugo taken as group.
+/// Two groups, or jukugo taken as group.
 pub fn groups_of(
     right: Script,
     left: Script,
@@ -105,13 +105,20 @@ pub fn groups_of(
     requires { (Strings b r l) × (Housed (ratios_of ratios)) }
     ensures { result ≡ groups_word right left base (ratios_of ratios) em b r l }
 {
-    let by = base_way_by(right, left, base, r.width, l.width);
-    let over = super::ruby_way(right, base);
-    let under = super::ruby_way(left, base);
-    sided_of(over, under, by, ratios, em, b, r, l)
+    let under = base_way_by(right, left, base, r.width, l.width);
+    sided_of(
+        super::ruby_way(right, base),
+        super::ruby_way(left, base),
+        under,
+        ratios,
+        em,
+        b,
+        r,
+        l,
+    )
 }
 
-// The runs of a J, each over its own character: the width of its base, and the lengths of the first and the last.
+/// The runs of a J, each over its own character: the width of its base, and the lengths of the first and the last.
 pub fn runs_reading(em: u32, base: u32, first: u32, last: u32) -> Reading
     requires { (first ≤ em) × (last ≤ em) × (em ≤ base) × (base ≤ 131072) }
     ensures { result ≡ between em base first last }
@@ -125,18 +132,8 @@ pub fn runs_reading(em: u32, base: u32, first: u32, last: u32) -> Reading
     }
 }
 
-fn is_group(left: Left) -> bool
-    ensures { result ≡ is_group left }
-{
-    match left {
-        Left::N => false,
-        Left::M => false,
-        Left::G => true,
-        Left::J => false,
-    }
-}
-
 // A J with a left reading: over their own characters on both sides, or taken as group on both.
+#[tactic(auto, unfolding(crate::specs::Summed::jukugos_from))]
 fn jukugos_from(
     left: Left,
     ratios: [[u32; 3]; 2],
@@ -145,118 +142,57 @@ fn jukugos_from(
     r: RunStrand,
     l: RunStrand,
 ) -> Word
-    requires { (Strings base r.string l.string) × (Housed (ratios_of ratios)) × (em ≤ base.width) × (RunsFit em r) × (RunsFit em l) }
+    requires { (Strings base r.strand.string l.strand.string) × (Housed (ratios_of ratios)) × (em ≤ base.width) × (RunsFit em r) × (RunsFit em l) }
     ensures { result ≡ jukugos_from left (ratios_of ratios) em base r l }
 {
-    let over = r.string;
-    let under = l.string;
-    let over_sort = r.sort;
-    let under_sort = l.sort;
-    let right = super::script_of(over_sort);
-    let below = super::script_of(under_sort);
-    let group = groups_of(right, below, Script::Kana, ratios, em, base, over, under);
-    if is_group(left) {
-        return group;
-    }
-    let fit = r.runs;
-    let Runs::Fit(last) = fit else {
-        return group;
-    };
-    let fits = l.runs;
-    let Runs::Fit(lowest) = fits else {
-        return group;
-    };
-    let rights = runs_reading(em, base.width, r.first, last);
-    let lefts = runs_reading(em, base.width, l.first, lowest);
-    Word {
-        front: 0,
-        len: 2 * base.width,
-        inbase: 0,
-        right: rights,
-        left: lefts,
-    }
-}
-
-fn any_mixed(b: Sort, r: Sort, l: Sort) -> bool
-    ensures { result ≡ ((is_mixed b || is_mixed r) || is_mixed l) }
-{
-    if super::is_mixed(b) {
-        return true;
-    }
-    if super::is_mixed(r) {
-        return true;
-    }
-    super::is_mixed(l)
-}
-
-// Number 8, by what the base is made of.
-fn base_wrong(form: Form, b: Sort, uneven: bool) -> bool
-    ensures { result ≡ (is_j form && (not_kana b || uneven)) }
-{
-    match form {
-        Form::P => false,
-        Form::M => false,
-        Form::G => false,
-        Form::J => {
-            if super::not_kana(b) {
-                return true;
-            }
-            uneven
+    match (left, r.last, l.last) {
+        (Left::N | Left::M | Left::J, Some(last), Some(lowest)) => Word {
+            front: 0,
+            len: 2 * base.width,
+            inbase: 0,
+            right: runs_reading(em, base.width, r.first, last),
+            left: runs_reading(em, base.width, l.first, lowest),
+        },
+        _ => {
+            let over = r.strand;
+            let under = l.strand;
+            groups_of(
+                over.sort.script(),
+                under.sort.script(),
+                Script::Kana,
+                ratios,
+                em,
+                base,
+                over.string,
+                under.string,
+            )
         }
-    }
-}
-
-// Number 9 of base and either reading, right first.
-fn strings_mixed(form: Form, b: Sort, r: Sort, l: Sort) -> bool
-    ensures { result ≡ ((is_g form || is_j form) && ((is_mixed b || is_mixed r) || is_mixed l)) }
-{
-    match form {
-        Form::P => false,
-        Form::M => false,
-        Form::G => any_mixed(b, r, l),
-        Form::J => any_mixed(b, r, l),
-    }
-}
-
-// Number 10 of either reading.
-fn western_reading(form: Form, b: Sort, r: Sort, l: Sort) -> bool
-    ensures { result ≡ (is_g form && ((is_western r && is_western b) || (is_western l && is_western b))) }
-{
-    match form {
-        Form::P => false,
-        Form::M => false,
-        Form::G => {
-            if super::western_over(r, b) {
-                return true;
-            }
-            super::western_over(l, b)
-        }
-        Form::J => false,
     }
 }
 
 // The first of numbers 7 to 10 that holds of a word with readings on both sides.
-fn row_of(form: Form, place: u32, base: Base, r: Sort, l: Sort) -> Row
+#[tactic(auto, unfolding(crate::specs::Rows::row_of))]
+fn row_of(form: Form, place: u32, base: Base, r: Sort, l: Sort) -> Result<(), Refusal>
     ensures { result ≡ row_of form place base.blank base.sort base.uneven r l }
 {
-    let blank = base.blank;
-    if blank {
-        return Row::Holds(Refusal::BlankInside(place));
-    }
     let b = base.sort;
-    if base_wrong(form, b, base.uneven) {
-        return Row::Holds(Refusal::JukugoBase(place));
+    if base.blank {
+        return Err(Refusal::BlankInside(place));
     }
-    if strings_mixed(form, b, r, l) {
-        return Row::Holds(Refusal::Mixed(place));
+    if form == Form::J && (b.not_kana() || base.uneven) {
+        return Err(Refusal::JukugoBase(place));
     }
-    if western_reading(form, b, r, l) {
-        return Row::Holds(Refusal::WesternOver(place));
+    if matches!(form, Form::G | Form::J) && (b.is_mixed() || r.is_mixed() || l.is_mixed()) {
+        return Err(Refusal::Mixed(place));
     }
-    Row::None
+    if form == Form::G && (super::western_over(r, b) || super::western_over(l, b)) {
+        return Err(Refusal::WesternOver(place));
+    }
+    Ok(())
 }
 
 // The word of its form with its left reading.
+#[tactic(auto, unfolding(crate::specs::Summed::two_from))]
 fn two_from(
     form: Form,
     left: Left,
@@ -266,29 +202,31 @@ fn two_from(
     r: RunStrand,
     l: RunStrand,
 ) -> Word
-    requires { (Strings base.string r.string l.string) × (Housed (ratios_of ratios)) × (is_j form ≡ true → (em ≤ base.string.width) × (RunsFit em r) × (RunsFit em l)) }
+    requires { (Strings base.string r.strand.string l.strand.string) × (Housed (ratios_of ratios)) × (is_j form ≡ true → (em ≤ base.string.width) × (RunsFit em r) × (RunsFit em l)) }
     ensures { result ≡ two_from form left (ratios_of ratios) em base r l }
 {
     let b = base.string;
-    let over = r.string;
-    let under = l.string;
+    let over = r.strand;
+    let under = l.strand;
     match form {
         Form::P => super::plain_of(b.width),
-        Form::M => monos_of(ratios, em, b, over, under),
-        Form::G => {
-            let over_sort = r.sort;
-            let under_sort = l.sort;
-            let base_sort = base.sort;
-            let right = super::script_of(over_sort);
-            let below = super::script_of(under_sort);
-            let beside = super::script_of(base_sort);
-            groups_of(right, below, beside, ratios, em, b, over, under)
-        }
+        Form::M => monos_of(ratios, em, b, over.string, under.string),
+        Form::G => groups_of(
+            over.sort.script(),
+            under.sort.script(),
+            base.sort.script(),
+            ratios,
+            em,
+            b,
+            over.string,
+            under.string,
+        ),
         Form::J => jukugos_from(left, ratios, em, b, r, l),
     }
 }
 
-// A word with a left reading set within itself, or the first refusal that holds of it. "9 and 10 likewise" hold for left characters.
+/// A word with a left reading set within itself, or the first refusal that holds of it. "9 and 10 likewise" hold for left characters.
+#[tactic(auto, using(crate::proofs::Steps::judged_steps), unfolding(crate::specs::Summed::both_by))]
 pub fn both_answer(
     form: Form,
     left: Left,
@@ -299,13 +237,11 @@ pub fn both_answer(
     r: RunStrand,
     l: RunStrand,
 ) -> Answer
-    requires { (Strings base.string r.string l.string) × (Housed (ratios_of ratios)) × (is_j form ≡ true → JukugosReady em base r l) }
+    requires { (Strings base.string r.strand.string l.strand.string) × (Housed (ratios_of ratios)) × (is_j form ≡ true → JukugosReady em base r l) }
     ensures { result ≡ both_by form left place (ratios_of ratios) em base r l }
 {
-    let over_sort = r.sort;
-    let under_sort = l.sort;
-    match row_of(form, place, base, over_sort, under_sort) {
-        Row::Holds(why) => Answer::Refused(why),
-        Row::None => Answer::Set(two_from(form, left, ratios, em, base, r, l)),
+    match row_of(form, place, base, r.strand.sort, l.strand.sort) {
+        Err(why) => Answer::Refused(why),
+        Ok(()) => Answer::Set(two_from(form, left, ratios, em, base, r, l)),
     }
 }

@@ -8,7 +8,6 @@ use Rattle.word.specs.declared.Word.{Word}
 use Rattle.line.specs.declared.Side.{Side}
 use Rattle.line.specs.declared.Side.TheVariants.{Right}
 use Rattle.cells.specs.declared.Cell.{Cell}
-use Rattle.cells.specs.Cells.{size}
 use Rattle.door.specs.declared.Piece.{Piece}
 use Rattle.door.specs.Job.{Job, entries}
 use Rattle.job.specs.Line.{first_of, widths_of}
@@ -130,8 +129,8 @@ first-turn side job x i r h e =
     ap (λ z. z + run_at side job x (i - x.base)) e ∙ first_next side job x (i - x.base) ∙ ap (first_at side job x) (next x.base i h)
 
 -- A J whose runs of ruby lie within their lists, and its rows in the table.
-pub record HasRuns (job : Job) (x : Piece) (t : List ℕ) : Type 0 where
-  pub held : size (x.base + x.bases) ≤ length t
+pub record HasRuns (job : Job) (x : Piece) (t : List Cell) : Type 0 where
+  pub held : x.base + x.bases ≤ length t
   pub class : x.ruby + taken Right job x x.bases ≤ length job.ruby_class
   pub own : Runs Right job x
 
@@ -204,7 +203,7 @@ past_run_lem job x k at run own a r o =
     same : (a b c d e f : ℕ) → a ≡ b → c ≡ d → e ≡ f → ◌≡◌ {A = Cursor} (record { ruby = a; wide = c; over = e }) (record { ruby = b; wide = d; over = f })
     same a b c d e f p q r = cc
 
-module _ (job : Job) (x : Piece) (t : List ℕ) (h : HasRuns job x t) (k : ℕ) (l : k < x.bases) (at : Cursor) (e : at ≡ cursor_at job x k) where
+module _ (job : Job) (x : Piece) (t : List Cell) (h : HasRuns job x t) (k : ℕ) (l : k < x.bases) (at : Cursor) (e : at ≡ cursor_at job x k) where
   pub reads_at : RunReads job.ruby_width at.ruby (run_at Right job x k)
   reads_at = reads-from Right job x h.own k l at.ruby (ap (λ z. z.ruby) e)
 

@@ -1,5 +1,5 @@
 -- A word's rows, and level one's answer taken apart: what the ways of an element with one reading and of one with two share.
-use Rattle.std.specs.Prelude.{◌≡◌, refl, Bool, true, false, List, ℕ, ◌+◌, ◌-◌, ◌≤◌, ◌<◌, eqb, length, get_or}
+use Rattle.std.specs.Prelude.{◌≡◌, refl, Bool, true, false, List, ℕ, Result, Ok, Err, ⊤, ◌+◌, ◌-◌, ◌≤◌, ◌<◌, eqb, length, get_or}
 use Rattle.std.proofs.Common.{sym, ◌∙◌, subst, add-zero, arith}
 use Rattle.refusal.specs.declared.Refusal.{Refusal}
 use Rattle.refusal.specs.declared.Refusal.TheVariants.{Element}
@@ -7,14 +7,9 @@ use Rattle.spread.specs.Ratio.{Housed}
 use Rattle.word.specs.declared.Word.{Word}
 use Rattle.word.specs.declared.Answer.{Answer}
 use Rattle.word.specs.declared.Answer.TheVariants as answered
-use Rattle.word.specs.declared.Row.{Row}
-use Rattle.word.specs.declared.Row.TheVariants as judged
 use Rattle.word.specs.Sized.{Small}
 use Rattle.cells.specs.declared.Cell.{Cell}
-use Rattle.cells.specs.Cells.{size}
 use Rattle.door.specs.declared.Piece.{Piece}
-use Rattle.door.specs.declared.Step.{Step}
-use Rattle.door.specs.declared.Step.TheVariants.{Next, Stop}
 use Rattle.door.specs.Job.{Job, given}
 use Rattle.job.specs.Line.{cuts}
 use Rattle.join.specs.Rows.{row_by}
@@ -49,20 +44,20 @@ pub jukugo_row_lem : (job : Job) (x : Piece) (w : Word) (ends : Bool) (i : ℕ) 
 jukugo_row_lem job x w ends i c = rw c
 
 -- "hands its refusal up unchanged"; a word is no refusal, and if one were handed in, its element would be told as number 5
-abbrev pub stop_by : ℕ → Answer → Step
-stop_by place (answered.Refused why) = Stop why
-stop_by place (answered.Set w) = Stop (Element place)
+abbrev pub stop_by : ℕ → Answer → Result Piece Refusal
+stop_by place (answered.Refused why) = Err why
+stop_by place (answered.Set w) = Err (Element place)
 
-abbrev pub stop_at : ℕ → Row → Step
-stop_at place (judged.Holds why) = Stop why
-stop_at place judged.None = Stop (Element place)
+abbrev pub stop_at : ℕ → Result ⊤ Refusal → Result Piece Refusal
+stop_at place (Err why) = Err why
+stop_at place (Ok tt) = Err (Element place)
 
 -- the flag of its last base character is 1
 abbrev pub flagged : Job → Piece → Bool
 flagged job x = eqb (get_or job.flag (x.base + x.bases - 1) 0) 1
 
 -- a word with ruby within the lists that every form reads, and room for its rows
-pub record WordReady (job : Job) (x : Piece) (t : List ℕ) : Type 0 where
+pub record WordReady (job : Job) (x : Piece) (t : List Cell) : Type 0 where
   pub some : 0 < x.bases
   pub few : x.base + x.bases ≤ 1024
   pub few_ruby : x.ruby + x.rubies ≤ 4096
@@ -73,25 +68,25 @@ pub record WordReady (job : Job) (x : Piece) (t : List ℕ) : Type 0 where
   pub ruby_width : x.ruby + x.rubies ≤ length job.ruby_width
   pub small : Small (given job x).width (given job x).ruby_width
   pub house : Housed job.ratios
-  pub room : size (x.base + x.bases) ≤ length t
+  pub room : x.base + x.bases ≤ length t
 
 -- Level one's answer taken apart: a refusal goes up and leaves the table, a word has its rows.
-pub record Judged (a : Answer) (Done : Word → Type 0) (x : Piece) (was t : List ℕ) (s : Step) : Type 0 where
+pub record Judged (a : Answer) (Done : Word → Type 0) (x : Piece) (was t : List Cell) (s : Result Piece Refusal) : Type 0 where
   pub long : length t ≡ length was
-  pub stops : (q : Refusal) → a ≡ answered.Refused q → (s ≡ Stop q) × (t ≡ was)
-  pub goes : (w : Word) → a ≡ answered.Set w → (s ≡ Next x) × Done w
+  pub stops : (q : Refusal) → a ≡ answered.Refused q → (s ≡ Err q) × (t ≡ was)
+  pub goes : (w : Word) → a ≡ answered.Set w → (s ≡ Ok x) × Done w
 
 not-both : {q : Refusal} {w : Word} → answered.Refused q ≡ answered.Set w → ⊥
 not-both e = let z : ◌≡◌ {A = ℕ} 0 1 = cc in omega arith
 
-module _ {a : Answer} {Done : Word → Type 0} {x : Piece} {was : List ℕ} where
-  pub judged-stops : {q : Refusal} {s : Step} → a ≡ answered.Refused q → s ≡ Stop q → Judged a Done x was was s
+module _ {a : Answer} {Done : Word → Type 0} {x : Piece} {was : List Cell} where
+  pub judged-stops : {q : Refusal} {s : Result Piece Refusal} → a ≡ answered.Refused q → s ≡ Err q → Judged a Done x was was s
   judged-stops {q} {s} e h = record { long = refl; stops = λ r d. (h ∙ same (sym e ∙ d), refl); goes = λ w d. absurd (not-both (sym e ∙ d)) }
     where
-      same : {r : Refusal} → answered.Refused q ≡ answered.Refused r → Stop q ≡ Stop r
+      same : {r : Refusal} → answered.Refused q ≡ answered.Refused r → ◌≡◌ {A = Result Piece Refusal} (Err q) (Err r)
       same d = cc
 
-  pub judged-goes : {t : List ℕ} {w : Word} → a ≡ answered.Set w → length t ≡ length was → Done w → Judged a Done x was t (Next x)
+  pub judged-goes : {t : List Cell} {w : Word} → a ≡ answered.Set w → length t ≡ length was → Done w → Judged a Done x was t (Ok x)
   judged-goes {t} {w} e l h =
       record {
         long = l;
@@ -103,7 +98,7 @@ module _ {a : Answer} {Done : Word → Type 0} {x : Piece} {was : List ℕ} wher
       same d = cc
 
 -- by other names
-pub judged_as : {a b : Answer} {Done Also : Word → Type 0} {x : Piece} {was t : List ℕ} {s : Step} → a ≡ b → ((w : Word) → b ≡ answered.Set w → Done w → Also w) →
+pub judged_as : {a b : Answer} {Done Also : Word → Type 0} {x : Piece} {was t : List Cell} {s : Result Piece Refusal} → a ≡ b → ((w : Word) → b ≡ answered.Set w → Done w → Also w) →
     Judged a Done x was t s → Judged b Also x was t s
 judged_as e h j =
     record {

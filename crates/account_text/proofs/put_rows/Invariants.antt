@@ -1,4 +1,4 @@
-use Prim.Native.Nat.{◌-◌}
+-- What is written, and the rows from here on, is the whole. A turn prints one row.
 use Rattle.account_text.specs.Text.{rows_text, segment}
 use Rattle.account_text.specs.Rows.{Going}
 use Rattle.account_text.proofs.put_rows.Given as goal
@@ -6,7 +6,3 @@ use Rattle.account_text.proofs.put_rows.Given as goal
 abbrev pub invariant-loop-k : goal.invariant-loop-k
 invariant-loop-k l =
     Going l.initial.out l.from (rows_text (segment l.rows l.q l.e)) l.rows l.e l.out l.at l.k
-
-abbrev pub decreases-loop-k : goal.decreases-loop-k
-decreases-loop-k l =
-    l.e - l.k

@@ -1,11 +1,7 @@
-use mathlib.Core.Path.{◌≡◌}
-use Prim.Native.Nat.{◌+◌, ◌-◌, ◌≤◌}
-use lib.ListN.{length, drop}
+-- The sum so far and the sum of what is left make the sum of all. A turn moves one number from the one to the other.
+use Rattle.std.proofs.Common.{◌≡◌, ◌+◌, drop}
 use Rattle.basics.specs.Lists.{sum}
 use Rattle.basics.proofs.sum_of.Given as goal
 
-abbrev pub invariant-loop-i : goal.invariant-loop-i
-invariant-loop-i l = (l.i ≤ length l.xs) × (l.s + sum (drop l.i l.xs) ≡ sum l.xs)
-
-abbrev pub decreases-loop-i : goal.decreases-loop-i
-decreases-loop-i l = length l.xs - l.i
+abbrev pub invariant-loop-x : goal.invariant-loop-x
+invariant-loop-x l = l.s + sum (drop l.x-index l.xs) ≡ sum l.xs

@@ -1,8 +1,6 @@
 -- The set so far has the classes below the next one of which it is so, as the table's entries say. The next place is above them all.
-use mathlib.Core.Path.{◌≡◌, ap, ◌∙◌}
-use mathlib.Core.Bool.{Bool, true, false, cond}
-use Prim.Native.Nat.{ℕ, ◌≤◌, ◌<◌}
-use native.Mathlib.Omega.{arith}
+use Rattle.std.proofs.Common.{ap, ◌∙◌, arith}
+use Rattle.std.specs.Prelude.{◌≡◌, Bool, true, false, cond, ℕ, ◌≤◌, ◌<◌}
 use Rattle.class.specs.declared.Entry.{Entry}
 use Rattle.class.specs.Entry.{entry_of}
 use Rattle.class.specs.Laws.{tabled-at}

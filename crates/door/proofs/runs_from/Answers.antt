@@ -22,10 +22,10 @@ past_all : (c : After-loop-j) → let x = c.args in entries x.runs.now (x.u + c.
 past_all c = let x = c.args in entries_none x.runs.now x.u x.n c.loop-j.j c.loop-j-test.false
 
 none : (c : After-loop-j) → any (eqb 0) (own (goal.at.After-loop-j c).Start) ≡ false
-none c = sym c.loop-j.invariant.2 ∙ ap (any (eqb 0)) (past_all c)
+none c = sym c.loop-j.invariant.1 ∙ ap (any (eqb 0)) (past_all c)
 
 all : (c : After-loop-j) → sum (own (goal.at.After-loop-j c).Start) ≡ c.loop-j.taken
-all c = omega (arith, c.loop-j.invariant.3, ap sum (past_all c))
+all c = omega (arith, c.loop-j.invariant.2, ap sum (past_all c))
 
 -- one run more
 one_more : (i : In-loop-j) →
@@ -36,15 +36,14 @@ one_more i = let x = i.args in entries_next x.runs.now x.u x.n i.loop-j.j i.loop
 pub returns-then-run-eq0 : goal.returns-then-run-eq0
 unfolding runs_from
 returns-then-run-eq0 c =
-    rw (← c.loop-j.invariant.2, one_more (goal.at.returns-then-run-eq0 c).In-loop-j, ← c.run_at-run.ensures, eq-eqb 0 _ (sym c.if-run-eq0.true))
+    rw (← c.loop-j.invariant.1, one_more (goal.at.returns-then-run-eq0 c).In-loop-j, ← c.run_at-run.ensures, eq-eqb 0 _ (sym c.if-run-eq0.true))
 
 pub loop-j-preserved : goal.loop-j-preserved
 loop-j-preserved c =
     let inv = c.loop-j.invariant in (
       omega arith,
-      omega arith,
-      sym (rw (one_more (goal.at.loop-j-preserved c).In-loop-j, ← c.run_at-run.ensures, ne_eqb 0 c.run_at-run.result (λ e. c.if-run-eq0.false (sym e)))) ∙ inv.2,
-      omega (arith, ap sum (one_more (goal.at.loop-j-preserved c).In-loop-j), c.run_at-run.ensures, inv.3),
+      sym (rw (one_more (goal.at.loop-j-preserved c).In-loop-j, ← c.run_at-run.ensures, ne_eqb 0 c.run_at-run.result (λ e. c.if-run-eq0.false (sym e)))) ∙ inv.1,
+      omega (arith, ap sum (one_more (goal.at.loop-j-preserved c).In-loop-j), c.run_at-run.ensures, inv.2),
     )
 
 pub returns-then-taken : goal.returns-then-taken

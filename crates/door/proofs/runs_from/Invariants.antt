@@ -7,10 +7,6 @@ use Rattle.door.proofs.runs_from.Given as goal
 
 abbrev pub invariant-loop-j : goal.invariant-loop-j
 invariant-loop-j l =
-    (l.j ≤ l.n)
-    × (l.taken ≤ 4294967295 * l.j)
+    (l.taken ≤ 4294967295 * l.j)
     × (any (eqb 0) (entries l.runs (l.u + l.j) (l.n - l.j)) ≡ any (eqb 0) (entries l.runs l.u l.n))
     × (l.taken + sum (entries l.runs (l.u + l.j) (l.n - l.j)) ≡ sum (entries l.runs l.u l.n))
-
-abbrev pub decreases-loop-j : goal.decreases-loop-j
-decreases-loop-j l = l.n - l.j

@@ -1,20 +1,10 @@
--- `elements::elements_at` meets its contract. Either arm is the case of the head.
-use Rattle.rows.specs.Section.{on_part}
-use Rattle.rows.specs.Table.{laid}
-use Rattle.elements.specs.Elements.{elements}
-use Rattle.elements.specs.Reading as reading
+-- A head that was read has its lines, and under one that is refused nothing is read.
+use Rattle.std.proofs.Common.{rules}
+use Rattle.elements.specs.Reading.{part_ready, none_read}
 use Rattle.elements.proofs.elements_at.Goals as goal
 
+pub returns-in_err-first : goal.returns-in_err-first
+returns-in_err-first c = let h = none_read c.args.form c.args.s.now _ _ c.args.table.now c.args.runs.now c.args.lruns.now c.in_err-first.was in search rules
+
 pub lines_at-requires : goal.lines_at-requires
-lines_at-requires c =
-    reading.lines-ready _ _ _ _ _ _ _ _ c.in-Read.is c.requires
-
-pub returns-in-Refused : goal.returns-in-Refused
-unfolding elements on_part laid
-returns-in-Refused c =
-    let e = c.in-Refused.is in
-    record { end = rw e; rows = rw e; right = rw e; left = rw e }
-
-pub returns-in-Read : goal.returns-in-Read
-returns-in-Read c =
-    rw (reading.elements_of _ _ _ _ _ _ c.in-Read.is) c.lines_at.ensures
+lines_at-requires c = part_ready _ _ _ _ _ _ c.in_ok-first.was c.requires

@@ -1,10 +1,10 @@
 -- The lines so far, `Sofar`, go on by one with each turn, until one is stuck or the last ends the job.
 use mathlib.Core.Path.{◌≡◌, refl, sym, ap, ◌∙◌, subst}
-use mathlib.Core.List.{List}
 use Prim.Native.Nat.{ℕ, ◌+◌, ◌<◌, ◌≤◌}
 use lib.ListN.{length, set}
 use native.Mathlib.Omega.{arith}
 use Rattle.line.specs.Setting.{furthest}
+use Rattle.cells.specs.Rows.{Rows}
 use Rattle.cells.specs.Cells.{state_at, end_of}
 use Rattle.filling.specs.Search.{end_break}
 use Rattle.filling.specs.Lines as lines
@@ -12,11 +12,11 @@ use Rattle.filling.proofs.fill_lines.Goals as goal
 use Rattle.filling.proofs.fill_lines.Goals.{After-line_end-found, Else-e-eq0}
 
 -- the line's end, and its extent
-end-at : (limit : ℕ) (t : List ℕ) (n s : ℕ) → (end_break limit t n s).at ≡ end_of limit t n s
+end-at : (limit : ℕ) (t : Rows) (n s : ℕ) → (end_break limit t n s).at ≡ end_of limit t n s
 unfolding end_break
 end-at limit t n s = refl
 
-end-far : (limit : ℕ) (t : List ℕ) (n s : ℕ) → (end_break limit t n s).extent ≡ furthest (state_at t s (end_break limit t n s).at)
+end-far : (limit : ℕ) (t : Rows) (n s : ℕ) → (end_break limit t n s).extent ≡ furthest (state_at t s (end_break limit t n s).at)
 unfolding end_break
 end-far limit t n s = refl
 

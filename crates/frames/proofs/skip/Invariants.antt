@@ -1,5 +1,7 @@
--- One byte less is left at each step.
+-- So many bytes are skipped as turns were taken, as far as there are any.
+use Rattle.std.proofs.Common.{◌≡◌, ◌-◌, ◌≤◌, length}
+use Rattle.frames.proofs.Steps.{Skipped}
 use Rattle.frames.proofs.skip.Given as goal
 
-abbrev pub decreases-loop-left : goal.decreases-loop-left
-decreases-loop-left g l = l.left
+abbrev pub invariant-loop-at : goal.invariant-loop-at
+invariant-loop-at g l = (length l.one ≡ 1) × (l._at - 65536 ≤ l.n - 65536) × Skipped (g.R.Read.remaining l.initial.from) (g.R.Read.remaining l.from) (l._at - 65536)

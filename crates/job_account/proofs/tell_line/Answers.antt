@@ -9,18 +9,18 @@ use Rattle.cells.specs.Cells.{cell_at, stop}
 use Rattle.job_account.specs.Table.{told_at}
 use Rattle.job_account.specs.Line as one
 use Rattle.job_account.proofs.tell_line.Goals as goal
-use Rattle.job_account.proofs.tell_line.Goals.{After-cell_at-a, After-fewer, After-tell_piece-told}
+use Rattle.job_account.proofs.tell_line.Goals.{After-row-a, After-min, After-tell_piece-told}
 
 -- the piece's row, where it ends, and what is told of it
-cell-is : (c : After-cell_at-a) → c.loop-i.i + c.cell_at-a.result.bases ≡ c.loop-i.i + (cell_at c.args.t.now c.loop-i.i).bases
-cell-is c = ap (λ (z : Cell). c.loop-i.i + z.bases) c.cell_at-a.ensures
+cell-is : (c : After-row-a) → c.loop-i.i + c.row-a.result.now.bases ≡ c.loop-i.i + (cell_at c.args.t.now c.loop-i.i).bases
+cell-is c = ap (λ (z : Cell). c.loop-i.i + z.bases) c.row-a.ensures
 
-end_is : (c : After-fewer) → c.fewer.result ≡ stop c.args.t.now c.loop-i.i c.args.e
-end_is c = c.fewer.ensures ∙ rw c.cell_at-a.ensures
+end_is : (c : After-min) → c.min.result ≡ stop c.args.t.now c.loop-i.i c.args.e
+end_is c = c.min.ensures ∙ rw c.row-a.ensures
 
 told_is : (c : After-tell_piece-told) → let a = c.args in
     c.tell_piece-told.result ≡ told_at a.t.now c.loop-i.i (stop a.t.now c.loop-i.i a.e) c.loop-i.st c.loop-i.j c.loop-i.b
-told_is c = c.tell_piece-told.ensures ∙ rw (end_is (goal.at.After-tell_piece-told c).After-fewer)
+told_is c = c.tell_piece-told.ensures ∙ rw (end_is (goal.at.After-tell_piece-told c).After-min)
 
 pub loop-i-init : goal.loop-i-init
 loop-i-init c = one.along-first c.requires
@@ -36,8 +36,8 @@ put_row-requires c =
 pub loop-i-preserved : goal.loop-i-preserved
 loop-i-preserved c =
     let a = c.args in
-    one.along-next c.requires c.loop-i.invariant c.loop-i-test.true (cell-is (goal.at.loop-i-preserved c).After-cell_at-a) (told_is (goal.at.loop-i-preserved c).After-tell_piece-told)
-    (c.next_index-k.ensures ∙ ap (λ (z : Cell). c.loop-i.k + cond z.more 0 (cond (leb (c.loop-i.i + z.bases) a.e) 1 0)) c.cell_at-a.ensures) c.put_row.ensures
+    one.along-next c.requires c.loop-i.invariant c.loop-i-test.true (cell-is (goal.at.loop-i-preserved c).After-row-a) (told_is (goal.at.loop-i-preserved c).After-tell_piece-told)
+    (c.next_index-k.ensures ∙ ap (λ (z : Cell). c.loop-i.k + cond z.more 0 (cond (leb (c.loop-i.i + z.bases) a.e) 1 0)) c.row-a.ensures) c.put_row.ensures
 
 pub returns : goal.returns
 returns c = (

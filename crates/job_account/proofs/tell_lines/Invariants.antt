@@ -1,9 +1,5 @@
-use Prim.Native.Nat.{◌-◌}
 use Rattle.job_account.specs.Walk.{Going}
 use Rattle.job_account.proofs.tell_lines.Given as goal
 
 abbrev pub invariant-loop-l : goal.invariant-loop-l
 invariant-loop-l l = Going l.t l.n l.ends l.initial.rows l.initial.told l.at l.s l.l l.rows l.told
-
-abbrev pub decreases-loop-l : goal.decreases-loop-l
-decreases-loop-l l = l.n - l.l

@@ -9,7 +9,7 @@ base_of-requires c =
     let x = c.args in
     let job = bases_only x.em x.class.now x.width.now x.before.now x.after.now in
     let s = base-small job x.p c.requires in
-    (s.0, omega (arith, s.1), base_even job x.p c.requires)
+    ((s.0, omega (arith, s.1)), base_even job x.p c.requires)
 
 pub returns : goal.returns
 returns c =

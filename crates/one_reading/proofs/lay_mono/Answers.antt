@@ -6,7 +6,8 @@ use Rattle.word.specs.declared.Form.TheVariants.{M}
 use Rattle.word.specs.Answer.{answer}
 use Rattle.word.specs.Summed.{mono_by}
 use Rattle.door.specs.Job.{Job, given}
-use Rattle.word_rows.specs.Table.{Filled}
+use Rattle.cells.specs.Cells.{beside}
+use Rattle.word_rows.specs.Table.{Filled, bare_row}
 use Rattle.word_rows.specs.Word.{word_row, judged-stops, judged-goes, stop_by}
 use Rattle.one_reading.specs.Lay.{mono-lent, mono-small}
 use Rattle.one_reading.specs.Seen.{mono_only}
@@ -44,5 +45,6 @@ pub returns : goal.returns
 returns c =
     let x = c.args in
     judged-goes (sym (told (goal.at.returns c).After-mono_answer-answer) ∙ c.in-Set.is) c.put_word.ensures.long
-    (subst (λ z. Filled (word_row x.p c.in-Set.w z 0 0) x.p.base (x.p.base + x.p.bases) x.t.now c.put_word.new.t) c.ends_behind-ends.ensures
-    c.put_word.ensures)
+    (subst (λ z. Filled (λ i. beside (word_row x.p c.in-Set.w z 0 0 i) (bare_row x.left)) x.p.base (x.p.base + x.p.bases) x.rows.now c.put_word.new.rows) c.ends_behind-ends.ensures
+    (subst (λ l. Filled (λ i. beside (word_row x.p c.in-Set.w c.ends_behind-ends.result 0 0 i) l) x.p.base (x.p.base + x.p.bases) x.rows.now c.put_word.new.rows) c.bare.ensures
+    c.put_word.ensures))

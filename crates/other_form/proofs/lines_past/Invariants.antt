@@ -1,11 +1,7 @@
-use mathlib.Core.Path.{◌≡◌}
-use Prim.Native.Nat.{◌-◌, ◌≤◌}
-use lib.ListN.{length, drop}
+-- The place past the lines that are left from here is the place past all. A turn passes one byte, and a line where that is LF.
+use Rattle.std.proofs.Common.{◌≡◌, drop}
 use Rattle.other_form.specs.Bytes.{past_lines}
 use Rattle.other_form.proofs.lines_past.Given as goal
 
 abbrev pub invariant-loop-at : goal.invariant-loop-at
-invariant-loop-at l = (l.at ≤ length l.s) × (past_lines l.n (drop l.from l.s) l.from ≡ past_lines l.k (drop l.at l.s) l.at)
-
-abbrev pub decreases-loop-at : goal.decreases-loop-at
-decreases-loop-at l = length l.s - l.at
+invariant-loop-at l = past_lines l.k (drop l.at l.s) l.at ≡ past_lines l.n (drop l.from l.s) l.from

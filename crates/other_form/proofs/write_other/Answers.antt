@@ -1,5 +1,5 @@
 -- The fifth byte tells the form, and each form is written by its own function.
-use mathlib.Core.Path.{◌∙◌, sym}
+use Rattle.std.proofs.Common.{◌∙◌, sym}
 use Rattle.other_form.specs.Joined.{is_one, is_two_lem}
 use Rattle.other_form.proofs.write_other.Goals as goal
 

@@ -1,5 +1,5 @@
 -- Before each piece, what is written and what the pieces from there on add make up the whole line; a piece writes its base and its readings, or its one character.
-use mathlib.Core.Path.{◌≡◌, ap, ◌∙◌}
+use mathlib.Core.Path.{◌≡◌, refl, ap, ◌∙◌}
 use Prim.Native.Nat.{ℕ}
 use lib.ListN.{set}
 use lib.Seq.{sets}
@@ -11,7 +11,7 @@ use Rattle.positions.specs.Positions.{Sheet, sheet, first, piece_of, base_put, s
 use Rattle.positions.specs.Line as one
 use native.Mathlib.Omega.{arith}
 use Rattle.positions.proofs.put_line.Goals as goal
-use Rattle.positions.proofs.put_line.Goals.{After-advance-step, After-fewer-c, At-loop-i, Joined-over, then-over, else-over}
+use Rattle.positions.proofs.put_line.Goals.{After-advance-step, After-min-c, At-loop-i, Joined-over, then-over, else-over}
 
 abbrev g : At-loop-i → Sheet
 g c = let a = c.args in sheet a.t.now a.width.now a.rwidth.now a.lwidth.now
@@ -23,12 +23,12 @@ end c = stop c.args.t.now c.loop-i.i c.args.l.upto
 abbrev spot : At-loop-i → ℕ
 spot c = origin c.loop-i.st (piece_of (g c) c.loop-i.i (end c))
 
-end_is : (c : After-fewer-c) → c.fewer-c.result ≡ end (goal.at.After-fewer-c c).At-loop-i
-end_is c = c.fewer-c.ensures ∙ rw c.cell_at-a.ensures
+end_is : (c : After-min-c) → c.min-c.result ≡ end (goal.at.After-min-c c).At-loop-i
+end_is c = c.min-c.ensures ∙ rw c.row-a.ensures
 
 step_is : (c : After-advance-step) → c.advance-step.result ≡ step_at c.args.t.now c.loop-i.st c.loop-i.i (end (goal.at.After-advance-step c).At-loop-i)
 step_is c =
-    c.advance-step.ensures ∙ ap (step_at c.args.t.now c.loop-i.st c.loop-i.i) (end_is (goal.at.After-advance-step c).After-fewer-c)
+    c.advance-step.ensures ∙ ap (step_at c.args.t.now c.loop-i.st c.loop-i.i) (end_is (goal.at.After-advance-step c).After-min-c)
 
 pub loop-i-init : goal.loop-i-init
 loop-i-init c = one.along-first c.requires
@@ -37,18 +37,18 @@ pub advance-step-requires : goal.advance-step-requires
 advance-step-requires c =
     rw (end_is c) (one.can_advance c.requires c.loop-i.invariant c.loop-i-test.true)
 
-pub put_base-requires : goal.put_base-requires
-put_base-requires c =
-    rw (step_is (goal.at.put_base-requires c).After-advance-step, end_is (goal.at.put_base-requires c).After-fewer-c)
-    (one.asks-base c.requires c.loop-i.invariant c.loop-i-test.true (rw (step_is (goal.at.put_base-requires c).After-advance-step) at c.if-over.true))
-
-pub put_reading-requires : goal.put_reading-requires
-put_reading-requires c =
-    rw (step_is (goal.at.put_reading-requires c).After-advance-step, end_is (goal.at.put_reading-requires c).After-fewer-c) (one.asks-ruby c.requires c.loop-i.invariant c.loop-i-test.true)
-
-pub put_reading-requires-then-over : goal.put_reading-requires-then-over
-put_reading-requires-then-over c =
-    rw (step_is (goal.at.put_reading-requires-then-over c).After-advance-step, end_is (goal.at.put_reading-requires-then-over c).After-fewer-c) (one.asks-left c.requires c.loop-i.invariant c.loop-i-test.true)
+pub put_piece-requires : goal.put_piece-requires
+put_piece-requires c =
+    let there = rw (step_is (goal.at.put_piece-requires c).After-advance-step) at c.if-over.true in
+    rw (step_is (goal.at.put_piece-requires c).After-advance-step, end_is (goal.at.put_piece-requires c).After-min-c) (
+      (one.can_advance c.requires c.loop-i.invariant c.loop-i-test.true).held,
+      refl,
+      record {
+        base = one.asks-base c.requires c.loop-i.invariant c.loop-i-test.true there;
+        ruby = one.asks-ruby c.requires c.loop-i.invariant c.loop-i-test.true;
+        left = one.asks-left c.requires c.loop-i.invariant c.loop-i-test.true;
+      },
+    )
 
 -- what the piece leaves, by its two cases
 leaves : (c : Joined-over) → (c.if-over.base ≡ sets c.loop-i.base c.loop-i.i (base_put (g (goal.at.Joined-over c).At-loop-i) c.loop-i.i (end (goal.at.Joined-over c).At-loop-i) (spot (goal.at.Joined-over c).At-loop-i)))
@@ -60,9 +60,9 @@ leaves c =
     let l = c.loop-i-test.true in
     elim c.if-over.branch [
       | then-over w ↦ (
-        one.wrote_base a q.invariant l (rw (step_is (goal.at.Joined-over c).After-advance-step) at w.if-over.true) (w.base-is ∙ w.put_base.ensures ∙ rw (step_is (goal.at.Joined-over c).After-advance-step, end_is (goal.at.Joined-over c).After-fewer-c)),
-        one.wrote_side a q.invariant l Right q.ruby c.if-over.ruby (w.ruby-is ∙ w.put_reading.ensures ∙ rw (step_is (goal.at.Joined-over c).After-advance-step, end_is (goal.at.Joined-over c).After-fewer-c)),
-        one.wrote_side a q.invariant l Left q.left c.if-over.left (w.left-is ∙ w.put_reading-then-over.ensures ∙ rw (step_is (goal.at.Joined-over c).After-advance-step, end_is (goal.at.Joined-over c).After-fewer-c)),
+        one.wrote_base a q.invariant l (rw (step_is (goal.at.Joined-over c).After-advance-step) at w.if-over.true) (w.base-is ∙ w.put_piece.ensures.base ∙ rw (step_is (goal.at.Joined-over c).After-advance-step, end_is (goal.at.Joined-over c).After-min-c)),
+        one.wrote_side a q.invariant l Right q.ruby c.if-over.ruby (w.ruby-is ∙ w.put_piece.ensures.ruby ∙ rw (step_is (goal.at.Joined-over c).After-advance-step, end_is (goal.at.Joined-over c).After-min-c)),
+        one.wrote_side a q.invariant l Left q.left c.if-over.left (w.left-is ∙ w.put_piece.ensures.left ∙ rw (step_is (goal.at.Joined-over c).After-advance-step, end_is (goal.at.Joined-over c).After-min-c)),
       )
       | else-over w ↦ let none = rw (step_is (goal.at.Joined-over c).After-advance-step) at w.if-over.false in
           (w.base-is ∙ ap (λ (z : Step). set q.base q.i z.at) (step_is (goal.at.Joined-over c).After-advance-step) ∙ one.wrote_plain a q.invariant l none, w.ruby-is ∙ one.no_ruby a q.invariant l none, w.left-is ∙ one.no_left_lem a q.invariant l none)
@@ -70,11 +70,11 @@ leaves c =
 
 pub loop-i-smaller : goal.loop-i-smaller
 loop-i-smaller c =
-    rw c.cell_at-a.ensures (omega (arith, (one.few c.requires c.loop-i.invariant c.loop-i-test.true).1, c.loop-i-test.true))
+    rw c.row-a.ensures (omega (arith, (one.few c.requires c.loop-i.invariant c.loop-i-test.true).1, c.loop-i-test.true))
 
 pub loop-i-preserved : goal.loop-i-preserved
 loop-i-preserved c =
-    rw ((leaves (goal.at.loop-i-preserved c).Joined-over).0, (leaves (goal.at.loop-i-preserved c).Joined-over).1, (leaves (goal.at.loop-i-preserved c).Joined-over).2, step_is (goal.at.loop-i-preserved c).After-advance-step, c.cell_at-a.ensures)
+    rw ((leaves (goal.at.loop-i-preserved c).Joined-over).0, (leaves (goal.at.loop-i-preserved c).Joined-over).1, (leaves (goal.at.loop-i-preserved c).Joined-over).2, step_is (goal.at.loop-i-preserved c).After-advance-step, c.row-a.ensures)
     (one.along-next c.requires c.loop-i.invariant c.loop-i-test.true)
 
 pub returns : goal.returns

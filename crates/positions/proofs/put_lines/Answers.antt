@@ -2,12 +2,12 @@
 use Rattle.positions.specs.Lines.{going_first, going_next, going_all}
 use Rattle.positions.proofs.put_lines.Goals as goal
 
-pub loop-l-init : goal.loop-l-init
-loop-l-init c = going_first c.requires
+pub loop-end-init : goal.loop-end-init
+loop-end-init c = going_first c.requires
 
-pub loop-l-preserved : goal.loop-l-preserved
-loop-l-preserved c =
-    going_next c.loop-l.invariant c.loop-l-test.true c.put_line.ensures
+pub loop-end-preserved : goal.loop-end-preserved
+loop-end-preserved c =
+    going_next c.loop-end.invariant c.loop-end-test.true c.put_line.ensures
 
 pub returns : goal.returns
-returns c = going_all c.loop-l.invariant c.loop-l-test.false
+returns c = going_all c.loop-end.invariant c.loop-end-test.false

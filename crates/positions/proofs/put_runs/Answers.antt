@@ -1,12 +1,11 @@
 -- Before each row, what is written and what its run and those behind it add make up the whole.
 use mathlib.Core.Path.{◌≡◌}
-use Rattle.cells.specs.Cells.{em_at}
 use Rattle.positions.specs.Runs.{running-next, running-end}
 use Rattle.positions.proofs.put_runs.Goals as goal
 use Rattle.positions.proofs.put_runs.Goals.{At-loop-k, In-loop-k}
 
-ems : (c : At-loop-k) → c.em_at-em.result ≡ em_at c.args.t.now
-ems c = c.em_at-em.ensures
+ems : (c : At-loop-k) → c.em-em.result ≡ c.args.t.now.em
+ems c = c.em-em.ensures
 
 pub loop-k-preserved : goal.loop-k-preserved
 loop-k-preserved c =

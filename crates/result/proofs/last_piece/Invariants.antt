@@ -1,3 +1,4 @@
+-- The last piece of the element of row i is that of the piece from z on. A turn goes on to the next piece.
 use mathlib.Core.Path.{◌≡◌}
 use Prim.Native.Nat.{◌-◌, ◌<◌}
 use Rattle.result.specs.ByRows.{behind, last_piece}

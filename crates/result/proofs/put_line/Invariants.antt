@@ -1,3 +1,4 @@
+-- What is written, and what the elements from here on add, is the line. A turn prints one element and goes on behind its last piece.
 use Prim.Native.Nat.{◌-◌}
 use Rattle.result.specs.Line.{Printing}
 use Rattle.result.proofs.put_line.Given as goal

@@ -1,77 +1,7 @@
--- The room for the line is room for each of its parts; parts that are written one after the other make up the line.
-use Rattle.text.specs.Written.{then, same-long}
+-- Parts that are written one after the other make up the line.
+use Rattle.text.specs.Written.{then}
 use Rattle.result.specs.Text.{line_two}
-use Rattle.result.specs.Rows.{length_two}
-use native.Mathlib.Omega.{arith}
 use Rattle.result.proofs.put_two.Goals as goal
-
-pub put_word-a-requires : goal.put_word-a-requires
-put_word-a-requires c =
-    omega (arith, c.requires, length_two c.args.word.now c.args.i c.args.p)
-
-pub put_byte-b-requires : goal.put_byte-b-requires
-put_byte-b-requires c =
-    omega (arith, c.requires, length_two c.args.word.now c.args.i c.args.p, c.put_word-a.ensures.next, same-long c.put_word-a.ensures)
-
-pub put_number-c-requires : goal.put_number-c-requires
-put_number-c-requires c =
-    omega (
-      arith,
-      c.requires,
-      length_two c.args.word.now c.args.i c.args.p,
-      c.put_word-a.ensures.next,
-      same-long c.put_word-a.ensures,
-      c.put_byte-b.ensures.next,
-      same-long c.put_byte-b.ensures,
-    )
-
-pub put_byte-d-requires : goal.put_byte-d-requires
-put_byte-d-requires c =
-    omega (
-      arith,
-      c.requires,
-      length_two c.args.word.now c.args.i c.args.p,
-      c.put_word-a.ensures.next,
-      same-long c.put_word-a.ensures,
-      c.put_byte-b.ensures.next,
-      same-long c.put_byte-b.ensures,
-      c.put_number-c.ensures.next,
-      same-long c.put_number-c.ensures,
-    )
-
-pub put_number-e-requires : goal.put_number-e-requires
-put_number-e-requires c =
-    omega (
-      arith,
-      c.requires,
-      length_two c.args.word.now c.args.i c.args.p,
-      c.put_word-a.ensures.next,
-      same-long c.put_word-a.ensures,
-      c.put_byte-b.ensures.next,
-      same-long c.put_byte-b.ensures,
-      c.put_number-c.ensures.next,
-      same-long c.put_number-c.ensures,
-      c.put_byte-d.ensures.next,
-      same-long c.put_byte-d.ensures,
-    )
-
-pub put_byte-requires : goal.put_byte-requires
-put_byte-requires c =
-    omega (
-      arith,
-      c.requires,
-      length_two c.args.word.now c.args.i c.args.p,
-      c.put_word-a.ensures.next,
-      same-long c.put_word-a.ensures,
-      c.put_byte-b.ensures.next,
-      same-long c.put_byte-b.ensures,
-      c.put_number-c.ensures.next,
-      same-long c.put_number-c.ensures,
-      c.put_byte-d.ensures.next,
-      same-long c.put_byte-d.ensures,
-      c.put_number-e.ensures.next,
-      same-long c.put_number-e.ensures,
-    )
 
 pub returns : goal.returns
 unfolding line_two

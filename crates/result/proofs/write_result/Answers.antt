@@ -36,14 +36,6 @@ pub put_line-at-requires : goal.put_line-at-requires
 put_line-at-requires c =
     result.line-ready c.loop-l.invariant c.loop-l-test.true c.put_one-told.ensures
 
-pub overflow_add-l : goal.overflow_add-l
-overflow_add-l c =
-    omega (arith, (result.within c.loop-l.invariant c.loop-l-test.true).2)
-
-pub loop-l-smaller : goal.loop-l-smaller
-loop-l-smaller c =
-    omega (arith, c.loop-l-test.true)
-
 pub loop-l-preserved : goal.loop-l-preserved
 loop-l-preserved c =
     result.going_next c.loop-l.invariant c.loop-l-test.true c.put_one-told.ensures c.put_line-at.ensures

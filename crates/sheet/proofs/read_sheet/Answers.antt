@@ -1,10 +1,7 @@
--- `sheet::read_sheet` meets its contract. Each section begins where the one before it ended (`Chain`), and counts and line numbers stay small (`Small`);
+-- Each section begins where the one before it ended (`Chain`), and counts and line numbers stay small (`Small`);
 -- so what the calls say, put together, is the reading.
-use mathlib.Core.List.{List}
-use mathlib.Core.Path.{◌≡◌}
-use Prim.Native.Nat.{ℕ}
-use borrow.Author.Rules.{rules}
-use native.Mathlib.Omega.{arith}
+use Rattle.std.specs.Prelude.{◌≡◌, List, ℕ}
+use Rattle.std.proofs.Common.{rules, arith}
 use Rattle.rows.specs.Section.{head_of}
 use Rattle.sheet.specs.Sheet.{elem_word, form_of, set_of, base_of, ruby_of, left_head, left_of, reading}
 use Rattle.sheet.specs.Small as small

@@ -1,14 +1,15 @@
--- The runs that are lent lie within their tables, since their counts are at most what there is room for; the tables for rows and lines are as long as any job needs.
-use native.Mathlib.Omega.{arith}
+-- What is found of the job is found of the tables'; the tables for rows and lines are as long as any job needs.
+use mathlib.Core.Path.{subst}
 use borrow.Author.Rules.{rules}
-use Rattle.sheet_job.specs.Tables.{front-within}
+use Rattle.join.specs.Rows.{table_of}
+use Rattle.engine.specs.Filled.{Fills}
 use Rattle.sheet_job.proofs.fill_tables.Goals as goal
 
-pub slice_bounds-fill_job-end-18 : goal.slice_bounds-fill_job-end-18
-slice_bounds-fill_job-end-18 c = front-within c.args.runs.now c.requires.lent.rest.long_runs c.requires.few.few_runs (omega arith)
-
-pub slice_bounds-fill_job-end-19 : goal.slice_bounds-fill_job-end-19
-slice_bounds-fill_job-end-19 c = front-within c.args.lruns.now c.requires.lent.rest.long_lruns c.requires.few.few_lruns (omega arith)
-
 pub fill_job-requires : goal.fill_job-requires
-fill_job-requires c = record { rows = λ h. search rules; left = λ h _. search rules; ends = λ h. search rules; extents = λ h. search rules }
+fill_job-requires c = record { rows = λ h. search rules; ends = λ h. search rules; extents = λ h. search rules }
+
+pub returns-clause-fact : goal.returns-clause-fact
+returns-clause-fact c =
+    let x = c.args in
+    let l = c.fill_job.new in
+    subst (λ j. Fills j 1024 2048 2048 1024 x.ends.now x.extents.now (table_of j l.rows) l.ends l.extents c.fill_job.result) c.job_at-job.ensures c.fill_job.ensures

@@ -13,21 +13,19 @@ some a =
     (omega (arith, r.some, a.requires.1), omega (arith, r.few, a.requires.1), a.requires.0.inside, a.requires.0.sound.few)
 
 pub loop-k-init : goal.loop-k-init
-loop-k-init c =
-    let x = c.args in
-    (omega arith, omega (arith, some (goal.at.loop-k-init c).Start), sym (inner-none x.t.now x.st x.i x.least 0 refl))
+loop-k-init c = let x = c.args in sym (inner-none x.t.now x.st x.i x.least 0 refl)
 
 pub advance_cut-step-requires : goal.advance_cut-step-requires
 advance_cut-step-requires c =
-    (c.requires.2, goes c.requires.0 (c.args.i + c.loop-k.k) (omega (arith, c.loop-k.invariant.0)) (omega (arith, c.loop-k-test.true, c.requires.1)))
+    (c.requires.2, goes c.requires.0 (c.args.i + c.loop-k.k) (omega (arith, c.loop-k.auto.k)) (omega (arith, c.loop-k-test.true, c.requires.1)))
 
 pub loop-k-preserved : goal.loop-k-preserved
 loop-k-preserved c =
     let x = c.args in
-    let k = c.loop-k.k in (
-      omega arith,
-      omega (arith, c.loop-k-test.true),
-      rw (c.lesser-found.ensures, c.advance_cut-step.ensures, c.loop-k.invariant.2)
-          (sym (inner-next x.t.now x.st x.i x.least c.requires.2 k (k - 1) (omega (arith, c.loop-k.invariant.0)))
-          ∙ ap (inner_least x.t.now x.st x.i x.least) (omega arith)),
-    )
+    let k = c.loop-k.k in
+    rw (c.lesser-found.ensures, c.advance_cut-step.ensures, c.loop-k.invariant)
+    (sym (inner-next x.t.now x.st x.i x.least c.requires.2 k (k - 1) (omega (arith, c.loop-k.auto.k)))
+    ∙ ap (inner_least x.t.now x.st x.i x.least) (omega (arith, c.loop-k.auto.k)))
+
+pub returns : goal.returns
+returns c = let x = c.args in c.loop-k.invariant ∙ ap (λ k. inner_least x.t.now x.st x.i x.least (k - 1)) (omega (arith, c.loop-k-test.false, c.loop-k.auto.k-end, some (goal.at.returns c).Start))

@@ -1,7 +1,5 @@
-use mathlib.Core.Path.{◌≡◌}
-use mathlib.Core.List.{List}
-use Prim.Native.Nat.{ℕ, ◌+◌, ◌-◌, ◌<◌}
-use lib.ListN.{length}
+-- What stands on the trainee's paper is the start of character i and what is carried, and the starts up to it are written. A turn goes on by one gap.
+use Rattle.std.specs.Prelude.{◌≡◌, List, ℕ, ◌+◌, ◌-◌, ◌<◌, length}
 use Rattle.spread.specs.Running.{Held, Written}
 use Rattle.spread.proofs.put_starts.Given as goal
 

@@ -8,7 +8,7 @@ pub run_strand_of-requires : goal.run_strand_of-requires
 run_strand_of-requires c =
     let x = c.args in
     let s = strand_small x.em x.first x.many x.run x.taken x.cs.now x.ws.now x.runs.now c.requires in
-    (s.0, omega (arith, s.1), s.2)
+    ((s.0, omega (arith, s.1)), s.2)
 
 pub returns : goal.returns
 returns c =

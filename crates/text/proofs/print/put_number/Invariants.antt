@@ -1,13 +1,7 @@
-use Rattle.text.specs.Print.{width, spell, decimal}
-use lib.Seq.{sets}
-use lib.ListN.{length}
-use mathlib.Core.Path.{◌≡◌}
-use Prim.Native.Nat.{◌≤◌, ◌+◌}
+-- The digits from here up to the end are written, and `rest` is what stands before them. A turn writes its last digit.
+use Rattle.std.proofs.Common.{◌≤◌}
+use Rattle.text.proofs.Steps.{Spelled}
 use Rattle.text.proofs.print.put_number.Given as goal
 
-abbrev pub invariant-loop-k : goal.invariant-loop-k
-invariant-loop-k l =
-    (l.k ≤ 10) × (l.at + l.k ≡ l.from + width l.n) × (l.from + width l.n ≤ length l.out) × (length l.out ≡ length l.initial.out) × (sets l.initial.out l.from (decimal l.n) ≡ sets l.out l.at (spell l.k l.n))
-
-abbrev pub decreases-loop-k : goal.decreases-loop-k
-decreases-loop-k l = l.k
+abbrev pub invariant-loop-at : goal.invariant-loop-at
+invariant-loop-at l = (l.from ≤ l.at) × Spelled l.initial.out l.out l.n l.at l.end l.rest

@@ -1,0 +1,11 @@
+-- What is left to look at decides the whole.
+use mathlib.Core.Path.{◌≡◌}
+use Prim.Native.Nat.{◌-◌}
+use Rattle.basics.specs.Lists.{each, count}
+use Rattle.door.specs.Refusals.{reading_faults}
+use Rattle.door.specs.Verdict.{verdict}
+use Rattle.door.proofs.Readings.check.Given as goal
+
+abbrev pub invariant-loop-i : goal.invariant-loop-i
+invariant-loop-i l =
+    let faults = reading_faults l.first l.self.class.now l.self.width.now in verdict (each faults (count l.i (l.n - l.i))) ≡ verdict (each faults (count 0 l.n))

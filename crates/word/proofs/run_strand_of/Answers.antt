@@ -1,6 +1,0 @@
--- Each field is what its function found.
-use Rattle.word.proofs.run_strand_of.Goals as goal
-
-pub returns : goal.returns
-returns c =
-    rw (c.sort_of-sort.ensures, c.str_of-string.ensures, c.first_run-first.ensures, c.runs_in-fit.ensures)
