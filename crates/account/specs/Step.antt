@@ -1,7 +1,8 @@
 -- The account of one element from what stands before it, for those who walk a line: the element just before, and of all rubies of a side so far the one
 -- that reaches furthest. (specs/Law.antt: in a line whose rubies don't overlap this is the account of specs/Reasons.antt.)
-use Rattle.std.specs.Prelude.{◌≡◌, refl, Bool, true, false, cond, ◌&&◌, List, Option, Some, None, eqb, leb, ℕ, zero, suc, ◌-◌}
-use Rattle.std.proofs.Common.{◌∙◌, ne_eqb, ap, arith}
+use Rattle.std.specs.Prelude.{◌≡◌, refl, Bool, true, false, cond, ◌&&◌, List, Option, Some, None, eqb, leb, ℕ, zero, suc, ◌-◌, ◌≤◌, ◌<◌}
+use Rattle.std.proofs.Common.{◌∙◌, ne_eqb, le-leb, ap, arith}
+use Rattle.std.proofs.lemmas.Bool.{lt-leb}
 use Rattle.line.specs.declared.Element.{Element}
 use Rattle.line.specs.declared.Reading.{Reading}
 use Rattle.line.specs.declared.Side.{Side}
@@ -95,6 +96,21 @@ module _ (i : ℕ) (b : Before) (e : Element) (x : ℕ) (r : Reason) (n : (block
 pub end-next : (i : ℕ) (b : Before) → (i ≡ 0 → ⊥) → end_before i b ≡ (block_of b.last b.at).end
 end-next zero b z = absurd (z refl)
 end-next (suc j) b z = refl
+
+module _ (f : Option Far) (r : Reading) (x : ℕ) where
+  module _ (i : ℕ) where
+    pub further-plain : r.there ≡ false → f ≡ further i f r x
+    further-plain h = rw h
+
+    module _ (upto : ℕ) (h : r.there ≡ true) (u : upto ≡ (drawn r x).end) where
+      pub further-first : f ≡ None → Some (record { whose = i; end = upto }) ≡ further i f r x
+      further-first q = rw (h, q, u)
+
+      pub further-more : (k z : ℕ) → f ≡ Some (record { whose = k; end = z }) → z ≤ upto → Some (record { whose = i; end = upto }) ≡ further i f r x
+      further-more k z q l = rw (h, q, ← u, le-leb _ _ l)
+
+      pub further-less : (k z : ℕ) → f ≡ Some (record { whose = k; end = z }) → upto < z → Some (record { whose = k; end = z }) ≡ further i f r x
+      further-less k z q l = rw (h, q, ← u, lt-leb _ _ l)
 
 module _ (s : Side) (f : Option Far) (r : Reading) (x : ℕ) (rest : Reason) where
   pub touched_one : (k : ℕ) → touching f r x ≡ Some k → touched s f r x rest ≡ Ruby s k

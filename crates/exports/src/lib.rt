@@ -66,43 +66,32 @@ pub extern "C" fn bv_set_job(
 ) -> Answer
     ensures { Left (job_was em measure (rratio.now ∷ bratio.now ∷ []) profile class width before after flag rclass rwidth lclass lwidth kind ebase eruby lkind eleft runs lruns) base.old ruby.old left.old lines.old result base.new ruby.new left.new lines.new }
 {
-    let job = door::Job {
+    let answer = engine::set_job(
         em,
         measure,
-        ratios: [*rratio, *bratio],
+        [*rratio, *bratio],
         profile,
-        base: door::Bases {
-            class,
-            width,
-            before,
-            after,
-            flag,
-        },
-        ruby: door::Readings {
-            class: rclass,
-            width: rwidth,
-        },
-        left: door::Readings {
-            class: lclass,
-            width: lwidth,
-        },
-        elements: door::Elements {
-            kind,
-            bases: ebase,
-            rubies: eruby,
-            left_kind: lkind,
-            lefts: eleft,
-        },
+        class,
+        width,
+        before,
+        after,
+        flag,
+        rclass,
+        rwidth,
+        lclass,
+        lwidth,
+        kind,
+        ebase,
+        eruby,
+        lkind,
+        eleft,
         runs,
-        left_runs: lruns,
-    };
-    let mut results = engine::Results {
+        lruns,
         base,
         ruby,
         left,
         lines,
-    };
-    let answer = engine::set(&job, &mut results);
+    );
     answer_of(answer)
 }
 
@@ -170,37 +159,31 @@ pub extern "C" fn bv_account_job(
 ) -> Answer
     ensures { Accounted (job_was em measure (rratio.now ∷ bratio.now ∷ []) profile class width before after flag rclass rwidth lclass lwidth kind ebase eruby lkind eleft runs lruns) rows.old told.old extents.old result rows.new told.new extents.new }
 {
-    let job = door::Job {
+    let answer = job_account::account_job(
         em,
         measure,
-        ratios: [*rratio, *bratio],
+        [*rratio, *bratio],
         profile,
-        base: door::Bases {
-            class,
-            width,
-            before,
-            after,
-            flag,
-        },
-        ruby: door::Readings {
-            class: rclass,
-            width: rwidth,
-        },
-        left: door::Readings {
-            class: lclass,
-            width: lwidth,
-        },
-        elements: door::Elements {
-            kind,
-            bases: ebase,
-            rubies: eruby,
-            left_kind: lkind,
-            lefts: eleft,
-        },
+        class,
+        width,
+        before,
+        after,
+        flag,
+        rclass,
+        rwidth,
+        lclass,
+        lwidth,
+        kind,
+        ebase,
+        eruby,
+        lkind,
+        eleft,
         runs,
-        left_runs: lruns,
-    };
-    let answer = job_account::account(&job, rows, told, extents);
+        lruns,
+        rows,
+        told,
+        extents,
+    );
     answer_of(answer)
 }
 

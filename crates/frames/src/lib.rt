@@ -33,6 +33,9 @@ pub fn fill<R: Read>(from: &mut R, room: &mut [u8]) -> io::Result<usize>
     Ok(done)
 }
 
+// The byte that ends a line.
+const LF: u8 = b'\n';
+
 // The next line's bytes up to LF, at most 32.
 fn read_line<R: Read>(from: &mut R) -> io::Result<[u8; 32]>
     ensures long { IfOk result (λ line. 32 ≡ length line) }
@@ -45,7 +48,7 @@ fn read_line<R: Read>(from: &mut R) -> io::Result<[u8; 32]>
             return Ok(line);
         }
         line[i] = one[0];
-        if one[0] == b'\n' {
+        if one[0] == LF {
             return Ok(line);
         }
     }
@@ -57,7 +60,7 @@ fn announced(line: &[u8]) -> Option<u32>
     ensures { result ≡ announced line.now }
 {
     let at = text::read_word(line, 0, b"sheet ")?;
-    let (n, _) = text::read_number(line, at, b'\n')?;
+    let (n, _) = text::read_number(line, at, LF)?;
     Some(n)
 }
 

@@ -1,6 +1,6 @@
--- No row depends on the measure, and no refusal of an element does: a table laid without it is the job's.
-use Rattle.std.specs.Prelude.{◌≡◌, List, [], ◌∷◌}
-use Rattle.std.proofs.Common.{subst}
+-- No row depends on the measure, and no refusal of an element does: a table laid without it is the job's, and a job's table is that of the job with any other measure.
+use Rattle.std.specs.Prelude.{◌≡◌, List, [], ◌∷◌, ℕ}
+use Rattle.std.proofs.Common.{subst, sym}
 use Rattle.basics.specs.Lists.{each, All}
 use Rattle.door.specs.declared.Piece.{Piece}
 use Rattle.door.specs.Job.{Job, with_measure, base_count}
@@ -31,4 +31,20 @@ measured job t h =
       ratios = h.ratios;
       em = h.em;
       rows = subst (λ es. All (HasRows job t.rows) (each (words_in job) es)) (door.same-elements 0 job) (all-rows job t.rows (words (unmeasured job)) h.rows);
+    }
+
+other-rows : (m : ℕ) (job : Job) (t : List Cell) (xs : List Piece) → All (HasRows job t) xs → All (HasRows (with_measure m job) t) xs
+unfolding row_of
+other-rows m job t [] a = tt
+other-rows m job t (x ∷ xs) a = (a.0, other-rows m job t xs a.1)
+
+-- so the table that `layout` leaves serves every measure
+pub any-measure : (m : ℕ) (job : Job) (t : Rows) → Holds job t → Holds (with_measure m job) t
+unfolding base_count words words_in part
+any-measure m job t h =
+    record {
+      long = h.long;
+      ratios = h.ratios;
+      em = h.em;
+      rows = other-rows m job t.rows (words (with_measure m job)) (subst (λ es. All (HasRows job t.rows) (each (words_in job) es)) (sym (door.same-elements m job)) h.rows);
     }

@@ -84,7 +84,7 @@ fn reach_with(reach: u32, x: u32, r: Reading) -> u32
     ensures { result ≡ reached reach x r }
 {
     if r.there {
-        reach.max(x + r.upto)
+        basics::larger(reach, x + r.upto)
     } else {
         reach
     }
@@ -99,9 +99,9 @@ fn asked_by(st: State, e: Element, reach: u32, r: Reading) -> u32
 {
     let from = ruby_from(e, r);
     // from where on its block may stand, and its ruby
-    let block = st.end.max(reach.saturating_sub(e.before));
-    let ruby = reach.max(st.end.saturating_sub(st.room));
-    block.saturating_sub(e.front).max(ruby.saturating_sub(from))
+    let block = basics::larger(st.end, reach.saturating_sub(e.before));
+    let ruby = basics::larger(reach, st.end.saturating_sub(st.room));
+    basics::larger(block.saturating_sub(e.front), ruby.saturating_sub(from))
 }
 
 // Whether the left side asks no more of e than the right one: e has no reading there, and none reaches past the last block.
@@ -121,7 +121,7 @@ fn least_origin(st: State, e: Element) -> u32
     if left_idle(st, e) {
         return right;
     }
-    right.max(asked_by(st, e, st.left, e.left))
+    basics::larger(right, asked_by(st, e, st.left, e.left))
 }
 
 /// e set after st. What stands and e's own length have to fit a number together; of a job they are far from it (proofs/Bounded of job).
@@ -149,10 +149,10 @@ pub fn place_plain(st: State, len: u32, before: u32, after: u32) -> Placed
     requires { (before ≤ len) × (furthest st + len ≤ 4294967295) }
     ensures { result ≡ placed st (plain len before after) }
 {
-    let reach = st.right.max(st.left);
+    let reach = basics::larger(st.right, st.left);
     // What this arm does is right for every P; the test is for speed, 11 instructions a character of plain text.
     if st.end < reach {
-        let at = st.end.max(reach.saturating_sub(before));
+        let at = basics::larger(st.end, reach.saturating_sub(before));
         return Placed {
             at,
             st: State {

@@ -7,13 +7,13 @@ use lib.Seq.{sets, sets-eq}
 use Rattle.line.specs.declared.Element.{Element}
 use Rattle.line.specs.declared.State.{State}
 use Rattle.line.specs.declared.Placed.{Placed}
-use Rattle.std.specs.Prelude.{Ok, Err, ◌≡◌, refl, List, ◌∷◌, ◌++◌, ℕ, ◌+◌, ◌*◌, ◌≤◌, ◌<◌, length, set, drop}
+use Rattle.std.specs.Prelude.{Ok, Err, ◌↔◌, IsTrue, true, false, ◌≡◌, refl, List, ◌∷◌, ◌++◌, ℕ, ◌+◌, ◌*◌, ◌≤◌, ◌<◌, length, set, drop}
 use Rattle.line_lists.specs.declared.Why.TheVariants as why
 use Rattle.line.specs.Setting.{start, put, origin, settle_from, settle, run, furthest, placed, total}
 use Rattle.line.specs.Least.{settle-follows}
 use Rattle.line.proofs.Bound.{put_bound}
 use Rattle.line_lists.specs.Promise.{rows, element_at, line, most_elements, longest_element, WithinAt, AllWithin}
-use Rattle.line_lists.specs.Passes.{tried, Ready}
+use Rattle.line_lists.specs.Passes.{told, denied, tried, Ready}
 use Rattle.line_lists.proofs.Rest.{rest, rest-start, rest-step, rest_end, line-length}
 
 module _ (t : List ℕ) where
@@ -30,6 +30,15 @@ module _ (t : List ℕ) where
 
   pub checked_end : (i : ℕ) → Checked i → rows t ≤ i → AllWithin t
   checked_end i c h = record { few = c.few; each = λ k g. c.sofar k (omega arith) }
+
+  pub checked_told : (i : ℕ) → Checked i → rows t ≤ i → IsTrue true ↔ AllWithin t
+  checked_told i c h = told (checked_end i c h)
+
+  pub checked_fails : (i : ℕ) → i < rows t → (WithinAt t i → ⊥) → IsTrue false ↔ AllWithin t
+  checked_fails i h f = denied (λ all. f (all.each i h))
+
+  pub too_many : most_elements < rows t → IsTrue false ↔ AllWithin t
+  too_many h = denied (λ all. omega (arith, all.few))
 
   -- the second: the state so far, from which the rest of the line ends where the whole does
   pub record Walked (st : State) (i : ℕ) : Type 0 where

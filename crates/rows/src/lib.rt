@@ -67,7 +67,10 @@ pub fn rows_at(
     let mut at = first.at;
     let mut line = first.line;
     for i in 0..first.count {
-        at = fields_at(s, at, b'\n', k, out, i, most).ok_or(Refusal::Form(line))?;
+        let Some(next) = fields_at(s, at, b'\n', k, out, i, most) else {
+            return Err(Refusal::Form(line));
+        };
+        at = next;
         line += 1;
     }
     Ok(Part { at, line, ..first })

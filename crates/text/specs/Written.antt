@@ -4,11 +4,32 @@ use Rattle.std.specs.Prelude.{◌≡◌, refl, List, ◌++◌, Bool, true, false
 use Rattle.std.proofs.Common.{◌∙◌, sym, length-append}
 use Rattle.std.proofs.Math.Path.{ap}
 use native.Mathlib.Omega.{arith}
-use borrow.Author.Tests.{leb-true}
+use borrow.Author.Tests.{le-leb, lt-leb, leb-true}
 use Rattle.std.proofs.lemmas.List.Edits.{sets}
 use Rattle.std.proofs.Math.Seq.{length-sets}
 use Rattle.basics.specs.Laws.{sets_append}
 use Rattle.text.specs.Print.{width_from, width, spell, decimal, Wrote}
+
+module _ (left k n p : ℕ) (hl : 0 < left) (hp : p ≡ 10 ^ k) where
+  pub width-stop : n < p → width_from left k n ≡ k
+  unfolding width_from
+  width-stop h =
+      let e : left ≡ suc (left - 1) = omega arith in
+      let f : n < 10 ^ k = rw hp at h in
+      rw (e, lt-leb _ _ f)
+
+  pub width-more : p ≤ n → width_from left k n ≡ width_from (left - 1) (k + 1) n
+  unfolding width_from
+  width-more h =
+      let e : left ≡ suc (left - 1) = omega arith in
+      let f : 10 ^ k ≤ n = rw hp at h in
+      ap (λ (m : ℕ). width_from m k n) e ∙ rw (le-leb _ _ f)
+
+pub width-end : (left k n : ℕ) → left ≤ 0 → width_from left k n ≡ k
+unfolding width_from
+width-end left k n h =
+    let e : left ≡ 0 = omega arith in
+    rw e
 
 pub length-spell : (k n : ℕ) → length (spell k n) ≡ k
 unfolding spell

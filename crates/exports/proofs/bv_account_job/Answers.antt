@@ -3,7 +3,7 @@ use Rattle.exports.specs.Told.{accounted, few-told}
 use Rattle.exports.proofs.bv_account_job.Goals as goal
 
 pub answer_of-requires : goal.answer_of-requires
-answer_of-requires c = few-told _ _ _ _ _ c.account-answer.ensures
+answer_of-requires c = few-told _ _ _ _ _ c.account_job-answer.ensures
 
 pub returns : goal.returns
-returns c = accounted c.account-answer.ensures c.answer_of.ensures
+returns c = accounted c.account_job-answer.ensures c.answer_of.ensures
