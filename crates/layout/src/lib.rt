@@ -81,17 +81,7 @@ fn lay_word(
     );
     let ends = word_rows::ends_behind(p, job.base.flag);
     one_reading::lay_based(
-        rows,
-        place,
-        p,
-        left,
-        job.ratios,
-        job.em,
-        base,
-        ends,
-        job.ruby.class,
-        job.ruby.width,
-        job.runs,
+        rows, place, p, left, job.ratios, job.em, base, ends, &job.ruby, job.runs,
     )
 }
 
@@ -208,11 +198,7 @@ pub fn layout(rows: &mut [Cell], job: &door::Job) -> Result<(), Refusal>
                     left,
                     job.em,
                     job.profile,
-                    job.base.class,
-                    job.base.width,
-                    job.base.before,
-                    job.base.after,
-                    job.base.flag,
+                    &job.base,
                 );
                 at.base += 1;
                 k += 1;

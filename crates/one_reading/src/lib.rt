@@ -14,9 +14,9 @@ ghost use Rattle.cells.specs.Cells.{beside};
 ghost use Rattle.join.specs.Rows.{none};
 ghost use Rattle.word_rows.specs.Table.{bare_row};
 ghost use Rattle.word_rows.specs.Base.{BaseReady, bases_now, bases_was};
-ghost use Rattle.word_rows.specs.Runs.{HasRuns, jukugo_row};
+ghost use Rattle.word_rows.specs.Runs.{runs_only, HasRuns, jukugo_row};
 ghost use Rattle.word_rows.specs.Word.{word_row, WordReady, flagged};
-ghost use Rattle.word_rows.specs.Seen.{runs_now, runs_was};
+ghost use Rattle.word_rows.specs.Seen.{runs_now};
 ghost use Rattle.one_reading.specs.Single.{single_row};
 ghost use Rattle.one_reading.specs.Lay.{RubyReady, ruby_of, BasedReady, RunsReady, is_based, based_by, based_row, PlainReady, plain_row, FilledBy};
 ghost use Rattle.one_reading.specs.Seen.{mono_now, mono_was};
@@ -87,23 +87,27 @@ pub fn put_plain(
     left: u32,
     em: u32,
     profile: u32,
-    class: &[u32],
-    width: &[u32],
-    before: &[u32],
-    after: &[u32],
-    flag: &[u32],
+    base: &door::Bases,
 )
-    requires { PlainReady b r class.now width.now before.now after.now flag.now rows.old }
-    ensures { rows.new ≡ set rows.old b (plain_row profile b r left em class.now width.now before.now after.now flag.now) }
+    requires { let c = base.now in PlainReady b r c.class.now c.width.now c.before.now c.after.now c.flag.now rows.old }
+    ensures { let c = base.now in rows.new ≡ set rows.old b (plain_row profile b r left em c.class.now c.width.now c.before.now c.after.now c.flag.now) }
 {
-    let answer = word::plain_answer(width[b]);
+    let answer = word::plain_answer(base.width[b]);
     let word::Answer::Set(w) = answer else {
         return; // unreachable: level one has no row for a P
     };
-    let d = depths_at(b, em, profile, class, width, before, after);
+    let d = depths_at(
+        b,
+        em,
+        profile,
+        base.class,
+        base.width,
+        base.before,
+        base.after,
+    );
     rows[b] = Cell {
         bases: 1,
-        ends: flag[b] == 1,
+        ends: base.flag[b] == 1,
         word: w,
         before: d.before,
         after: d.after,
@@ -188,13 +192,12 @@ fn lay_group(
     em: u32,
     base: word::Base,
     ends: bool,
-    rclass: &[u32],
-    rwidth: &[u32],
+    readings: &door::Readings,
 ) -> Result<door::Piece, Refusal>
-    requires { BasedReady (ratios_of ratios) em base p rclass.now rwidth.now rows.old }
-    ensures { let ruby = ruby_of p rclass.now rwidth.now in FilledBy (group_by place (ratios_of ratios) em base ruby) (λ w. word_row p w ends 0 0) left p rows.old rows.new result }
+    requires { let r = readings.now in BasedReady (ratios_of ratios) em base p r.class.now r.width.now rows.old }
+    ensures { let r = readings.now in let ruby = ruby_of p r.class.now r.width.now in FilledBy (group_by place (ratios_of ratios) em base ruby) (λ w. word_row p w ends 0 0) left p rows.old rows.new result }
 {
-    let ruby = ruby_at(p, rclass, rwidth);
+    let ruby = ruby_at(p, readings.class, readings.width);
     let answer = word::group_answer(place, ratios, em, base, ruby);
     let word::Answer::Set(w) = answer else {
         return word_rows::refused(place, answer);
@@ -213,19 +216,18 @@ fn lay_single(
     em: u32,
     base: word::Base,
     ends: bool,
-    rclass: &[u32],
-    rwidth: &[u32],
+    readings: &door::Readings,
     runs: &[u32],
 ) -> Result<door::Piece, Refusal>
-    requires { (p.bases ≡ 1) × BasedReady (ratios_of ratios) em base p rclass.now rwidth.now rows.old × RunsReady em base p rclass.now rwidth.now runs.now rows.old }
-    ensures { let ruby = ruby_of p rclass.now rwidth.now in let job = runs_was em rclass rwidth runs in FilledBy (single_by place (ratios_of ratios) em base ruby) (λ w. jukugo_row job p w ends) left p rows.old rows.new result }
+    requires { let r = readings.now in (p.bases ≡ 1) × BasedReady (ratios_of ratios) em base p r.class.now r.width.now rows.old × RunsReady em base p r.class.now r.width.now runs.now rows.old }
+    ensures { let r = readings.now in let ruby = ruby_of p r.class.now r.width.now in let job = runs_only em r.class.now r.width.now runs.now in FilledBy (single_by place (ratios_of ratios) em base ruby) (λ w. jukugo_row job p w ends) left p rows.old rows.new result }
 {
-    let ruby = ruby_at(p, rclass, rwidth);
+    let ruby = ruby_at(p, readings.class, readings.width);
     let answer = word::single_answer(place, ratios, em, base, ruby);
     let word::Answer::Set(w) = answer else {
         return word_rows::refused(place, answer);
     };
-    put_single(rows, p, left, w, ends, rclass, rwidth, runs);
+    put_single(rows, p, left, w, ends, readings.class, readings.width, runs);
     Ok(p)
 }
 
@@ -239,14 +241,13 @@ fn lay_cut(
     em: u32,
     base: word::Base,
     ends: bool,
-    rclass: &[u32],
-    rwidth: &[u32],
+    readings: &door::Readings,
     runs: &[u32],
 ) -> Result<door::Piece, Refusal>
-    requires { (1 < p.bases) × BasedReady (ratios_of ratios) em base p rclass.now rwidth.now rows.old × RunsReady em base p rclass.now rwidth.now runs.now rows.old }
-    ensures { let ruby = ruby_of p rclass.now rwidth.now in let job = runs_was em rclass rwidth runs in FilledBy (answered_by (jukugo_judged place base ruby.sort) none) (λ w. jukugo_row job p w ends) left p rows.old rows.new result }
+    requires { let r = readings.now in (1 < p.bases) × BasedReady (ratios_of ratios) em base p r.class.now r.width.now rows.old × RunsReady em base p r.class.now r.width.now runs.now rows.old }
+    ensures { let r = readings.now in let ruby = ruby_of p r.class.now r.width.now in let job = runs_only em r.class.now r.width.now runs.now in FilledBy (answered_by (jukugo_judged place base ruby.sort) none) (λ w. jukugo_row job p w ends) left p rows.old rows.new result }
 {
-    let ruby = ruby_at(p, rclass, rwidth);
+    let ruby = ruby_at(p, readings.class, readings.width);
     let sort = ruby.sort;
     let row = word::judge_jukugo(place, base, sort);
     let Ok(()) = row else {
@@ -259,8 +260,8 @@ fn lay_cut(
         ends,
         word_rows::bare(left),
         em,
-        rclass,
-        rwidth,
+        readings.class,
+        readings.width,
         runs,
     );
     Ok(p)
@@ -276,27 +277,22 @@ pub fn lay_based(
     em: u32,
     base: word::Base,
     ends: bool,
-    rclass: &[u32],
-    rwidth: &[u32],
+    readings: &door::Readings,
     runs: &[u32],
 ) -> Result<door::Piece, Refusal>
-    requires { (is_based p.form ≡ true) × BasedReady (ratios_of ratios) em base p rclass.now rwidth.now rows.old × (is_j p.form ≡ true → RunsReady em base p rclass.now rwidth.now runs.now rows.old) }
-    ensures { let ruby = ruby_of p rclass.now rwidth.now in let job = runs_was em rclass rwidth runs in FilledBy (based_by p.form p.bases place (ratios_of ratios) em base ruby) (λ w. based_row job p w ends) left p rows.old rows.new result }
+    requires { let r = readings.now in (is_based p.form ≡ true) × BasedReady (ratios_of ratios) em base p r.class.now r.width.now rows.old × (is_j p.form ≡ true → RunsReady em base p r.class.now r.width.now runs.now rows.old) }
+    ensures { let r = readings.now in let ruby = ruby_of p r.class.now r.width.now in let job = runs_only em r.class.now r.width.now runs.now in FilledBy (based_by p.form p.bases place (ratios_of ratios) em base ruby) (λ w. based_row job p w ends) left p rows.old rows.new result }
 {
     let form = p.form;
     match form {
         word::Form::P => Err(Refusal::Element(place)), // unreachable: a P is laid by `put_plain`
         word::Form::M => Err(Refusal::Element(place)), // unreachable: an M by `lay_mono`
-        word::Form::G => lay_group(rows, place, p, left, ratios, em, base, ends, rclass, rwidth),
+        word::Form::G => lay_group(rows, place, p, left, ratios, em, base, ends, readings),
         word::Form::J => {
             if p.bases == 1 {
-                lay_single(
-                    rows, place, p, left, ratios, em, base, ends, rclass, rwidth, runs,
-                )
+                lay_single(rows, place, p, left, ratios, em, base, ends, readings, runs)
             } else {
-                lay_cut(
-                    rows, place, p, left, ratios, em, base, ends, rclass, rwidth, runs,
-                )
+                lay_cut(rows, place, p, left, ratios, em, base, ends, readings, runs)
             }
         }
     }

@@ -98,62 +98,64 @@ fn put_reading(
     }
 }
 
-// A word of the piece from i up to c, its origin at `at`.
-#[inline(always)]
-fn put_word(
-    t: &cells::Table,
-    i: usize,
-    c: usize,
-    w: &word::Word,
-    at: u32,
-    width: &[u32],
-    rwidth: &[u32],
-    lwidth: &[u32],
-    base: &mut [u32],
-    ruby: &mut [u32],
-    left: &mut [u32],
-)
-    requires { WordReady t.now i c w.now at width.now rwidth.now lwidth.now base.old ruby.old left.old }
-    ensures { WordPut t.now i c w.now at width.now rwidth.now lwidth.now base.old ruby.old left.old base.new ruby.new left.new }
-{
-    put_base(*w, at, i, c, width, base);
-    put_reading(t, i, c, line::Side::Right, w.right, at, rwidth, ruby);
-    put_reading(t, i, c, line::Side::Left, w.left, at, lwidth, left);
-}
-
-// The word of the piece from i up to c, which is w. That of a piece that is not cut is read in its row, so that none of it is kept beside the line's state.
-#[inline(always)]
-fn put_piece(
-    t: &cells::Table,
-    i: usize,
-    c: usize,
-    w: word::Word,
-    at: u32,
-    width: &[u32],
-    rwidth: &[u32],
-    lwidth: &[u32],
-    base: &mut [u32],
-    ruby: &mut [u32],
-    left: &mut [u32],
-)
-    requires { (i < length t.now.rows) × (w ≡ word_at t.now i c) × WordReady t.now i c w at width.now rwidth.now lwidth.now base.old ruby.old left.old }
-    ensures { WordPut t.now i c w at width.now rwidth.now lwidth.now base.old ruby.old left.old base.new ruby.new left.new }
-{
-    let a = t.row(i);
-    if a.cut {
-        put_word(t, i, c, &w, at, width, rwidth, lwidth, base, ruby, left);
-    } else {
-        put_word(
-            t, i, c, &a.word, at, width, rwidth, lwidth, base, ruby, left,
-        );
-    }
-}
-
-// The base characters of a line: from the first up to where the next line begins.
+// The base characters of a line or of a piece: from the first up to where the next one begins.
 #[derive(Clone, Copy)]
 struct Span {
     first: usize,
     upto: usize,
+}
+
+// The widths of all characters: of base, of ruby, of left readings.
+#[derive(Clone, Copy)]
+struct Widths<'a> {
+    base: &'a [u32],
+    ruby: &'a [u32],
+    left: &'a [u32],
+}
+
+// A word of the piece l, its origin at `at`.
+#[inline(always)]
+fn put_word(
+    t: &cells::Table,
+    l: Span,
+    w: &word::Word,
+    at: u32,
+    widths: &Widths,
+    base: &mut [u32],
+    ruby: &mut [u32],
+    left: &mut [u32],
+)
+    requires { let ws = widths.now in WordReady t.now l.first l.upto w.now at ws.base.now ws.ruby.now ws.left.now base.old ruby.old left.old }
+    ensures { let ws = widths.now in WordPut t.now l.first l.upto w.now at ws.base.now ws.ruby.now ws.left.now base.old ruby.old left.old base.new ruby.new left.new }
+{
+    let i = l.first;
+    let c = l.upto;
+    put_base(*w, at, i, c, widths.base, base);
+    put_reading(t, i, c, line::Side::Right, w.right, at, widths.ruby, ruby);
+    put_reading(t, i, c, line::Side::Left, w.left, at, widths.left, left);
+}
+
+// The word of the piece l, which is w. That of a piece that is not cut is read in its row, so that none of it is kept beside the line's state.
+#[inline(always)]
+fn put_piece(
+    t: &cells::Table,
+    l: Span,
+    w: word::Word,
+    at: u32,
+    widths: &Widths,
+    base: &mut [u32],
+    ruby: &mut [u32],
+    left: &mut [u32],
+)
+    requires { let ws = widths.now in (l.first < length t.now.rows) × (w ≡ word_at t.now l.first l.upto) × WordReady t.now l.first l.upto w at ws.base.now ws.ruby.now ws.left.now base.old ruby.old left.old }
+    ensures { let ws = widths.now in WordPut t.now l.first l.upto w at ws.base.now ws.ruby.now ws.left.now base.old ruby.old left.old base.new ruby.new left.new }
+{
+    let a = t.row(l.first);
+    if a.cut {
+        put_word(t, l, &w, at, widths, base, ruby, left);
+    } else {
+        put_word(t, l, &a.word, at, widths, base, ruby, left);
+    }
 }
 
 // A line. A piece without ruby is a P, one character at its origin.
@@ -171,6 +173,11 @@ fn put_line(
     ensures { let g = sheet t.now width.now rwidth.now lwidth.now in let s = l.first in let e = l.upto in (base.new ≡ base_over g s e base.old) × (ruby.new ≡ side_over Right g s e ruby.old) × (left.new ≡ side_over Left g s e left.old) }
 {
     let e = l.upto;
+    let widths = Widths {
+        base: width,
+        ruby: rwidth,
+        left: lwidth,
+    };
     let mut i = l.first;
     let mut st = line::START;
     // From piece to piece: a row says where the next one begins.
@@ -182,7 +189,8 @@ fn put_line(
         let w = step.word;
         let over = w.right;
         if over.there {
-            put_piece(t, i, c, w, step.at, width, rwidth, lwidth, base, ruby, left);
+            let piece = Span { first: i, upto: c };
+            put_piece(t, piece, w, step.at, &widths, base, ruby, left);
         } else {
             base[i] = step.at;
         }

@@ -16,7 +16,6 @@ use Rattle.word_rows.specs.Runs.{runs_only, jukugo_row}
 use Rattle.word_rows.specs.Word.{word_row}
 use Rattle.one_reading.specs.Lay.{ruby_of, FilledBy}
 use mathlib.Core.List.{List}
-use Prim.Native.Nat.{ℕ}
 use lib.Dec.{eqb}
 use Rattle.one_reading.proofs.lay_based.Goals as goal
 use Rattle.one_reading.proofs.lay_based.Goals.{Start}
@@ -27,8 +26,8 @@ Told a t s f one =
     let x = a.args in
     let p = x.p in
     let h = ratios_of x.ratios in
-    let r = ruby_of p x.rclass.now x.rwidth.now in
-    let job = runs_only x.em x.rclass.now x.rwidth.now x.runs.now in
+    let r = ruby_of p x.readings.now.class.now x.readings.now.width.now in
+    let job = runs_only x.em x.readings.now.class.now x.readings.now.width.now x.runs.now in
     FilledBy
     (cond (is_j f) (cond one (single_by x.place h x.em x.base r) (answered_by (jukugo_judged x.place x.base r.sort) none)) (group_by x.place h x.em x.base r))
     (λ w i. cond (is_j f) (jukugo_row job p w x.ends i) (word_row p w x.ends 0 0 i)) x.left p x.rows.now t s

@@ -15,7 +15,7 @@ use Rattle.one_reading.proofs.lay_single.Goals.{After-single_answer-answer}
 
 told : (m : After-single_answer-answer) →
     let x = m.args in
-    single_by x.place (ratios_of x.ratios) x.em x.base (ruby_of x.p x.rclass.now x.rwidth.now) ≡ m.single_answer-answer.result
+    single_by x.place (ratios_of x.ratios) x.em x.base (ruby_of x.p x.readings.now.class.now x.readings.now.width.now) ≡ m.single_answer-answer.result
 told m =
     let x = m.args in
     sym (m.single_answer-answer.ensures ∙ ap (single_by x.place (ratios_of x.ratios) x.em x.base) m.ruby_at-ruby.ensures)
@@ -30,10 +30,10 @@ returns c =
     let p = x.p in
     let w = c.in-Set.w in
     let one = c.requires.0 in
-    let row = single_row p w x.ends x.rclass.now x.rwidth.now x.runs.now in
-    let job = runs_only x.em x.rclass.now x.rwidth.now x.runs.now in
+    let row = single_row p w x.ends x.readings.now.class.now x.readings.now.width.now x.runs.now in
+    let job = runs_only x.em x.readings.now.class.now x.readings.now.width.now x.runs.now in
     let f =
     filled-one (beside row (bare_row x.left)) p.base (p.base + p.bases) x.rows.now c.put_single.new.rows (omega (arith, one)) (omega (arith, one, c.requires.1.room)) c.put_single.ensures in
     judged-goes (told (goal.at.returns c).After-single_answer-answer ∙ c.in-Set.is) f.long
     (filled_as (λ i. beside row (bare_row x.left)) (λ i. beside (jukugo_row job p w x.ends i) (bare_row x.left)) p.base (p.base + p.bases) x.rows.now c.put_single.new.rows
-    (λ i l h. ap (λ r. beside r (bare_row x.left)) (single_row_lem x.em x.rclass.now x.rwidth.now x.runs.now p w x.ends i one (omega (arith, one)))) f)
+    (λ i l h. ap (λ r. beside r (bare_row x.left)) (single_row_lem x.em x.readings.now.class.now x.readings.now.width.now x.runs.now p w x.ends i one (omega (arith, one)))) f)

@@ -9,15 +9,15 @@ use Rattle.positions.proofs.put_piece.Goals.{Else-a}
 same : (c : Else-a) → c.args.w ≡ c.row-a.result.now.word
 same c =
     let x = c.args in
-    c.requires.1 ∙ whole_word x.t.now x.i x.c (sym (ap (λ z. z.cut) c.row-a.ensures) ∙ c.if-a.false) ∙ sym (ap (λ z. z.word) c.row-a.ensures)
+    c.requires.1 ∙ whole_word x.t.now x.l.first x.l.upto (sym (ap (λ z. z.cut) c.row-a.ensures) ∙ c.if-a.false) ∙ sym (ap (λ z. z.word) c.row-a.ensures)
 
 pub put_word-requires-else-a : goal.put_word-requires-else-a
 put_word-requires-else-a c =
     let x = c.args in
-    subst (λ (w : Word). WordReady x.t.now x.i x.c w x.at x.width.now x.rwidth.now x.lwidth.now x.base.now x.ruby.now x.left.now) (same (goal.at.put_word-requires-else-a c).Else-a) c.requires.2
+    subst (λ (w : Word). WordReady x.t.now x.l.first x.l.upto w x.at x.widths.now.base.now x.widths.now.ruby.now x.widths.now.left.now x.base.now x.ruby.now x.left.now) (same (goal.at.put_word-requires-else-a c).Else-a) c.requires.2
 
 pub returns-else-a : goal.returns-else-a
 returns-else-a c =
     let x = c.args in
     let n = c.put_word-else-a.new in
-    subst (λ (w : Word). WordPut x.t.now x.i x.c w x.at x.width.now x.rwidth.now x.lwidth.now x.base.now x.ruby.now x.left.now n.base n.ruby n.left) (sym (same (goal.at.returns-else-a c).Else-a)) c.put_word-else-a.ensures
+    subst (λ (w : Word). WordPut x.t.now x.l.first x.l.upto w x.at x.widths.now.base.now x.widths.now.ruby.now x.widths.now.left.now x.base.now x.ruby.now x.left.now n.base n.ruby n.left) (sym (same (goal.at.returns-else-a c).Else-a)) c.put_word-else-a.ensures
