@@ -73,7 +73,9 @@ fn write_clear(
     account_text::write_account(n, elements, readings, rows, told, extents, out)
 }
 
-/// The account of a sheet. The answer is how many bytes of `out` its text has.
+/// The account of a sheet. The answer is how many bytes of `out` its text has. Never put into a program's `main`, whose arrays
+/// would then be cleared twice.
+#[inline(never)]
 pub fn account_sheet(
     s: &[u8],
     set: &mut [u32; limits::SET],

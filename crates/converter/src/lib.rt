@@ -49,7 +49,9 @@ fn judge(
     Ok(())
 }
 
-/// Converts a sheet. The answer is how many bytes of `out` are written: the other sheet, or `refused N P`.
+/// Converts a sheet. The answer is how many bytes of `out` are written: the other sheet, or `refused N P`. Never put into a program's `main`, whose arrays
+/// would then be cleared twice.
+#[inline(never)]
 pub fn convert(
     s: &[u8],
     set: &mut [u32; limits::SET],

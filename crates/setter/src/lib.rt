@@ -6,7 +6,9 @@
 ghost use Rattle.sheet.specs.Sheet.{tables};
 ghost use Rattle.setter.specs.Answer.{lists, Answered, Fits};
 
-/// Sets a sheet of either form. The answer is how many bytes of `out` its text has: `refused N P`, or the result.
+/// Sets a sheet of either form. The answer is how many bytes of `out` its text has: `refused N P`, or the result. Never put into a program's `main`, whose arrays
+/// would then be cleared twice.
+#[inline(never)]
 pub fn set_sheet(
     s: &[u8],
     set: &mut [u32; limits::SET],

@@ -38,13 +38,14 @@ pub fn put_byte(out: &mut [u8], at: usize, b: u8) -> usize
     at + 1
 }
 
-/// The bytes of a word.
-#[tactic(auto, using(crate::proofs::Steps::wrote_part))]
+/// The bytes of a word. One by one: the library's copy of a slice would ask `memmove` of whoever links the archive for C, which nothing else of ours does.
 pub fn put_word(out: &mut [u8], from: usize, w: &[u8]) -> usize
     requires { from + length w.now ≤ length out.old }
     ensures { Wrote out.old from w.now result out.new }
 {
     let end = from + w.len();
-    out[from..end].copy_from_slice(w);
+    for i in 0..w.len() {
+        out[from + i] = w[i];
+    }
     end
 }
