@@ -1,6 +1,6 @@
 -- All lines, one after the other, and their ends.
-use Rattle.std.specs.Prelude.{◌≡◌, refl, true, List, [], ◌∷◌, ◌++◌, ℕ, suc, ◌+◌, ◌-◌, ◌≤◌, ◌<◌, length, get_or, take, drop}
-use Rattle.std.proofs.Common.{sym, ap, ◌∙◌, subst, inl, inr, zero-le, add-one, arith, length-append, drop_of_length-le, drop-cons, get_or-take, length-take-le}
+use Rattle.std.specs.Prelude.{◌≡◌, refl, true, List, [], ◌∷◌, ◌++◌, ℕ, suc, ◌+◌, ◌-◌, ◌≤◌, ◌<◌, length, get_or, set, take, drop}
+use Rattle.std.proofs.Common.{sym, ap, ◌∙◌, subst, inl, inr, zero-le, add-one, arith, length-set, length-append, drop_of_length-le, drop-cons, get_or-take, length-take-le}
 use Rattle.std.proofs.Math.Decide.{dec_lt}
 use Rattle.std.proofs.lemmas.List.Edits.{sets}
 use Rattle.std.proofs.Math.Seq.{length-sets, take-length}
@@ -209,3 +209,30 @@ pub going_all : {g : Sheet} {found was wasRuby wasLeft : List ℕ} {s l : ℕ} {
 going_all {g} {found} {was} {wasRuby} {wasLeft} {base = base} {ruby = ruby} {left = left} q h =
     subst (λ es. (base ≡ over (by_line (base_of g) 0 es) was) × (ruby ≡ over (by_line (side_of Right g) 0 es) wasRuby) × (left ≡ over (by_line (side_of Left g) 0 es) wasLeft)) (take-length found)
     (going_end q h)
+
+-- The ends: what is copied and what is left to copy make up the whole.
+pub record Ending (n : ℕ) (ends was : List ℕ) (l : ℕ) (lines : List ℕ) : Type 0 where
+  pub upto : l ≤ n
+  pub rows : sets lines l (drop l (take n ends)) ≡ sets was 0 (take n ends)
+  pub long : length lines ≡ length was
+
+module _ {n : ℕ} {ends was : List ℕ} (held : n ≤ length ends) where
+  pub ending_first : Ending n ends was 0 was
+  ending_first = record { upto = zero-le; rows = refl; long = refl }
+
+  module _ {l : ℕ} {lines : List ℕ} (q : Ending n ends was l lines) where
+    pub ending_next : l < n → Ending n ends was (l + 1) (set lines l (get_or ends l 0))
+    ending_next h =
+        rw (add-one l) (record {
+          upto = omega arith;
+          rows =
+              ap (sets lines l) (sym (drop-cons (take n ends) l 0 (omega (arith, length-take-le n ends held)) ∙ ap (λ (x : ℕ). x ∷ drop (suc l) (take n ends)) (get_or-take n ends l 0 h)))
+              ∙ q.rows;
+          long = length-set lines l (get_or ends l 0) ∙ q.long;
+        })
+
+    pub ending_end : n ≤ l → n ≤ length was → lines ≡ over (take n ends) was
+    ending_end h room =
+        let past : length (take n ends) ≤ l = omega (arith, length-take-le n ends held) in
+        ap (sets lines l) (sym (drop_of_length-le (take n ends) past))
+        ∙ q.rows ∙ sets_over was (take n ends) (omega (arith, length-take-le n ends held))

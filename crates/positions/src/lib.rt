@@ -227,5 +227,8 @@ pub fn put_ends(n: usize, ends: &[u32], lines: &mut [u32])
     requires { (n ≤ 1024) × (n ≤ length ends.now) × (n ≤ length lines.old) }
     ensures { lines.new ≡ over (take n ends.now) lines.old }
 {
-    lines[0..n].copy_from_slice(&ends[0..n]);
+    // One by one, as `text::print::put_word` and for its reason.
+    for l in 0..n {
+        lines[l] = ends[l];
+    }
 }
