@@ -35,7 +35,6 @@ fn answer_of(a: job::Answer) -> Answer
 }
 
 /// Sets a job in lists. `rratio` and `bratio` are the ratios of spread ruby and of spread base, three numbers each, a, m, c.
-#[tactic(auto, using(crate::specs::Told::leaves))]
 #[unsafe(no_mangle)]
 pub extern "C" fn bv_set_job(
     em: u32,

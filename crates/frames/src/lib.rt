@@ -13,7 +13,9 @@ ghost use Rattle.frames.specs.Answers.{Ran};
 use std::io;
 use std::io::{Read, Write};
 
-/// Reads until `room` is full or the input ends; how many bytes stand at its front. After an error the room has any bytes.
+/// Reads until `room` is full or the input ends; how many bytes stand at its front. After an error the room has any bytes. Never put into a program's `main`, whose arrays would then be
+/// cleared twice.
+#[inline(never)]
 #[tactic(auto, using(crate::proofs::Steps::fill_steps))]
 pub fn fill<R: Read>(from: &mut R, room: &mut [u8]) -> io::Result<usize>
     ensures count { ReadsAtMost result room.new }
